@@ -1,0 +1,185 @@
+use Rattle.lattice.proofs.bounds.sweep.Statement.{statement}
+use Rattle.lattice.proofs.bounds.sweep.Tie as tie
+use Rattle.lattice.proofs.bounds.sweep.Reads as reads
+use Rattle.lattice.proofs.bounds.sweep.Lts as lts
+use Rattle.lattice.proofs.bounds.is_least_upper.Reads as is-least-upper-reads
+
+abbrev Inv-levels : tie.InvT-levels
+Inv-levels b dual t n place i j k₀ k = ?
+
+abbrev μ-levels : tie.MeasureT-levels
+μ-levels b dual t n place i j k₀ k = ?
+
+abbrev Inv-others : tie.InvT-others
+Inv-others b dual t₀ n place₀ i j₀ t place j = ?
+
+abbrev μ-others : tie.MeasureT-others
+μ-others b dual t₀ n place₀ i j₀ t place j = ?
+
+abbrev Inv-pairs : tie.InvT-pairs
+Inv-pairs b dual t₀ n place₀ i₀ t place i = ?
+
+abbrev μ-pairs : tie.MeasureT-pairs
+μ-pairs b dual t₀ n place₀ i₀ t place i = ?
+
+-- src/bounds.rt:71:5
+pairs-holds : tie.Need-pairs-holds Inv-levels μ-levels Inv-others μ-others Inv-pairs μ-pairs
+pairs-holds c = ?
+
+-- src/bounds.rt:72:19
+cast-t : tie.Need-cast-t Inv-levels μ-levels Inv-others μ-others Inv-pairs μ-pairs
+cast-t c = ?
+
+-- src/bounds.rt:72:9
+mul-t : tie.Need-mul-t Inv-levels μ-levels Inv-others μ-others Inv-pairs μ-pairs
+mul-t c = ?
+
+-- src/bounds.rt:72:9
+index-1-t : tie.Need-index-1-t Inv-levels μ-levels Inv-others μ-others Inv-pairs μ-pairs
+index-1-t c = ?
+
+-- src/bounds.rt:72:9
+index-2-t : tie.Need-index-2-t Inv-levels μ-levels Inv-others μ-others Inv-pairs μ-pairs
+index-2-t c = ?
+
+-- src/bounds.rt:73:21
+add-j : tie.Need-add-j Inv-levels μ-levels Inv-others μ-others Inv-pairs μ-pairs
+add-j c = ?
+
+-- src/bounds.rt:74:9
+others-holds : tie.Need-others-holds Inv-levels μ-levels Inv-others μ-others Inv-pairs μ-pairs
+others-holds c = ?
+
+-- src/bounds.rt:76:13
+levels-holds : tie.Need-levels-holds Inv-levels μ-levels Inv-others μ-others Inv-pairs μ-pairs
+levels-holds c = ?
+
+-- src/bounds.rt:77:20
+is-least-upper-requires :
+    tie.Need-is-least-upper-requires Inv-levels μ-levels Inv-others μ-others Inv-pairs μ-pairs
+is-least-upper-requires c κs = ?
+
+-- src/bounds.rt:80:17
+add-k : tie.Need-add-k Inv-levels μ-levels Inv-others μ-others Inv-pairs μ-pairs
+add-k c = ?
+
+-- src/bounds.rt:76:13
+levels-less : tie.Need-levels-less Inv-levels μ-levels Inv-others μ-others Inv-pairs μ-pairs
+levels-less c = ?
+
+-- src/bounds.rt:76:13
+levels-again : tie.Need-levels-again Inv-levels μ-levels Inv-others μ-others Inv-pairs μ-pairs
+levels-again c = ?
+
+-- src/bounds.rt:83:25
+mul-place : tie.Need-mul-place Inv-levels μ-levels Inv-others μ-others Inv-pairs μ-pairs
+mul-place c = ?
+
+-- src/bounds.rt:83:25
+add-place : tie.Need-add-place Inv-levels μ-levels Inv-others μ-others Inv-pairs μ-pairs
+add-place c = ?
+
+-- src/bounds.rt:86:23
+cast-t-2 : tie.Need-cast-t-2 Inv-levels μ-levels Inv-others μ-others Inv-pairs μ-pairs
+cast-t-2 c = ?
+
+-- src/bounds.rt:86:13
+mul-t-2 : tie.Need-mul-t-2 Inv-levels μ-levels Inv-others μ-others Inv-pairs μ-pairs
+mul-t-2 c = ?
+
+-- src/bounds.rt:86:13
+index-1-t-2 : tie.Need-index-1-t-2 Inv-levels μ-levels Inv-others μ-others Inv-pairs μ-pairs
+index-1-t-2 c = ?
+
+-- src/bounds.rt:86:13
+index-2-t-2 : tie.Need-index-2-t-2 Inv-levels μ-levels Inv-others μ-others Inv-pairs μ-pairs
+index-2-t-2 c = ?
+
+-- src/bounds.rt:87:23
+cast-t-3 : tie.Need-cast-t-3 Inv-levels μ-levels Inv-others μ-others Inv-pairs μ-pairs
+cast-t-3 c = ?
+
+-- src/bounds.rt:87:13
+mul-t-3 : tie.Need-mul-t-3 Inv-levels μ-levels Inv-others μ-others Inv-pairs μ-pairs
+mul-t-3 c = ?
+
+-- src/bounds.rt:87:13
+index-1-t-3 : tie.Need-index-1-t-3 Inv-levels μ-levels Inv-others μ-others Inv-pairs μ-pairs
+index-1-t-3 c = ?
+
+-- src/bounds.rt:87:13
+index-2-t-3 : tie.Need-index-2-t-3 Inv-levels μ-levels Inv-others μ-others Inv-pairs μ-pairs
+index-2-t-3 c = ?
+
+-- src/bounds.rt:88:13
+add-j-2 : tie.Need-add-j-2 Inv-levels μ-levels Inv-others μ-others Inv-pairs μ-pairs
+add-j-2 c = ?
+
+-- src/bounds.rt:74:9
+others-less : tie.Need-others-less Inv-levels μ-levels Inv-others μ-others Inv-pairs μ-pairs
+others-less c = ?
+
+-- src/bounds.rt:74:9
+others-again : tie.Need-others-again Inv-levels μ-levels Inv-others μ-others Inv-pairs μ-pairs
+others-again c = ?
+
+-- src/bounds.rt:90:9
+add-i : tie.Need-add-i Inv-levels μ-levels Inv-others μ-others Inv-pairs μ-pairs
+add-i c = ?
+
+-- src/bounds.rt:71:5
+pairs-less : tie.Need-pairs-less Inv-levels μ-levels Inv-others μ-others Inv-pairs μ-pairs
+pairs-less c = ?
+
+-- src/bounds.rt:71:5
+pairs-again : tie.Need-pairs-again Inv-levels μ-levels Inv-others μ-others Inv-pairs μ-pairs
+pairs-again c = ?
+
+-- src/bounds.rt:64:1
+returns : tie.Need-returns Inv-levels μ-levels Inv-others μ-others Inv-pairs μ-pairs
+returns c = ?
+
+-- src/bounds.rt:64:1
+returns-2 : tie.Need-returns-2 Inv-levels μ-levels Inv-others μ-others Inv-pairs μ-pairs
+returns-2 c = ?
+
+pub sweep-spec : {M : Type 1} → statement M
+sweep-spec =
+    tie.close
+    (tie.spec
+    Inv-levels
+    μ-levels
+    Inv-others
+    μ-others
+    Inv-pairs
+    μ-pairs
+    pairs-holds
+    cast-t
+    mul-t
+    index-1-t
+    index-2-t
+    add-j
+    others-holds
+    levels-holds
+    is-least-upper-requires
+    add-k
+    levels-less
+    levels-again
+    mul-place
+    add-place
+    cast-t-2
+    mul-t-2
+    index-1-t-2
+    index-2-t-2
+    cast-t-3
+    mul-t-3
+    index-1-t-3
+    index-2-t-3
+    add-j-2
+    others-less
+    others-again
+    add-i
+    pairs-less
+    pairs-again
+    returns
+    returns-2)

@@ -1,0 +1,60 @@
+// A level book by value, and its bytes.
+ghost use mathlib.Core.Path.{_≡_};
+ghost use Prim.Native.Nat.{_+_, _*_, _<_, _≤_};
+ghost use lib.ListN.{length};
+ghost use Rattle.lattice.specs.LevelBook.{count, row, rows, sizeIsRight, atOrBelow};
+
+// The number of levels, and for each level the set of the levels that it is at or below: bit j for level j.
+pub struct Book {
+    pub count: usize,
+    pub rows: [u16; 16],
+}
+
+// Level i is at or below level j.
+pub fn at_or_below(b: Book, i: usize, j: usize) -> bool
+    requires { ⌜ (i < 16) × (j < 16) ⌝ }
+    ensures { λ r. ⌜ r ≡ atOrBelow (b .rows) i j ⌝ }
+{
+    (b.rows[i] >> j) % 2 == 1
+}
+
+// The length and the number of levels are those of a book.
+pub fn size_is_right(s: &[u8]) -> bool
+    ensures { λ r. ⌜ r ≡ sizeIsRight (now (s .entry)) ⌝ }
+{
+    if s.len() == 0 {
+        return false;
+    }
+    let n = prelude::wide(s[0]);
+    if n < 1 {
+        return false;
+    }
+    if 16 < n {
+        return false;
+    }
+    s.len() == 1 + 2 * n
+}
+
+// Row i, or 0 where the book has fewer rows.
+fn row_at(s: &[u8], i: usize) -> u16
+    requires { ⌜ (i < 16) × (length (now s) ≡ 1 + 2 * count (now s)) ⌝ }
+    ensures { λ r. ⌜ r ≡ row (now (s .entry)) i ⌝ }
+{
+    if s.len() <= 2 + 2 * i {
+        return 0;
+    }
+    prelude::word_of(s[1 + 2 * i], s[2 + 2 * i])
+}
+
+pub fn read_rows(s: &[u8]) -> [u16; 16]
+    requires { ⌜ length (now s) ≡ 1 + 2 * count (now s) ⌝ }
+    ensures { λ r. ⌜ r ≡ rows (now (s .entry)) ⌝ }
+{
+    let mut filled = [0u16; 16];
+    let mut i: usize = 0;
+    while i < 16 {
+        filled[i] = row_at(s, i);
+        i += 1;
+    }
+    filled
+}

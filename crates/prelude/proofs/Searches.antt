@@ -1,0 +1,154 @@
+-- What a search finds, and how a loop shows it: the numbers passed fail the test, the one at hand holds or fails.
+-- Assumes nothing.
+use mathlib.Core.Path.{_≡_, refl, sym, ap, _∙_, subst}
+use mathlib.Core.Logic.{_⊎_, inl, inr, ⊎-elim}
+use mathlib.Core.Bool.{Bool, true, false, cond, not, _||_, true≢false, false≢true}
+use Prim.Native.Nat.{ℕ, zero, suc, _+_, _≤_, _<_}
+use native.Mathlib.Nat.{add-zero, add-suc, not-suc-le-zero}
+use native.Mathlib.Omega.{arith}
+use native.Mathlib.Decide.{decLt}
+use lib.Dec.{ltb}
+use borrow.Author.Tests.{lt-ltb, le-ltb, ltb-true, ltb-false, not-true, not-false}
+use Rattle.prelude.specs.Search.{firstFrom, first, any, all}
+
+-- a test either holds or fails
+pub decide : (b : Bool) → (b ≡ true) ⊎ (b ≡ false)
+decide true = inl refl
+decide false = inr refl
+
+-- every number below n fails the test
+abbrev pub NoneBelow : (ℕ → Bool) → ℕ → Type 0
+NoneBelow f n = (k : ℕ) → k < n → f k ≡ false
+
+pub past : {f : ℕ → Bool} {n i : ℕ} → n ≤ i → NoneBelow f i → NoneBelow f n
+past h none k l = none k (omega arith)
+
+-- r is the first number from i to i + m - 1 at which the test holds, or i + m
+record Found (f : ℕ → Bool) (i m r : ℕ) : Type 0 where
+  after : i ≤ r
+  within : r ≤ i + m
+  holds : r < i + m → f r ≡ true
+  fails : (k : ℕ) → i ≤ k → k < r → f k ≡ false
+
+found : (f : ℕ → Bool) (i m : ℕ) → Found f i m (firstFrom f i m)
+unfolding firstFrom
+found f i zero =
+    record {
+      after = omega arith;
+      within = omega arith;
+      holds = λ h. absurd (omega arith);
+      fails = λ k a b. absurd (omega arith);
+    }
+found f i (suc m) = go (f i) refl (firstFrom f (suc i) m) (found f (suc i) m)
+  where
+    go : (b : Bool) → f i ≡ b → (r : ℕ) → Found f (suc i) m r → Found f i (suc m) (cond b i r)
+    go true e r w =
+        record { after = omega arith; within = omega arith; holds = λ h. e; fails = λ k a b. absurd (omega arith) }
+    go false e r w =
+        record {
+          after = omega (arith, w .after);
+          within = omega (arith, w .within);
+          holds = λ h. w .holds (omega arith);
+          fails =
+              λ k a b.
+              elim (decLt i k) [
+                yes l ↦ w .fails k l b
+              | no l ↦ subst (λ z. f z ≡ false) (omega arith) e
+              ];
+        }
+
+module _ (f : ℕ → Bool) (n : ℕ) where
+  pub first-within : first f n ≤ n
+  unfolding first
+  first-within = omega (arith, found f 0 n .within)
+
+  pub first-holds : first f n < n → f (first f n) ≡ true
+  unfolding first
+  first-holds h = found f 0 n .holds (omega (arith, h))
+
+  pub first-passed : NoneBelow f (first f n)
+  unfolding first
+  first-passed k h = found f 0 n .fails k (omega arith) h
+
+  -- a number that fails the test is not the one at which it holds
+  apart : (a b : ℕ) → f a ≡ true → f b ≡ false → a ≡ b → ⊥
+  apart a b p q e = true≢false (sym p ∙ ap f e ∙ q)
+
+  -- a loop that found the test true at i, and false before
+  pub first-is : (i : ℕ) → i < n → f i ≡ true → NoneBelow f i → first f n ≡ i
+  first-is i h e none =
+      elim (decLt (first f n) i) [
+        yes l ↦ absurd (true≢false (sym (first-holds (omega arith)) ∙ none (first f n) l))
+      | no l ↦
+        elim (decLt i (first f n)) [
+          yes u ↦ absurd (true≢false (sym e ∙ first-passed i u))
+        | no u ↦ omega arith
+        ]
+      ]
+
+  -- a loop that found the test false throughout
+  pub first-none : NoneBelow f n → first f n ≡ n
+  first-none none =
+      elim (decLt (first f n) n) [
+        yes l ↦ absurd (true≢false (sym (first-holds l) ∙ none (first f n) l))
+      | no l ↦ omega (arith, first-within)
+      ]
+
+  pub first-at-end : first f n ≡ n → NoneBelow f n
+  first-at-end e k h = first-passed k (omega arith)
+
+  pub any-some : (i : ℕ) → i < n → f i ≡ true → any f n ≡ true
+  unfolding any
+  any-some i h e =
+      elim (decLt (first f n) n) [
+        yes l ↦ lt-ltb (first f n) n l
+      | no l ↦ absurd (true≢false (sym e ∙ first-passed i (omega arith)))
+      ]
+
+  pub any-none : NoneBelow f n → any f n ≡ false
+  unfolding any
+  any-none none = le-ltb (first f n) n (omega (arith, first-none none))
+
+  pub none-of-any : any f n ≡ false → NoneBelow f n
+  unfolding any
+  none-of-any e = first-at-end (omega (arith, first-within, ltb-false (first f n) n e))
+
+-- the test holds at every number below n
+abbrev pub AllBelow : (ℕ → Bool) → ℕ → Type 0
+AllBelow f n = (k : ℕ) → k < n → f k ≡ true
+
+module _ (f : ℕ → Bool) (n : ℕ) where
+  pub all-intro : AllBelow f n → all f n ≡ true
+  unfolding all
+  all-intro h = ap not (any-none (λ k. not (f k)) n (λ k l. ap not (h k l)))
+
+  pub all-fails : (i : ℕ) → i < n → f i ≡ false → all f n ≡ false
+  unfolding all
+  all-fails i l e = ap not (any-some (λ k. not (f k)) n i l (ap not e))
+
+  pub all-elim : all f n ≡ true → AllBelow f n
+  unfolding all
+  all-elim e k l = not-false (f k) (none-of-any (λ j. not (f j)) n (not-true _ e) k l)
+
+-- two tests that agree below n find the same
+pub first-same : (f g : ℕ → Bool) (n : ℕ) → ((k : ℕ) → k < n → f k ≡ g k) → first f n ≡ first g n
+first-same f g n same =
+    elim (decLt (first g n) n) [
+      yes l ↦
+        first-is f n (first g n) l (same _ l ∙ first-holds g n l) (λ k h. same k (omega arith) ∙ first-passed g n k h)
+    | no l ↦
+        let e : first g n ≡ n = omega (arith, first-within g n) in
+        first-none f n (λ k h. same k h ∙ first-at-end g n e k h) ∙ sym e
+    ]
+
+-- the first number at which one of two tests holds is the lesser of the first numbers of each
+pub first-or-left :
+    (f g : ℕ → Bool) (n : ℕ) → first f n ≤ first g n → first (λ k. f k || g k) n ≡ first f n
+first-or-left f g n h =
+    elim (decLt (first f n) n) [
+      yes l ↦
+        first-is (λ k. f k || g k) n (first f n) l (rw (first-holds f n l)) (λ k u. rw (first-passed f n k u) (first-passed g n k (omega arith)))
+    | no l ↦
+        let e : first f n ≡ n = omega (arith, first-within f n) in
+        first-none (λ k. f k || g k) n (λ k u. rw (first-at-end f n e k u) (first-passed g n k (omega arith))) ∙ sym e
+    ]

@@ -1,0 +1,5 @@
+-- Definitions that the specifications of every layer use.
+pub mod Search
+pub mod Table
+pub mod Course
+pub mod Numbers

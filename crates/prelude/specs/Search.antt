@@ -1,0 +1,22 @@
+-- Searches over the numbers below n, by a test that computes.
+-- 01 says 'smallest', 'first', 'some' and 'every' of levels, names, expressions and nodes: always by these.
+use mathlib.Core.Bool.{Bool, true, false, cond, not}
+use Prim.Native.Nat.{ℕ, zero, suc}
+use lib.Dec.{ltb}
+
+-- the first of i, i + 1, .., i + m - 1 at which the test holds, or i + m
+unfoldable pub firstFrom : (ℕ → Bool) → ℕ → ℕ → ℕ
+firstFrom f i zero = i
+firstFrom f i (suc m) = cond (f i) i (firstFrom f (suc i) m)
+
+-- the smallest number below n at which the test holds, or n
+unfoldable pub first : (ℕ → Bool) → ℕ → ℕ
+first f n = firstFrom f 0 n
+
+-- the test holds at some number below n
+unfoldable pub any : (ℕ → Bool) → ℕ → Bool
+any f n = ltb (first f n) n
+
+-- the test holds at every number below n
+unfoldable pub all : (ℕ → Bool) → ℕ → Bool
+all f n = not (any (λ k. not (f k)) n)
