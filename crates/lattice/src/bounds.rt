@@ -7,7 +7,7 @@ ghost use Prim.Native.Nat.{_<_, _≤_};
 ghost use Rattle.prelude.specs.Search.{any, all};
 ghost use Rattle.lattice.specs.Order.{missed, isLeastUpper, top, bottom};
 ghost use Rattle.lattice.specs.LevelBook.{atOrBelow, facing};
-ghost use Rattle.lattice.specs.Bounds.{kept, Swept};
+ghost use Rattle.lattice.specs.Bounds.{kept, Square, Swept};
 
 fn below(b: Book, dual: bool, i: usize, j: usize) -> bool
     requires { ⌜ (i < 16) × (j < 16) ⌝ }
@@ -62,7 +62,7 @@ fn is_least_upper(b: Book, dual: bool, i: usize, j: usize, k: usize) -> bool
 // Finds the least common upper level of each pair and keeps it at both entries of the pair, and each level at its own.
 // The place of the first pair that lacks one, or 256; the table is then filled up to that pair.
 pub fn sweep(b: Book, dual: bool, t: &mut [[u8; 16]; 16]) -> usize
-    requires { ⌜ b .count ≤ 16 ⌝ }
+    requires { ⌜ (b .count ≤ 16) × Square 16 (now t) ⌝ }
     ensures { λ r. ⌜ Swept (facing (b .rows) dual) (b .count) (now (t .exit)) r ⌝ }
 {
     let n = b.count;

@@ -28,7 +28,7 @@ add-if1 c = search needs
 
 -- src/book.rt:44:9
 returns : tie.Need-returns
-returns c = sym (no-row _ _ (c .before .pre .1) (c .if1 .taken))
+returns c = sym (no-row (c .before .before .args .s .now) _ (c .before .before .pre .1) (c .if1 .taken))
 
 -- src/book.rt:46:28
 mul-word-of : tie.Need-mul-word-of
