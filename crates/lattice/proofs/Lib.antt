@@ -1,3 +1,8 @@
 -- Laws that the proofs of several functions use, and the theorems of the crate.
+pub mod Sizes
 pub mod Stores
 pub mod Sweeps
+pub mod Orders
+pub mod Passing
+pub mod Loads
+pub mod Theorems

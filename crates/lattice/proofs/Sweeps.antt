@@ -17,10 +17,10 @@ use Rattle.lattice.specs.Bounds.{kept, Square, Swept}
 use Rattle.lattice.proofs.Stores.{put, put-same, put-other, put-square}
 
 -- place and pair
-quotient : (i j : ℕ) → j < mostLevels → (mostLevels * i + j) / mostLevels ≡ i
+pub quotient : (i j : ℕ) → j < mostLevels → (mostLevels * i + j) / mostLevels ≡ i
 quotient i j h = omega arith
 
-remainder : (i j : ℕ) → j < mostLevels → (mostLevels * i + j) % mostLevels ≡ j
+pub remainder : (i j : ℕ) → j < mostLevels → (mostLevels * i + j) % mostLevels ≡ j
 remainder i j h = omega arith
 
 -- the pair of a and b has a least common upper level, kept at both of its entries

@@ -3,4 +3,5 @@ pub mod Order
 pub mod LevelBook
 pub mod Refusals
 pub mod Bounds
+pub mod Load
 pub mod Lattice

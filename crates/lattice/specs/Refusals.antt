@@ -46,3 +46,7 @@ refusal s =
     (cond (ltb (firstLacking (atOrBelow (rows s)) (count s)) (mostLevels * mostLevels))
     (refusedBy 3 (firstLacking (atOrBelow (rows s)) (count s)))
     notRefused))
+
+-- "0 means not refused"
+abbrev pub isAccepted : List ℕ → Bool
+isAccepted s = eqb (refusal s .number) 0

@@ -1,8 +1,10 @@
 // A level book by value, and its bytes.
 ghost use mathlib.Core.Path.{_≡_};
 ghost use Prim.Native.Nat.{_+_, _*_, _<_, _≤_};
+ghost use mathlib.Core.Bool.{true};
 ghost use lib.ListN.{length};
 ghost use Rattle.lattice.specs.LevelBook.{count, row, rows, sizeIsRight, atOrBelow};
+ghost use Rattle.lattice.specs.Load.{bookOf};
 
 // The number of levels, and for each level the set of the levels that it is at or below: bit j for level j.
 pub struct Book {
@@ -46,7 +48,7 @@ fn row_at(s: &[u8], i: usize) -> u16
     prelude::word_of(s[1 + 2 * i], s[2 + 2 * i])
 }
 
-pub fn read_rows(s: &[u8]) -> [u16; 16]
+fn read_rows(s: &[u8]) -> [u16; 16]
     requires { ⌜ length (now s) ≡ 1 + 2 * count (now s) ⌝ }
     ensures { λ r. ⌜ r ≡ rows (now (s .entry)) ⌝ }
 {
@@ -57,4 +59,14 @@ pub fn read_rows(s: &[u8]) -> [u16; 16]
         i += 1;
     }
     filled
+}
+
+pub fn read_book(s: &[u8]) -> Book
+    requires { ⌜ sizeIsRight (now s) ≡ true ⌝ }
+    ensures { λ r. ⌜ r ≡ bookOf (now (s .entry)) ⌝ }
+{
+    Book {
+        count: prelude::wide(s[0]),
+        rows: read_rows(s),
+    }
 }

@@ -3,6 +3,8 @@
 use crate::book::Book;
 use crate::book::at_or_below;
 ghost use mathlib.Core.Path.{_≡_};
+ghost use mathlib.Core.Bool.{cond};
+ghost use lib.Dec.{leb};
 ghost use Prim.Native.Nat.{_<_, _≤_};
 ghost use Rattle.prelude.specs.Search.{any, all};
 ghost use Rattle.lattice.specs.Order.{missed, isLeastUpper, top, bottom};
@@ -90,6 +92,16 @@ pub fn sweep(b: Book, dual: bool, t: &mut [[u8; 16]; 16]) -> usize
         i += 1;
     }
     place
+}
+
+// The lesser of two places is the first: by i, then by j.
+pub fn lesser(a: usize, b: usize) -> usize
+    ensures { λ r. ⌜ r ≡ cond (leb a b) a b ⌝ }
+{
+    if a <= b {
+        return a;
+    }
+    b
 }
 
 // What a table keeps for a pair: their join or their meet, by the table.

@@ -2,3 +2,69 @@
 pub mod book; // book.rt: the book by value, and how it is read from bytes
 pub mod order; // order.rt: the faults of refusal 2
 pub mod bounds; // bounds.rt: common upper and lower levels, refusal 3, top and bottom
+
+use prelude::Refusal;
+use crate::book::Book;
+ghost use mathlib.Core.Path.{_≡_};
+ghost use Prim.Native.Nat.{_≤_};
+ghost use Rattle.lattice.specs.Refusals.{refusedBy, notRefused};
+ghost use Rattle.lattice.specs.Bounds.{Square};
+ghost use Rattle.lattice.specs.Load.{answer, noBook, Loads};
+
+// What the bytes of a book give: the refusal, and beside it the checked book, which is empty where it is refused.
+pub struct Loaded {
+    pub refusal: Refusal,
+    pub book: Book,
+}
+
+fn refused(number: u32, place: usize) -> Loaded
+    requires { ⌜ place ≤ 256 ⌝ }
+    ensures { λ r. ⌜ r ≡ answer (refusedBy number place) noBook ⌝ }
+{
+    Loaded {
+        refusal: Refusal {
+            number,
+            place: place as u32,
+        },
+        book: Book {
+            count: 0,
+            rows: [0u16; 16],
+        },
+    }
+}
+
+fn accepted(b: Book) -> Loaded
+    ensures { λ r. ⌜ r ≡ answer notRefused b ⌝ }
+{
+    Loaded {
+        refusal: Refusal {
+            number: 0,
+            place: 0,
+        },
+        book: b,
+    }
+}
+
+// Checks a level book of any bytes. Where it is not refused, `join` and `meet` then keep the least common upper
+// and the greatest common lower level of every pair.
+pub fn load(s: &[u8], join: &mut [[u8; 16]; 16], meet: &mut [[u8; 16]; 16]) -> Loaded
+    requires { ⌜ Square 16 (now join) × Square 16 (now meet) ⌝ }
+    ensures { λ r. ⌜ Loads (now (s .entry)) r (now (join .exit)) (now (meet .exit)) ⌝ }
+{
+    if !book::size_is_right(s) {
+        return refused(1, 0);
+    }
+    let b = book::read_book(s);
+    let n = b.count;
+    let faulty = order::first_faulty(b);
+    if faulty < n {
+        return refused(2, faulty);
+    }
+    let upper = bounds::sweep(b, false, join);
+    let lower = bounds::sweep(b, true, meet);
+    let place = bounds::lesser(upper, lower);
+    if place < 256 {
+        return refused(3, place);
+    }
+    accepted(b)
+}

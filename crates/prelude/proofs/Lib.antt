@@ -1,4 +1,5 @@
 -- Laws that the proofs of every layer use.
+pub mod Bools
 pub mod Searches
 pub mod Tables
 pub mod Courses

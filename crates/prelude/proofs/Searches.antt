@@ -1,20 +1,14 @@
 -- What a search finds, and how a loop shows it: the numbers passed fail the test, the one at hand holds or fails.
 -- Assumes nothing.
 use mathlib.Core.Path.{_≡_, refl, sym, ap, _∙_, subst}
-use mathlib.Core.Logic.{_⊎_, inl, inr, ⊎-elim}
-use mathlib.Core.Bool.{Bool, true, false, cond, not, _||_, true≢false, false≢true}
+use mathlib.Core.Bool.{Bool, true, false, cond, not, _||_, true≢false}
 use Prim.Native.Nat.{ℕ, zero, suc, _+_, _≤_, _<_}
-use native.Mathlib.Nat.{add-zero, add-suc, not-suc-le-zero}
 use native.Mathlib.Omega.{arith}
 use native.Mathlib.Decide.{decLt}
-use lib.Dec.{ltb}
-use borrow.Author.Tests.{lt-ltb, le-ltb, ltb-true, ltb-false, not-true, not-false}
+use lib.Dec.{ltb, leb}
+use borrow.Author.Tests.{lt-ltb, le-ltb, ltb-false, leb-true, leb-false, not-true, not-false}
+use Rattle.prelude.proofs.Bools.{or-swap, by-cases}
 use Rattle.prelude.specs.Search.{firstFrom, first, any, all}
-
--- a test either holds or fails
-pub decide : (b : Bool) → (b ≡ true) ⊎ (b ≡ false)
-decide true = inl refl
-decide false = inr refl
 
 -- every number below n fails the test
 abbrev pub NoneBelow : (ℕ → Bool) → ℕ → Type 0
@@ -70,10 +64,6 @@ module _ (f : ℕ → Bool) (n : ℕ) where
   unfolding first
   first-passed k h = found f 0 n .fails k (omega arith) h
 
-  -- a number that fails the test is not the one at which it holds
-  apart : (a b : ℕ) → f a ≡ true → f b ≡ false → a ≡ b → ⊥
-  apart a b p q e = true≢false (sym p ∙ ap f e ∙ q)
-
   -- a loop that found the test true at i, and false before
   pub first-is : (i : ℕ) → i < n → f i ≡ true → NoneBelow f i → first f n ≡ i
   first-is i h e none =
@@ -97,13 +87,16 @@ module _ (f : ℕ → Bool) (n : ℕ) where
   pub first-at-end : first f n ≡ n → NoneBelow f n
   first-at-end e k h = first-passed k (omega arith)
 
-  pub any-some : (i : ℕ) → i < n → f i ≡ true → any f n ≡ true
-  unfolding any
-  any-some i h e =
+  pub first-found : (i : ℕ) → i < n → f i ≡ true → first f n < n
+  first-found i h e =
       elim (decLt (first f n) n) [
-        yes l ↦ lt-ltb (first f n) n l
+        yes l ↦ l
       | no l ↦ absurd (true≢false (sym e ∙ first-passed i (omega arith)))
       ]
+
+  pub any-some : (i : ℕ) → i < n → f i ≡ true → any f n ≡ true
+  unfolding any
+  any-some i h e = lt-ltb (first f n) n (first-found i h e)
 
   pub any-none : NoneBelow f n → any f n ≡ false
   unfolding any
@@ -141,8 +134,12 @@ first-same f g n same =
         first-none f n (λ k h. same k h ∙ first-at-end g n e k h) ∙ sym e
     ]
 
+pub any-same : (f g : ℕ → Bool) (n : ℕ) → ((k : ℕ) → k < n → f k ≡ g k) → any f n ≡ any g n
+unfolding any
+any-same f g n same = ap (λ k. ltb k n) (first-same f g n same)
+
 -- the first number at which one of two tests holds is the lesser of the first numbers of each
-pub first-or-left :
+first-or-left :
     (f g : ℕ → Bool) (n : ℕ) → first f n ≤ first g n → first (λ k. f k || g k) n ≡ first f n
 first-or-left f g n h =
     elim (decLt (first f n) n) [
@@ -152,3 +149,17 @@ first-or-left f g n h =
         let e : first f n ≡ n = omega (arith, first-within f n) in
         first-none (λ k. f k || g k) n (λ k u. rw (first-at-end f n e k u) (first-passed g n k (omega arith))) ∙ sym e
     ]
+
+first-or-right :
+    (f g : ℕ → Bool) (n : ℕ) → first g n ≤ first f n → first (λ k. f k || g k) n ≡ first g n
+first-or-right f g n h =
+    first-same (λ k. f k || g k) (λ k. g k || f k) n (λ k l. or-swap (f k) (g k)) ∙ first-or-left g f n h
+
+pub first-or :
+    (f g : ℕ → Bool) (n : ℕ) → first (λ k. f k || g k) n ≡ cond (leb (first f n) (first g n)) (first f n) (first g n)
+first-or f g n =
+    by-cases
+    (λ k. first (λ k. f k || g k) n ≡ k)
+    (leb (first f n) (first g n))
+    (λ e. first-or-left f g n (leb-true _ _ e))
+    (λ e. first-or-right f g n (omega (arith, leb-false (first f n) (first g n) e)))
