@@ -6,3 +6,4 @@ pub mod Orders
 pub mod Passing
 pub mod Loads
 pub mod Theorems
+pub mod Examples

@@ -44,14 +44,14 @@ pub filled :
     (R : Relation) (n : ℕ) (t : List (List ℕ)) → PartialOrder R n → Swept R n t (mostLevels * mostLevels) → Keeps t n (leastUpper R n)
 filled R n t o w i j a b =
     elim (decLt i j) [
-      yes u ↦ w .pairs refl i j u b .0
-    | no u ↦
-      elim (decLt j i) [
-        yes v ↦ w .pairs refl j i v a .1 ∙ least-swap R n j i
-      | no v ↦
-        let e : i ≡ j = omega arith in
-        subst (λ k. kept t i k ≡ leastUpper R n i k) e (w .own refl i a ∙ sym (least-own R n o i a))
-      ]
+      | yes u ↦ w .pairs refl i j u b .0
+      | no u ↦
+          elim (decLt j i) [
+            | yes v ↦ w .pairs refl j i v a .1 ∙ least-swap R n j i
+            | no v ↦
+                let e : i ≡ j = omega arith in
+                subst (λ k. kept t i k ≡ leastUpper R n i k) e (w .own refl i a ∙ sym (least-own R n o i a))
+          ]
     ]
 
 module _ (s : List ℕ) (join meet : List (List ℕ)) where
@@ -120,45 +120,45 @@ module _ (s : List ℕ) (join meet : List (List ℕ)) where
           (by-order (omega (arith, faulty-is, ap (λ x. x .count) read)))
 
       module _
-        (ordered : b .count ≤ f)
-        (u l p : ℕ)
-        (up : Swept (atOrBelow (b .rows)) (b .count) join u)
-        (down : Swept (converse (atOrBelow (b .rows))) (b .count) meet l)
-        (lesser : p ≡ cond (leb u l) u l)
+          (ordered : b .count ≤ f)
+          (u l p : ℕ)
+          (up : Swept (atOrBelow (b .rows)) (b .count) join u)
+          (down : Swept (converse (atOrBelow (b .rows))) (b .count) meet l)
+          (lesser : p ≡ cond (leb u l) u l)
         where
-        ordered′ : count s ≤ firstFaulty (rows s) (count s)
-        ordered′ = omega (arith, faulty-is, ap (λ x. x .count) read)
+          ordered′ : count s ≤ firstFaulty (rows s) (count s)
+          ordered′ = omega (arith, faulty-is, ap (λ x. x .count) read)
 
-        up′ : Swept (atOrBelow (rows s)) (count s) join u
-        up′ = subst (λ x. Swept (atOrBelow (x .rows)) (x .count) join u) read up
+          up′ : Swept (atOrBelow (rows s)) (count s) join u
+          up′ = subst (λ x. Swept (atOrBelow (x .rows)) (x .count) join u) read up
 
-        down′ : Swept (converse (atOrBelow (rows s))) (count s) meet l
-        down′ = subst (λ x. Swept (converse (atOrBelow (x .rows))) (x .count) meet l) read down
+          down′ : Swept (converse (atOrBelow (rows s))) (count s) meet l
+          down′ = subst (λ x. Swept (converse (atOrBelow (x .rows))) (x .count) meet l) read down
 
-        place-is : p ≡ firstLacking (atOrBelow (rows s)) (count s)
-        unfolding firstLacking
-        place-is =
-            let f : ℕ → Bool = lacksUpper (atOrBelow (rows s)) (count s) in
-            let g : ℕ → Bool = lacksUpper (converse (atOrBelow (rows s))) (count s) in
-            lesser ∙ rw (up′ .first-place, down′ .first-place) (sym (first-or f g (mostLevels * mostLevels)))
+          place-is : p ≡ firstLacking (atOrBelow (rows s)) (count s)
+          unfolding firstLacking
+          place-is =
+              let f : ℕ → Bool = lacksUpper (atOrBelow (rows s)) (count s) in
+              let g : ℕ → Bool = lacksUpper (converse (atOrBelow (rows s))) (count s) in
+              lesser ∙ rw (up′ .first-place, down′ .first-place) (sym (first-or f g (mostLevels * mostLevels)))
 
-        pub pair-way : (r : Loaded) → r ≡ answer (refusedBy 3 p) noBook → p < mostLevels * mostLevels → Loads s r join meet
-        pair-way r e h =
-            subst
-            (λ x. Loads s x join meet)
-            (sym (e ∙ ap (λ k. answer (refusedBy 3 k) noBook) place-is))
-            (by-pair ordered′ (omega (arith, place-is)))
+          pub pair-way : (r : Loaded) → r ≡ answer (refusedBy 3 p) noBook → p < mostLevels * mostLevels → Loads s r join meet
+          pair-way r e h =
+              subst
+              (λ x. Loads s x join meet)
+              (sym (e ∙ ap (λ k. answer (refusedBy 3 k) noBook) place-is))
+              (by-pair ordered′ (omega (arith, place-is)))
 
-        pub no-way : (r : Loaded) → r ≡ answer notRefused b → mostLevels * mostLevels ≤ p → Loads s r join meet
-        no-way r e h =
-            let hu : u ≤ mostLevels * mostLevels = rw (up′ .first-place) (first-within _ _) in
-            let hl : l ≤ mostLevels * mostLevels = rw (down′ .first-place) (first-within _ _) in
-            let w = both-past (mostLevels * mostLevels) u l hu hl (omega arith) in
-            subst
-            (λ x. Loads s x join meet)
-            (sym (e ∙ ap (answer notRefused) read))
-            (by-none
-            ordered′
-            (omega (arith, place-is))
-            (subst (Swept (atOrBelow (rows s)) (count s) join) (w .0) up′)
-            (subst (Swept (converse (atOrBelow (rows s))) (count s) meet) (w .1) down′))
+          pub no-way : (r : Loaded) → r ≡ answer notRefused b → mostLevels * mostLevels ≤ p → Loads s r join meet
+          no-way r e h =
+              let hu : u ≤ mostLevels * mostLevels = rw (up′ .first-place) (first-within _ _) in
+              let hl : l ≤ mostLevels * mostLevels = rw (down′ .first-place) (first-within _ _) in
+              let w = both-past (mostLevels * mostLevels) u l hu hl (omega arith) in
+              subst
+              (λ x. Loads s x join meet)
+              (sym (e ∙ ap (answer notRefused) read))
+              (by-none
+              ordered′
+              (omega (arith, place-is))
+              (subst (Swept (atOrBelow (rows s)) (count s) join) (w .0) up′)
+              (subst (Swept (converse (atOrBelow (rows s))) (count s) meet) (w .1) down′))

@@ -77,14 +77,14 @@ module _ (R : Relation) (n : ℕ) where
     within : (i j : ℕ) → i < n → j < n → leastUpper R n i j < n
     within i j a b =
         elim (decLt i j) [
-          yes u ↦ exists i j u b
-        | no u ↦
-          elim (decLt j i) [
-            yes v ↦ subst (λ k. k < n) (least-swap j i) (exists j i v a)
-          | no v ↦
-            let e : j ≡ i = omega arith in
-            subst (λ k. leastUpper R n i k < n) (sym e) (subst (λ k. k < n) (sym (least-own o i a)) a)
-          ]
+          | yes u ↦ exists i j u b
+          | no u ↦
+              elim (decLt j i) [
+                | yes v ↦ subst (λ k. k < n) (least-swap j i) (exists j i v a)
+                | no v ↦
+                    let e : j ≡ i = omega arith in
+                    subst (λ k. leastUpper R n i k < n) (sym e) (subst (λ k. k < n) (sym (least-own o i a)) a)
+              ]
         ]
 
     pub least-uppers : LeastUppers R n (leastUpper R n)
@@ -118,11 +118,11 @@ module _ (R : Relation) (n : ℕ) where
               above =
                   λ i u.
                   elim (decLt i m) [
-                    yes v ↦
-                      o .transitive i (a .level) t (omega arith) (a .inside) ht (a .above i v) (w .left (a .level) m (a .inside) hm)
-                  | no v ↦
-                    let e : m ≡ i = omega arith in
-                    subst (λ k. R k t ≡ true) e (w .right (a .level) m (a .inside) hm)
+                    | yes v ↦
+                        o .transitive i (a .level) t (omega arith) (a .inside) ht (a .above i v) (w .left (a .level) m (a .inside) hm)
+                    | no v ↦
+                        let e : m ≡ i = omega arith in
+                        subst (λ k. R k t ≡ true) e (w .right (a .level) m (a .inside) hm)
                   ];
             }
 

@@ -12,7 +12,7 @@ use borrow.Author.Tests.{ltb-false, leb-true, eqb-true, eqb-false, lt-ltb, eq-eq
 use Rattle.prelude.specs.Search.{first, any}
 use Rattle.prelude.proofs.Bools.{fails, and-intro, and-left, and-right, or-left, or-right}
 use Rattle.prelude.proofs.Searches.{first-within, first-at-end, none-of-any, NoneBelow}
-use Rattle.lattice.specs.Order.{Relation, converse, bothWays, gap, isLeastUpper, leastUpper, PartialOrder}
+use Rattle.lattice.specs.Order.{Relation, converse, bothWays, gap, showsFault, isLeastUpper, leastUpper, PartialOrder}
 use Rattle.lattice.specs.LevelBook.{mostLevels, count, sizeIsRight, rows, atOrBelow}
 use Rattle.lattice.specs.Refusals.{isFaulty, firstFaulty, lacksUpper, firstLacking, refusedBy, notRefused, refusal, isAccepted}
 use Rattle.lattice.proofs.Sizes.{few}
@@ -58,10 +58,10 @@ module _ (rs : List ℕ) (n : ℕ) (faultless : NoneBelow (isFaulty rs n) n) whe
   unfolding isFaulty
   own i h = not-false _ (or-left _ _ (faultless i h))
 
-  at-pair : (i j : ℕ) → i < n → j < n → (bothWays (atOrBelow rs) i j || any (gap (atOrBelow rs) i j) n) ≡ false
+  at-pair : (i j : ℕ) → i < n → j < n → showsFault (atOrBelow rs) n i j ≡ false
   unfolding isFaulty
   at-pair i j h l =
-      none-of-any (λ x. bothWays (atOrBelow rs) i x || any (gap (atOrBelow rs) i x) n) n 
+      none-of-any (showsFault (atOrBelow rs) n i) n
       (or-right (ltb 0 (getD rs i 0 / 2 ^ n)) _ (or-right (not (atOrBelow rs i i)) _ (faultless i h))) j l
 
   pub partial-order : PartialOrder (atOrBelow rs) n
@@ -85,13 +85,13 @@ has-upper :
 unfolding leastUpper
 has-upper R n small i j a b h =
     let e : eqb (leastUpper R n i j) n ≡ false =
-        rw (quotient i j (omega arith), remainder i j (omega arith), lt-ltb i j a, lt-ltb j n b) at h
+    rw (quotient i j (omega arith), remainder i j (omega arith), lt-ltb i j a, lt-ltb j n b) at h
     in
     let u = first-within (isLeastUpper R n i j) n in
     let v = eqb-false (leastUpper R n i j) n e in
     elim (decLt (leastUpper R n i j) n) [
-      yes l ↦ l
-    | no l ↦ absurd (v (omega arith))
+      | yes l ↦ l
+      | no l ↦ absurd (v (omega arith))
     ]
 
 module _ (s : List ℕ) (w : Passing s) where

@@ -22,12 +22,12 @@ module _ (n : ℕ) (t : List (List ℕ)) (w : Square n t) (i j v : ℕ) (hi : i 
   pub put-other : (a b : ℕ) → (a ≡ i → b ≡ j → ⊥) → kept (put t i j v) a b ≡ kept t a b
   put-other a b h =
       elim (ℕ-discrete a i) [
-        yes e ↦
-          ap (λ x. getD (getD (put t i j v) x []) b 0) e
-          ∙ ap (λ l. getD l b 0) (getD-set-same t i (set (getD t i []) j v) [] (omega (arith, w .rows)))
-          ∙ getD-set-other (getD t i []) j b v 0 (h e)
-          ∙ ap (λ x. getD (getD t x []) b 0) (sym e)
-      | no e ↦ ap (λ l. getD l b 0) (getD-set-other t i a (set (getD t i []) j v) [] e)
+        | yes e ↦
+            ap (λ x. getD (getD (put t i j v) x []) b 0) e
+            ∙ ap (λ l. getD l b 0) (getD-set-same t i (set (getD t i []) j v) [] (omega (arith, w .rows)))
+            ∙ getD-set-other (getD t i []) j b v 0 (h e)
+            ∙ ap (λ x. getD (getD t x []) b 0) (sym e)
+        | no e ↦ ap (λ l. getD l b 0) (getD-set-other t i a (set (getD t i []) j v) [] e)
       ]
 
   pub put-square : Square n (put t i j v)
@@ -37,11 +37,11 @@ module _ (n : ℕ) (t : List (List ℕ)) (w : Square n t) (i j v : ℕ) (hi : i 
         entries =
             λ a ha.
             elim (ℕ-discrete a i) [
-              yes e ↦
-                ap (λ x. length (getD (put t i j v) x [])) e
-                ∙ ap length (getD-set-same t i (set (getD t i []) j v) [] (omega (arith, w .rows)))
-                ∙ length-set (getD t i []) j v
-                ∙ w .entries i hi
-            | no e ↦ ap length (getD-set-other t i a (set (getD t i []) j v) [] e) ∙ w .entries a ha
+              | yes e ↦
+                  ap (λ x. length (getD (put t i j v) x [])) e
+                  ∙ ap length (getD-set-same t i (set (getD t i []) j v) [] (omega (arith, w .rows)))
+                  ∙ length-set (getD t i []) j v
+                  ∙ w .entries i hi
+              | no e ↦ ap length (getD-set-other t i a (set (getD t i []) j v) [] e) ∙ w .entries a ha
             ];
       }

@@ -57,13 +57,13 @@ module _ (R : Relation) (n : ℕ) (small : n ≤ mostLevels) (t : List (List ℕ
         own =
             λ a l.
             elim (ℕ-discrete a i) [
-              yes e ↦
-                subst
-                (λ x. kept (put t i i i) x x ≡ x)
-                (sym e)
-                (put-same mostLevels t (d .square) i i i (omega arith) (omega arith))
-            | no e ↦
-              put-other mostLevels t (d .square) i i i (omega arith) (omega arith) a a (λ x y. e x) ∙ d .own a (omega arith)
+              | yes e ↦
+                  subst
+                  (λ x. kept (put t i i i) x x ≡ x)
+                  (sym e)
+                  (put-same mostLevels t (d .square) i i i (omega arith) (omega arith))
+              | no e ↦
+                  put-other mostLevels t (d .square) i i i (omega arith) (omega arith) a a (λ x y. e x) ∙ d .own a (omega arith)
             ];
         pairs =
             λ a b u v l.
@@ -84,15 +84,15 @@ module _ (R : Relation) (n : ℕ) (small : n ≤ mostLevels) (t : List (List ℕ
       (q p k : ℕ) → Done R n q p t → (k / mostLevels < k % mostLevels → k % mostLevels < n → k < p) → lacksUpper R n k ≡ false
   passes q p k d within =
       elim (decLt (k / mostLevels) (k % mostLevels)) [
-        yes u ↦
-          elim (decLt (k % mostLevels) n) [
-            yes v ↦
-              let l = within u v in
-              let w = d .pairs (k / mostLevels) (k % mostLevels) u v (omega arith) .exists in
-              rw (lt-ltb _ _ u, lt-ltb _ _ v) (ne-eqb (leastUpper R n (k / mostLevels) (k % mostLevels)) n (λ e. omega arith))
-          | no v ↦ rw (lt-ltb _ _ u, le-ltb (k % mostLevels) n (omega arith))
-          ]
-      | no u ↦ rw (le-ltb (k / mostLevels) (k % mostLevels) (omega arith))
+        | yes u ↦
+            elim (decLt (k % mostLevels) n) [
+              | yes v ↦
+                  let l = within u v in
+                  let w = d .pairs (k / mostLevels) (k % mostLevels) u v (omega arith) .exists in
+                  rw (lt-ltb _ _ u, lt-ltb _ _ v) (ne-eqb (leastUpper R n (k / mostLevels) (k % mostLevels)) n (λ e. omega arith))
+              | no v ↦ rw (lt-ltb _ _ u, le-ltb (k % mostLevels) n (omega arith))
+            ]
+        | no u ↦ rw (le-ltb (k / mostLevels) (k % mostLevels) (omega arith))
       ]
 
   pub finish : (i : ℕ) → n ≤ i → Done R n i (mostLevels * i) t → Swept R n t (mostLevels * mostLevels)
@@ -140,11 +140,11 @@ pair-next R n small t i j k h l e f d =
     let u : List (List ℕ) = put t i j k in
     let w′ : Square mostLevels u = put-square mostLevels t w i j k hi hj in
     let near : PairKept R n (put u j i k) i j =
-        record {
-          exists = omega arith;
-          there = put-other mostLevels u w′ j i k hj hi i j (λ x y. omega arith) ∙ put-same mostLevels t w i j k hi hj ∙ sym e;
-          back = put-same mostLevels u w′ j i k hj hi ∙ sym e;
-        }
+    record {
+      exists = omega arith;
+      there = put-other mostLevels u w′ j i k hj hi i j (λ x y. omega arith) ∙ put-same mostLevels t w i j k hi hj ∙ sym e;
+      back = put-same mostLevels u w′ j i k hj hi ∙ sym e;
+    }
     in
     record {
       square = put-square mostLevels u w′ j i k hj hi;
@@ -156,12 +156,12 @@ pair-next R n small t i j k h l e f d =
       pairs =
           λ a b x y z.
           elim (decLt (mostLevels * a + b) (mostLevels * i + j)) [
-            yes v ↦
-              keep R n small u j i k a b w′ hj hi (λ y z. omega arith) (λ y z. omega arith)
-              (keep R n small t i j k a b w hi hj (λ y z. omega arith) (λ y z. omega arith) (d .pairs a b x y v))
-          | no v ↦
-            let ea : a ≡ i = omega arith in
-            let eb : b ≡ j = omega arith in
-            subst (λ m. PairKept R n (put u j i k) m b) (sym ea) (subst (λ m. PairKept R n (put u j i k) i m) (sym eb) near)
+            | yes v ↦
+                keep R n small u j i k a b w′ hj hi (λ y z. omega arith) (λ y z. omega arith)
+                (keep R n small t i j k a b w hi hj (λ y z. omega arith) (λ y z. omega arith) (d .pairs a b x y v))
+            | no v ↦
+                let ea : a ≡ i = omega arith in
+                let eb : b ≡ j = omega arith in
+                subst (λ m. PairKept R n (put u j i k) m b) (sym ea) (subst (λ m. PairKept R n (put u j i k) i m) (sym eb) near)
           ];
     }

@@ -7,13 +7,16 @@ use Prim.Native.Nat.{ℕ, _≤_, _<_}
 use native.Mathlib.Decide.{decLt}
 use native.Mathlib.Omega.{arith}
 use borrow.Author.Tests.{lt-ltb, le-ltb}
-use Rattle.lattice.specs.Order.{Relation, converse, LevelLattice}
-use Rattle.lattice.specs.LevelBook.{count, rows, atOrBelow}
+use Rattle.prelude.proofs.Bools.{by-cases}
+use Rattle.lattice.specs.declared.Loaded.{Loaded}
+use Rattle.lattice.specs.Order.{Relation, converse, leastUpper, greatestLower, LevelLattice}
+use Rattle.lattice.specs.LevelBook.{mostLevels, count, rows, atOrBelow}
 use Rattle.lattice.specs.Refusals.{isAccepted}
+use Rattle.lattice.specs.Load.{bookOf, noBook, loaded, Loads}
 use Rattle.lattice.specs.Lattice.{Laws, asLevel, latticeOf, bookLattice}
 use Rattle.lattice.proofs.Orders.{dual, least-uppers, greatest}
 use Rattle.lattice.proofs.Passing.{Passing, passing, order, uppers, lowers}
-use Rattle.lattice.proofs.Sizes.{some}
+use Rattle.lattice.proofs.Sizes.{some, few}
 
 -- A passing book is a lattice: a partial order in which every pair has a least common upper and a greatest common
 -- lower level, with a greatest level, top, and a least, bottom.
@@ -36,8 +39,8 @@ module _ (n : ℕ) where
   as-level-in : (a : ℕ) → 0 < n → asLevel n a < n
   as-level-in a h =
       elim (decLt a n) [
-        yes l ↦ rw (lt-ltb a n l) l
-      | no l ↦ rw (le-ltb a n (omega arith)) h
+        | yes l ↦ rw (lt-ltb a n l) l
+        | no l ↦ rw (le-ltb a n (omega arith)) h
       ]
 
   -- a level counts as itself
@@ -66,3 +69,30 @@ lattice-laws R n w =
 
 pub book-laws : (s : List ℕ) → isAccepted s ≡ true → Laws (bookLattice s)
 book-laws s h = lattice-laws (atOrBelow (rows s)) (count s) (level-lattice s h)
+
+-- What is kept and tested of two levels is what the lattice says of them.
+module _ (s : List ℕ) (i j : ℕ) (hi : i < count s) (hj : j < count s) where
+  pub order-at : atOrBelow (rows s) i j ≡ bookLattice s .leq i j
+  order-at = sym (rw (lt-ltb i (count s) hi, lt-ltb j (count s) hj))
+
+  pub join-at : leastUpper (atOrBelow (rows s)) (count s) i j ≡ bookLattice s .join i j
+  join-at = sym (rw (lt-ltb i (count s) hi, lt-ltb j (count s) hj))
+
+  pub meet-at : greatestLower (atOrBelow (rows s)) (count s) i j ≡ bookLattice s .meet i j
+  meet-at = sym (rw (lt-ltb i (count s) hi, lt-ltb j (count s) hj))
+
+-- A loaded book has no more levels than a book can have, refused or not.
+pub loads-few :
+    (s : List ℕ) (r : Loaded) (join meet : List (List ℕ)) → Loads s r join meet → r .book .count ≤ mostLevels
+unfolding loaded
+loads-few s r join meet w =
+    subst
+    (λ x. x .book .count ≤ mostLevels)
+    (sym (w .result))
+    (by-cases
+    (λ b. b .count ≤ mostLevels)
+    (isAccepted s)
+    {x = bookOf s}
+    {y = noBook}
+    (λ h. few s (passing s h .size))
+    (λ h. omega arith))

@@ -5,3 +5,4 @@ pub mod Refusals
 pub mod Bounds
 pub mod Load
 pub mod Lattice
+pub mod Examples

@@ -1,7 +1,7 @@
 -- Levels 0 to n - 1 under a relation R, for any n: R i j says that level i is at or below level j.
 -- 'At or below' is always this relation, never the order of the numbers.
 use mathlib.Core.Path.{_≡_}
-use mathlib.Core.Bool.{Bool, true, not, _&&_}
+use mathlib.Core.Bool.{Bool, true, not, _&&_, _||_}
 use Prim.Native.Nat.{ℕ, _<_}
 use lib.Dec.{eqb}
 use Rattle.prelude.specs.Search.{first, any, all}
@@ -20,6 +20,10 @@ bothWays R i j = not (eqb i j) && (R i j && R j i)
 -- i is at or below j, and j at or below k, but i is not at or below k
 abbrev pub gap : Relation → ℕ → ℕ → ℕ → Bool
 gap R i j k = R i j && (R j k && not (R i k))
+
+-- what level j shows against level i
+abbrev pub showsFault : Relation → ℕ → ℕ → ℕ → Bool
+showsFault R n i j = bothWays R i j || any (gap R i j) n
 
 -- m is a common upper level of i and j, and k is not at or below it
 abbrev pub missed : Relation → ℕ → ℕ → ℕ → ℕ → Bool

@@ -6,7 +6,7 @@ use lib.Dec.{eqb, ltb}
 use lib.ListN.{getD}
 use Rattle.prelude.specs.declared.Refusal.{Refusal}
 use Rattle.prelude.specs.Search.{first, any}
-use Rattle.lattice.specs.Order.{Relation, converse, bothWays, gap, leastUpper}
+use Rattle.lattice.specs.Order.{Relation, converse, showsFault, leastUpper}
 use Rattle.lattice.specs.LevelBook.{mostLevels, count, sizeIsRight, rows, atOrBelow}
 
 -- row 2: "some level i lacks its own bit, has a bit at n or above, holds both ways with another,
@@ -14,7 +14,7 @@ use Rattle.lattice.specs.LevelBook.{mostLevels, count, sizeIsRight, rows
 unfoldable pub isFaulty : List ℕ → ℕ → ℕ → Bool
 isFaulty rs n i =
     let R : Relation = atOrBelow rs in
-    not (R i i) || (ltb 0 (getD rs i 0 / 2 ^ n) || any (λ j. bothWays R i j || any (gap R i j) n) n)
+    not (R i i) || (ltb 0 (getD rs i 0 / 2 ^ n) || any (showsFault R n i) n)
 
 -- "smallest such i", or n
 unfoldable pub firstFaulty : List ℕ → ℕ → ℕ

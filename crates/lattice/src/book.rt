@@ -3,18 +3,29 @@ ghost use mathlib.Core.Path.{_≡_};
 ghost use Prim.Native.Nat.{_+_, _*_, _<_, _≤_};
 ghost use mathlib.Core.Bool.{true};
 ghost use lib.ListN.{length};
-ghost use Rattle.lattice.specs.LevelBook.{count, row, rows, sizeIsRight, atOrBelow};
+ghost use Rattle.lattice.specs.LevelBook.{mostLevels, count, row, rows, sizeIsRight, atOrBelow};
 ghost use Rattle.lattice.specs.Load.{bookOf};
 
 // The number of levels, and for each level the set of the levels that it is at or below: bit j for level j.
 pub struct Book {
     pub count: usize,
-    pub rows: [u16; 16],
+    pub rows: [u16; Book::MAX_LEVELS],
 }
+
+impl Book {
+    // The most levels of a book.
+    pub const MAX_LEVELS: usize = 16;
+
+    // The places of pairs, i * MAX_LEVELS + j, are below this number.
+    pub const PLACES: usize = 256;
+}
+
+// A level for each pair of levels.
+pub type PairTable = [[u8; Book::MAX_LEVELS]; Book::MAX_LEVELS];
 
 // Level i is at or below level j.
 pub fn at_or_below(b: Book, i: usize, j: usize) -> bool
-    requires { ⌜ (i < 16) × (j < 16) ⌝ }
+    requires { ⌜ (i < mostLevels) × (j < mostLevels) ⌝ }
     ensures { λ r. ⌜ r ≡ atOrBelow (b .rows) i j ⌝ }
 {
     (b.rows[i] >> j) % 2 == 1
@@ -31,7 +42,7 @@ pub fn size_is_right(s: &[u8]) -> bool
     if n < 1 {
         return false;
     }
-    if 16 < n {
+    if Book::MAX_LEVELS < n {
         return false;
     }
     s.len() == 1 + 2 * n
@@ -39,7 +50,7 @@ pub fn size_is_right(s: &[u8]) -> bool
 
 // Row i, or 0 where the book has fewer rows.
 fn row_at(s: &[u8], i: usize) -> u16
-    requires { ⌜ (i < 16) × (length (now s) ≡ 1 + 2 * count (now s)) ⌝ }
+    requires { ⌜ (i < mostLevels) × (length (now s) ≡ 1 + 2 * count (now s)) ⌝ }
     ensures { λ r. ⌜ r ≡ row (now (s .entry)) i ⌝ }
 {
     if s.len() <= 2 + 2 * i {
@@ -48,13 +59,13 @@ fn row_at(s: &[u8], i: usize) -> u16
     prelude::word_of(s[1 + 2 * i], s[2 + 2 * i])
 }
 
-fn read_rows(s: &[u8]) -> [u16; 16]
+fn read_rows(s: &[u8]) -> [u16; Book::MAX_LEVELS]
     requires { ⌜ length (now s) ≡ 1 + 2 * count (now s) ⌝ }
     ensures { λ r. ⌜ r ≡ rows (now (s .entry)) ⌝ }
 {
-    let mut filled = [0u16; 16];
+    let mut filled = [0u16; Book::MAX_LEVELS];
     let mut i: usize = 0;
-    while i < 16 {
+    while i < Book::MAX_LEVELS {
         filled[i] = row_at(s, i);
         i += 1;
     }

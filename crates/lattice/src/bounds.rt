@@ -1,6 +1,7 @@
 // Common upper and lower levels. A function that takes `dual` works on the order upside down where it is set,
 // so that one search serves both: the greatest common lower level is the least common upper one upside down.
 use crate::book::Book;
+use crate::book::PairTable;
 use crate::book::at_or_below;
 ghost use mathlib.Core.Path.{_≡_};
 ghost use mathlib.Core.Bool.{cond};
@@ -8,11 +9,11 @@ ghost use lib.Dec.{leb};
 ghost use Prim.Native.Nat.{_<_, _≤_};
 ghost use Rattle.prelude.specs.Search.{any, all};
 ghost use Rattle.lattice.specs.Order.{missed, isLeastUpper, top, bottom};
-ghost use Rattle.lattice.specs.LevelBook.{atOrBelow, facing};
+ghost use Rattle.lattice.specs.LevelBook.{mostLevels, atOrBelow, facing};
 ghost use Rattle.lattice.specs.Bounds.{kept, Square, Swept};
 
 fn below(b: Book, dual: bool, i: usize, j: usize) -> bool
-    requires { ⌜ (i < 16) × (j < 16) ⌝ }
+    requires { ⌜ (i < mostLevels) × (j < mostLevels) ⌝ }
     ensures { λ r. ⌜ r ≡ facing (b .rows) dual i j ⌝ }
 {
     if dual {
@@ -23,7 +24,7 @@ fn below(b: Book, dual: bool, i: usize, j: usize) -> bool
 
 // Level m is a common upper level of i and j that k is not at or below.
 fn is_missed(b: Book, dual: bool, i: usize, j: usize, k: usize, m: usize) -> bool
-    requires { ⌜ (i < 16) × ((j < 16) × ((k < 16) × (m < 16))) ⌝ }
+    requires { ⌜ (i < mostLevels) × ((j < mostLevels) × ((k < mostLevels) × (m < mostLevels))) ⌝ }
     ensures { λ r. ⌜ r ≡ missed (facing (b .rows) dual) i j k m ⌝ }
 {
     if below(b, dual, i, m) {
@@ -35,7 +36,7 @@ fn is_missed(b: Book, dual: bool, i: usize, j: usize, k: usize, m: usize) -> boo
 }
 
 fn any_missed(b: Book, dual: bool, i: usize, j: usize, k: usize) -> bool
-    requires { ⌜ (i < 16) × ((j < 16) × ((k < 16) × (b .count ≤ 16))) ⌝ }
+    requires { ⌜ (i < mostLevels) × ((j < mostLevels) × ((k < mostLevels) × (b .count ≤ mostLevels))) ⌝ }
     ensures { λ r. ⌜ r ≡ any (missed (facing (b .rows) dual) i j k) (b .count) ⌝ }
 {
     let n = b.count;
@@ -50,7 +51,7 @@ fn any_missed(b: Book, dual: bool, i: usize, j: usize, k: usize) -> bool
 }
 
 fn is_least_upper(b: Book, dual: bool, i: usize, j: usize, k: usize) -> bool
-    requires { ⌜ (i < 16) × ((j < 16) × ((k < 16) × (b .count ≤ 16))) ⌝ }
+    requires { ⌜ (i < mostLevels) × ((j < mostLevels) × ((k < mostLevels) × (b .count ≤ mostLevels))) ⌝ }
     ensures { λ r. ⌜ r ≡ isLeastUpper (facing (b .rows) dual) (b .count) i j k ⌝ }
 {
     if below(b, dual, i, k) {
@@ -62,13 +63,13 @@ fn is_least_upper(b: Book, dual: bool, i: usize, j: usize, k: usize) -> bool
 }
 
 // Finds the least common upper level of each pair and keeps it at both entries of the pair, and each level at its own.
-// The place of the first pair that lacks one, or 256; the table is then filled up to that pair.
-pub fn sweep(b: Book, dual: bool, t: &mut [[u8; 16]; 16]) -> usize
-    requires { ⌜ (b .count ≤ 16) × Square 16 (now t) ⌝ }
+// The place of the first pair that lacks one, or PLACES; the table is then filled up to that pair.
+pub fn sweep(b: Book, dual: bool, t: &mut PairTable) -> usize
+    requires { ⌜ (b .count ≤ mostLevels) × Square mostLevels (now t) ⌝ }
     ensures { λ r. ⌜ Swept (facing (b .rows) dual) (b .count) (now (t .exit)) r ⌝ }
 {
     let n = b.count;
-    let mut place: usize = 256;
+    let mut place = Book::PLACES;
     let mut i: usize = 0;
     'pairs: while i < n {
         t[i][i] = i as u8;
@@ -82,7 +83,7 @@ pub fn sweep(b: Book, dual: bool, t: &mut [[u8; 16]; 16]) -> usize
                 k += 1;
             }
             if k == n {
-                place = 16 * i + j;
+                place = Book::MAX_LEVELS * i + j;
                 break 'pairs;
             }
             t[i][j] = k as u8;
@@ -105,8 +106,8 @@ pub fn lesser(a: usize, b: usize) -> usize
 }
 
 // What a table keeps for a pair: their join or their meet, by the table.
-pub fn level_at(t: &[[u8; 16]; 16], i: usize, j: usize) -> usize
-    requires { ⌜ (i < 16) × (j < 16) ⌝ }
+pub fn level_at(t: &PairTable, i: usize, j: usize) -> usize
+    requires { ⌜ (i < mostLevels) × (j < mostLevels) ⌝ }
     ensures { λ r. ⌜ r ≡ kept (now (t .entry)) i j ⌝ }
 {
     prelude::wide(t[i][j])
@@ -114,7 +115,7 @@ pub fn level_at(t: &[[u8; 16]; 16], i: usize, j: usize) -> usize
 
 // Every level is at or below t.
 fn is_greatest(b: Book, dual: bool, t: usize) -> bool
-    requires { ⌜ (t < 16) × (b .count ≤ 16) ⌝ }
+    requires { ⌜ (t < mostLevels) × (b .count ≤ mostLevels) ⌝ }
     ensures { λ r. ⌜ r ≡ all (λ i. facing (b .rows) dual i t) (b .count) ⌝ }
 {
     let n = b.count;
@@ -129,7 +130,7 @@ fn is_greatest(b: Book, dual: bool, t: usize) -> bool
 }
 
 fn greatest(b: Book, dual: bool) -> usize
-    requires { ⌜ b .count ≤ 16 ⌝ }
+    requires { ⌜ b .count ≤ mostLevels ⌝ }
     ensures { λ r. ⌜ r ≡ top (facing (b .rows) dual) (b .count) ⌝ }
 {
     let n = b.count;
@@ -144,14 +145,14 @@ fn greatest(b: Book, dual: bool) -> usize
 }
 
 pub fn top_of(b: Book) -> usize
-    requires { ⌜ b .count ≤ 16 ⌝ }
+    requires { ⌜ b .count ≤ mostLevels ⌝ }
     ensures { λ r. ⌜ r ≡ top (atOrBelow (b .rows)) (b .count) ⌝ }
 {
     greatest(b, false)
 }
 
 pub fn bottom_of(b: Book) -> usize
-    requires { ⌜ b .count ≤ 16 ⌝ }
+    requires { ⌜ b .count ≤ mostLevels ⌝ }
     ensures { λ r. ⌜ r ≡ bottom (atOrBelow (b .rows)) (b .count) ⌝ }
 {
     greatest(b, true)

@@ -3,11 +3,13 @@ pub mod book; // book.rt: the book by value, and how it is read from bytes
 pub mod order; // order.rt: the faults of refusal 2
 pub mod bounds; // bounds.rt: common upper and lower levels, refusal 3, top and bottom
 
-use prelude::Refusal;
 use crate::book::Book;
+use crate::book::PairTable;
+use prelude::Refusal;
 ghost use mathlib.Core.Path.{_≡_};
-ghost use Prim.Native.Nat.{_≤_};
+ghost use Prim.Native.Nat.{_*_, _≤_};
 ghost use Rattle.lattice.specs.Refusals.{refusedBy, notRefused};
+ghost use Rattle.lattice.specs.LevelBook.{mostLevels};
 ghost use Rattle.lattice.specs.Bounds.{Square};
 ghost use Rattle.lattice.specs.Load.{answer, noBook, Loads};
 
@@ -18,7 +20,7 @@ pub struct Loaded {
 }
 
 fn refused(number: u32, place: usize) -> Loaded
-    requires { ⌜ place ≤ 256 ⌝ }
+    requires { ⌜ place ≤ mostLevels * mostLevels ⌝ }
     ensures { λ r. ⌜ r ≡ answer (refusedBy number place) noBook ⌝ }
 {
     Loaded {
@@ -28,7 +30,7 @@ fn refused(number: u32, place: usize) -> Loaded
         },
         book: Book {
             count: 0,
-            rows: [0u16; 16],
+            rows: [0u16; Book::MAX_LEVELS],
         },
     }
 }
@@ -47,8 +49,8 @@ fn accepted(b: Book) -> Loaded
 
 // Checks a level book of any bytes. Where it is not refused, `join` and `meet` then keep the least common upper
 // and the greatest common lower level of every pair.
-pub fn load(s: &[u8], join: &mut [[u8; 16]; 16], meet: &mut [[u8; 16]; 16]) -> Loaded
-    requires { ⌜ Square 16 (now join) × Square 16 (now meet) ⌝ }
+pub fn load(s: &[u8], join: &mut PairTable, meet: &mut PairTable) -> Loaded
+    requires { ⌜ Square mostLevels (now join) × Square mostLevels (now meet) ⌝ }
     ensures { λ r. ⌜ Loads (now (s .entry)) r (now (join .exit)) (now (meet .exit)) ⌝ }
 {
     if !book::size_is_right(s) {
@@ -63,7 +65,7 @@ pub fn load(s: &[u8], join: &mut [[u8; 16]; 16], meet: &mut [[u8; 16]; 16]) -> L
     let upper = bounds::sweep(b, false, join);
     let lower = bounds::sweep(b, true, meet);
     let place = bounds::lesser(upper, lower);
-    if place < 256 {
+    if place < Book::PLACES {
         return refused(3, place);
     }
     accepted(b)

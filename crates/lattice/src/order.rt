@@ -2,16 +2,15 @@
 use crate::book::Book;
 use crate::book::at_or_below;
 ghost use mathlib.Core.Path.{_≡_};
-ghost use mathlib.Core.Bool.{_||_};
 ghost use Prim.Native.Nat.{_<_, _≤_};
 ghost use Rattle.prelude.specs.Search.{any};
-ghost use Rattle.lattice.specs.Order.{bothWays, gap};
-ghost use Rattle.lattice.specs.LevelBook.{atOrBelow};
+ghost use Rattle.lattice.specs.Order.{bothWays, gap, showsFault};
+ghost use Rattle.lattice.specs.LevelBook.{mostLevels, atOrBelow};
 ghost use Rattle.lattice.specs.Refusals.{isFaulty, firstFaulty};
 
 // i and j are two levels, each at or below the other.
 fn both_ways(b: Book, i: usize, j: usize) -> bool
-    requires { ⌜ (i < 16) × (j < 16) ⌝ }
+    requires { ⌜ (i < mostLevels) × (j < mostLevels) ⌝ }
     ensures { λ r. ⌜ r ≡ bothWays (atOrBelow (b .rows)) i j ⌝ }
 {
     if i == j {
@@ -25,7 +24,7 @@ fn both_ways(b: Book, i: usize, j: usize) -> bool
 
 // i is at or below j, and j at or below k, but i is not at or below k.
 fn is_gap(b: Book, i: usize, j: usize, k: usize) -> bool
-    requires { ⌜ (i < 16) × ((j < 16) × (k < 16)) ⌝ }
+    requires { ⌜ (i < mostLevels) × ((j < mostLevels) × (k < mostLevels)) ⌝ }
     ensures { λ r. ⌜ r ≡ gap (atOrBelow (b .rows)) i j k ⌝ }
 {
     if at_or_below(b, i, j) {
@@ -37,7 +36,7 @@ fn is_gap(b: Book, i: usize, j: usize, k: usize) -> bool
 }
 
 fn any_gap(b: Book, i: usize, j: usize) -> bool
-    requires { ⌜ (i < 16) × ((j < 16) × (b .count ≤ 16)) ⌝ }
+    requires { ⌜ (i < mostLevels) × ((j < mostLevels) × (b .count ≤ mostLevels)) ⌝ }
     ensures { λ r. ⌜ r ≡ any (gap (atOrBelow (b .rows)) i j) (b .count) ⌝ }
 {
     let n = b.count;
@@ -53,8 +52,8 @@ fn any_gap(b: Book, i: usize, j: usize) -> bool
 
 // A fault of level i that level j shows.
 fn shows_fault(b: Book, i: usize, j: usize) -> bool
-    requires { ⌜ (i < 16) × ((j < 16) × (b .count ≤ 16)) ⌝ }
-    ensures { λ r. ⌜ r ≡ (bothWays (atOrBelow (b .rows)) i j || any (gap (atOrBelow (b .rows)) i j) (b .count)) ⌝ }
+    requires { ⌜ (i < mostLevels) × ((j < mostLevels) × (b .count ≤ mostLevels)) ⌝ }
+    ensures { λ r. ⌜ r ≡ showsFault (atOrBelow (b .rows)) (b .count) i j ⌝ }
 {
     if both_ways(b, i, j) {
         return true;
@@ -63,8 +62,8 @@ fn shows_fault(b: Book, i: usize, j: usize) -> bool
 }
 
 fn any_fault(b: Book, i: usize) -> bool
-    requires { ⌜ (i < 16) × (b .count ≤ 16) ⌝ }
-    ensures { λ r. ⌜ r ≡ any (λ j. bothWays (atOrBelow (b .rows)) i j || any (gap (atOrBelow (b .rows)) i j) (b .count)) (b .count) ⌝ }
+    requires { ⌜ (i < mostLevels) × (b .count ≤ mostLevels) ⌝ }
+    ensures { λ r. ⌜ r ≡ any (showsFault (atOrBelow (b .rows)) (b .count) i) (b .count) ⌝ }
 {
     let n = b.count;
     let mut j = 0;
@@ -78,7 +77,7 @@ fn any_fault(b: Book, i: usize) -> bool
 }
 
 fn is_faulty(b: Book, i: usize) -> bool
-    requires { ⌜ (i < 16) × (b .count ≤ 16) ⌝ }
+    requires { ⌜ (i < mostLevels) × (b .count ≤ mostLevels) ⌝ }
     ensures { λ r. ⌜ r ≡ isFaulty (b .rows) (b .count) i ⌝ }
 {
     if !at_or_below(b, i, i) {
@@ -94,7 +93,7 @@ fn is_faulty(b: Book, i: usize) -> bool
 
 // The smallest level at fault, or the number of levels.
 pub fn first_faulty(b: Book) -> usize
-    requires { ⌜ b .count ≤ 16 ⌝ }
+    requires { ⌜ b .count ≤ mostLevels ⌝ }
     ensures { λ r. ⌜ r ≡ firstFaulty (b .rows) (b .count) ⌝ }
 {
     let n = b.count;

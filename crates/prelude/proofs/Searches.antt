@@ -46,8 +46,8 @@ found f i (suc m) = go (f i) refl (firstFrom f (suc i) m) (found f (suc i) m)
           fails =
               λ k a b.
               elim (decLt i k) [
-                yes l ↦ w .fails k l b
-              | no l ↦ subst (λ z. f z ≡ false) (omega arith) e
+                | yes l ↦ w .fails k l b
+                | no l ↦ subst (λ z. f z ≡ false) (omega arith) e
               ];
         }
 
@@ -68,20 +68,20 @@ module _ (f : ℕ → Bool) (n : ℕ) where
   pub first-is : (i : ℕ) → i < n → f i ≡ true → NoneBelow f i → first f n ≡ i
   first-is i h e none =
       elim (decLt (first f n) i) [
-        yes l ↦ absurd (true≢false (sym (first-holds (omega arith)) ∙ none (first f n) l))
-      | no l ↦
-        elim (decLt i (first f n)) [
-          yes u ↦ absurd (true≢false (sym e ∙ first-passed i u))
-        | no u ↦ omega arith
-        ]
+        | yes l ↦ absurd (true≢false (sym (first-holds (omega arith)) ∙ none (first f n) l))
+        | no l ↦
+            elim (decLt i (first f n)) [
+              | yes u ↦ absurd (true≢false (sym e ∙ first-passed i u))
+              | no u ↦ omega arith
+            ]
       ]
 
   -- a loop that found the test false throughout
   pub first-none : NoneBelow f n → first f n ≡ n
   first-none none =
       elim (decLt (first f n) n) [
-        yes l ↦ absurd (true≢false (sym (first-holds l) ∙ none (first f n) l))
-      | no l ↦ omega (arith, first-within)
+        | yes l ↦ absurd (true≢false (sym (first-holds l) ∙ none (first f n) l))
+        | no l ↦ omega (arith, first-within)
       ]
 
   pub first-at-end : first f n ≡ n → NoneBelow f n
@@ -90,8 +90,8 @@ module _ (f : ℕ → Bool) (n : ℕ) where
   pub first-found : (i : ℕ) → i < n → f i ≡ true → first f n < n
   first-found i h e =
       elim (decLt (first f n) n) [
-        yes l ↦ l
-      | no l ↦ absurd (true≢false (sym e ∙ first-passed i (omega arith)))
+        | yes l ↦ l
+        | no l ↦ absurd (true≢false (sym e ∙ first-passed i (omega arith)))
       ]
 
   pub any-some : (i : ℕ) → i < n → f i ≡ true → any f n ≡ true
@@ -127,11 +127,11 @@ module _ (f : ℕ → Bool) (n : ℕ) where
 pub first-same : (f g : ℕ → Bool) (n : ℕ) → ((k : ℕ) → k < n → f k ≡ g k) → first f n ≡ first g n
 first-same f g n same =
     elim (decLt (first g n) n) [
-      yes l ↦
-        first-is f n (first g n) l (same _ l ∙ first-holds g n l) (λ k h. same k (omega arith) ∙ first-passed g n k h)
-    | no l ↦
-        let e : first g n ≡ n = omega (arith, first-within g n) in
-        first-none f n (λ k h. same k h ∙ first-at-end g n e k h) ∙ sym e
+      | yes l ↦
+          first-is f n (first g n) l (same _ l ∙ first-holds g n l) (λ k h. same k (omega arith) ∙ first-passed g n k h)
+      | no l ↦
+          let e : first g n ≡ n = omega (arith, first-within g n) in
+          first-none f n (λ k h. same k h ∙ first-at-end g n e k h) ∙ sym e
     ]
 
 pub any-same : (f g : ℕ → Bool) (n : ℕ) → ((k : ℕ) → k < n → f k ≡ g k) → any f n ≡ any g n
@@ -143,11 +143,11 @@ first-or-left :
     (f g : ℕ → Bool) (n : ℕ) → first f n ≤ first g n → first (λ k. f k || g k) n ≡ first f n
 first-or-left f g n h =
     elim (decLt (first f n) n) [
-      yes l ↦
-        first-is (λ k. f k || g k) n (first f n) l (rw (first-holds f n l)) (λ k u. rw (first-passed f n k u) (first-passed g n k (omega arith)))
-    | no l ↦
-        let e : first f n ≡ n = omega (arith, first-within f n) in
-        first-none (λ k. f k || g k) n (λ k u. rw (first-at-end f n e k u) (first-passed g n k (omega arith))) ∙ sym e
+      | yes l ↦
+          first-is (λ k. f k || g k) n (first f n) l (rw (first-holds f n l)) (λ k u. rw (first-passed f n k u) (first-passed g n k (omega arith)))
+      | no l ↦
+          let e : first f n ≡ n = omega (arith, first-within f n) in
+          first-none (λ k. f k || g k) n (λ k u. rw (first-at-end f n e k u) (first-passed g n k (omega arith))) ∙ sym e
     ]
 
 first-or-right :

@@ -1,3 +1,4 @@
+-- `load`: each way out has its lemma in `Loads`.
 use native.Mathlib.Omega.{arith}
 use mathlib.Core.Path.{_≡_, sym, _∙_}
 use borrow.Author.Tests.{not-true, not-false}
@@ -6,70 +7,47 @@ use Rattle.lattice.proofs.Loads.{size-way, order-way, pair-way, no-way}
 use borrow.Author.Needs.{needs}
 use Rattle.lattice.proofs.load.Statement.{statement}
 use Rattle.lattice.proofs.load.Tie as tie
-use Rattle.lattice.proofs.load.Reads as reads
-use Rattle.lattice.proofs.load.Lts as lts
-use Rattle.lattice.proofs.accepted.Reads as accepted-reads
-use Rattle.lattice.proofs.book.read_book.Reads as read-book-reads
-use Rattle.lattice.proofs.book.size_is_right.Reads as size-is-right-reads
-use Rattle.lattice.proofs.bounds.lesser.Reads as lesser-reads
-use Rattle.lattice.proofs.bounds.sweep.Reads as sweep-reads
-use Rattle.lattice.proofs.order.first_faulty.Reads as first-faulty-reads
-use Rattle.lattice.proofs.refused.Reads as refused-reads
 
--- src/lib.rt:54:9
 size-is-right-requires : tie.Need-size-is-right-requires
 size-is-right-requires c κs = search needs
 
--- src/lib.rt:55:9
 refused-requires : tie.Need-refused-requires
 refused-requires c κs = search needs
 
--- src/lib.rt:55:9
 returns : tie.Need-returns
 returns c = size-way _ _ _ _ (c .refused .ensures) (sym (c .before .before .size-is-right .ensures) ∙ not-true _ (c .before .if1 .taken))
 
--- src/lib.rt:57:9
 read-book-requires : tie.Need-read-book-requires
 read-book-requires c κs = sym (c .before .size-is-right .ensures) ∙ not-false _ (c .if1 .left)
 
--- src/lib.rt:59:9
 first-faulty-requires : tie.Need-first-faulty-requires
 first-faulty-requires c κs = few-read (c .before .before .before .before .args .s .now) (sym (c .before .before .size-is-right .ensures) ∙ not-false _ (c .before .if1 .left)) _ (c .read-book .ensures)
 
--- src/lib.rt:61:9
 refused-requires-2 : tie.Need-refused-requires-2
 refused-requires-2 c κs =
     omega (arith, c .if2 .taken, few-read (c .before .before .before .before .before .before .args .s .now) (sym (c .before .before .before .before .size-is-right .ensures) ∙ not-false _ (c .before .before .before .if1 .left)) _ (c .before .before .read-book .ensures))
 
--- src/lib.rt:61:9
 returns-2 : tie.Need-returns-2
 returns-2 c = order-way _ _ _ (sym (c .before .before .before .before .before .size-is-right .ensures) ∙ not-false _ (c .before .before .before .before .if1 .left)) _ (c .before .before .before .read-book .ensures) _ (c .before .before .first-faulty .ensures) _ (c .refused2 .ensures) (c .before .if2 .taken)
 
--- src/lib.rt:63:9
 sweep-requires : tie.Need-sweep-requires
 sweep-requires c κs = (few-read (c .before .before .before .before .before .before .before .args .s .now) (sym (c .before .before .before .before .before .size-is-right .ensures) ∙ not-false _ (c .before .before .before .before .if1 .left)) _ (c .before .before .before .read-book .ensures), c .before .before .before .before .before .before .before .pre .0)
 
--- src/lib.rt:64:9
 sweep-requires-2 : tie.Need-sweep-requires-2
 sweep-requires-2 c κs = (few-read (c .before .before .before .before .before .before .before .before .before .args .s .now) (sym (c .before .before .before .before .before .before .before .size-is-right .ensures) ∙ not-false _ (c .before .before .before .before .before .before .if1 .left)) _ (c .before .before .before .before .before .read-book .ensures), c .before .before .before .before .before .before .before .before .before .pre .1)
 
--- src/lib.rt:65:9
 lesser-requires : tie.Need-lesser-requires
 lesser-requires c κs = search needs
 
--- src/lib.rt:67:9
 refused-requires-3 : tie.Need-refused-requires-3
 refused-requires-3 c κs = search needs
 
--- src/lib.rt:67:9
 returns-3 : tie.Need-returns-3
 returns-3 c = pair-way _ _ _ (sym (c .before .before .before .before .before .before .before .before .before .before .before .size-is-right .ensures) ∙ not-false _ (c .before .before .before .before .before .before .before .before .before .before .if1 .left)) _ (c .before .before .before .before .before .before .before .before .before .read-book .ensures) _ (c .before .before .before .before .before .before .before .before .first-faulty .ensures) (c .before .before .before .before .before .before .before .if2 .left) _ _ _ (c .before .before .before .before .before .sweep .ensures) (c .before .before .before .sweep2 .ensures) (c .before .before .lesser .ensures) _ (c .refused3 .ensures) (c .before .if3 .taken)
 
--- src/lib.rt:69:5
 accepted-requires : tie.Need-accepted-requires
 accepted-requires c κs = search needs
 
--- src/lib.rt:50:1
 returns-4 : tie.Need-returns-4
 returns-4 c = no-way _ _ _ (sym (c .before .before .before .before .before .before .before .before .before .before .before .size-is-right .ensures) ∙ not-false _ (c .before .before .before .before .before .before .before .before .before .before .if1 .left)) _ (c .before .before .before .before .before .before .before .before .before .read-book .ensures) _ (c .before .before .before .before .before .before .before .before .first-faulty .ensures) (c .before .before .before .before .before .before .before .if2 .left) _ _ _ (c .before .before .before .before .before .sweep .ensures) (c .before .before .before .sweep2 .ensures) (c .before .before .lesser .ensures) _ (c .accepted .ensures) (c .before .if3 .left)
 

@@ -1,3 +1,4 @@
+-- `row_at`: a row that the book lacks is 0, since its bytes lie past the end.
 use mathlib.Core.Path.{_≡_, sym, ap, _∙_}
 use native.Mathlib.Omega.{arith}
 use Prim.Native.Nat.{ℕ, _+_, _*_, _≤_}
@@ -7,9 +8,6 @@ use Rattle.lattice.specs.LevelBook.{count, row}
 use borrow.Author.Needs.{needs}
 use Rattle.lattice.proofs.book.row_at.Statement.{statement}
 use Rattle.lattice.proofs.book.row_at.Tie as tie
-use Rattle.lattice.proofs.book.row_at.Reads as reads
-use Rattle.lattice.proofs.book.row_at.Lts as lts
-use Rattle.prelude.proofs.word_of.Reads as word-of-reads
 
 -- past the last row there are no bytes
 no-row : (s : List ℕ) (i : ℕ) → length s ≡ 1 + 2 * count s → length s ≤ 2 + 2 * i → row s i ≡ 0
@@ -18,47 +16,36 @@ no-row s i e h =
     let b : getD s (2 + 2 * i) 0 ≡ 0 = List·getD-eq-default s 0 (omega arith) in
     omega arith
 
--- src/book.rt:43:23
 mul-if1 : tie.Need-mul-if1
 mul-if1 c = search needs
 
--- src/book.rt:43:19
 add-if1 : tie.Need-add-if1
 add-if1 c = search needs
 
--- src/book.rt:44:9
 returns : tie.Need-returns
 returns c = sym (no-row (c .before .before .args .s .now) _ (c .before .before .pre .1) (c .if1 .taken))
 
--- src/book.rt:46:28
 mul-word-of : tie.Need-mul-word-of
 mul-word-of c = search needs
 
--- src/book.rt:46:24
 add-word-of : tie.Need-add-word-of
 add-word-of c = search needs
 
--- src/book.rt:46:22
 shared-slice-read-word-of : tie.Need-shared-slice-read-word-of
 shared-slice-read-word-of c = search needs
 
--- src/book.rt:46:42
 mul-word-of-2 : tie.Need-mul-word-of-2
 mul-word-of-2 c = search needs
 
--- src/book.rt:46:38
 add-word-of-2 : tie.Need-add-word-of-2
 add-word-of-2 c = search needs
 
--- src/book.rt:46:36
 shared-slice-read-word-of-2 : tie.Need-shared-slice-read-word-of-2
 shared-slice-read-word-of-2 c = search needs
 
--- src/book.rt:46:5
 word-of-requires : tie.Need-word-of-requires
 word-of-requires c κs = search needs
 
--- src/book.rt:39:1
 returns-2 : tie.Need-returns-2
 returns-2 c = search needs
 

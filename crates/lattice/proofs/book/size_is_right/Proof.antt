@@ -1,47 +1,37 @@
+-- `size_is_right`: each way out decides one test of the definition.
 use mathlib.Core.Path.{_≡_, sym, _∙_}
 use Prim.Native.Nat.{ℕ}
 use native.Mathlib.Omega.{arith}
 use borrow.Author.Tests.{lt-leb, le-leb}
 use lib.ListN.{List·getD-eq-default}
-use Rattle.lattice.specs.LevelBook.{count}
+use Rattle.lattice.specs.LevelBook.{mostLevels, count}
 use borrow.Author.Needs.{needs}
 use Rattle.lattice.proofs.book.size_is_right.Statement.{statement}
 use Rattle.lattice.proofs.book.size_is_right.Tie as tie
-use Rattle.lattice.proofs.book.size_is_right.Reads as reads
-use Rattle.lattice.proofs.book.size_is_right.Lts as lts
-use Rattle.prelude.proofs.wide.Reads as wide-reads
 
--- src/book.rt:26:9
 returns : tie.Need-returns
 returns c = sym (simp (List·getD-eq-default {A = ℕ} (c .before .before .args .s .now) 0 {n = 0} (omega arith)))
 
--- src/book.rt:28:27
 shared-slice-read-wide : tie.Need-shared-slice-read-wide
 shared-slice-read-wide c = search needs
 
--- src/book.rt:28:9
 wide-requires : tie.Need-wide-requires
 wide-requires c κs = search needs
 
--- src/book.rt:30:9
 returns-2 : tie.Need-returns-2
 returns-2 c = sym (simp (lt-leb 1 (count (c .before .before .before .before .before .args .s .now)) (omega (arith, c .before .wide .ensures))))
 
--- src/book.rt:33:9
 returns-3 : tie.Need-returns-3
-returns-3 c = sym (simp (le-leb 1 (count (c .before .before .before .before .before .before .args .s .now)) (omega (arith, c .before .before .wide .ensures)), lt-leb (count (c .before .before .before .before .before .before .args .s .now)) 16 (omega (arith, c .before .before .wide .ensures))))
+returns-3 c = sym (simp (le-leb 1 (count (c .before .before .before .before .before .before .args .s .now)) (omega (arith, c .before .before .wide .ensures)), lt-leb (count (c .before .before .before .before .before .before .args .s .now)) mostLevels (omega (arith, c .before .before .wide .ensures))))
 
--- src/book.rt:35:20
 mul-result : tie.Need-mul-result
 mul-result c = search needs
 
--- src/book.rt:35:16
 add-result : tie.Need-add-result
 add-result c = search needs
 
--- src/book.rt:22:1
 returns-4 : tie.Need-returns-4
-returns-4 c = sym (simp (le-leb 1 (count (c .before .before .before .before .before .before .args .s .now)) (omega (arith, c .before .before .wide .ensures)), le-leb (count (c .before .before .before .before .before .before .args .s .now)) 16 (omega (arith, c .before .before .wide .ensures)), c .before .before .wide .ensures))
+returns-4 c = sym (simp (le-leb 1 (count (c .before .before .before .before .before .before .args .s .now)) (omega (arith, c .before .before .wide .ensures)), le-leb (count (c .before .before .before .before .before .before .args .s .now)) mostLevels (omega (arith, c .before .before .wide .ensures)), c .before .before .wide .ensures))
 
 pub size-is-right-spec : {M : Type 1} → statement M
 size-is-right-spec =

@@ -1,3 +1,4 @@
+-- `any_missed`: no common upper level below m is missed.
 use borrow.Author.Needs.{needs}
 use mathlib.Core.Path.{_≡_, sym, _∙_}
 use Prim.Native.Nat.{_-_, _≤_}
@@ -7,9 +8,6 @@ use Rattle.lattice.specs.Order.{missed}
 use Rattle.lattice.specs.LevelBook.{facing}
 use Rattle.lattice.proofs.bounds.any_missed.Statement.{statement}
 use Rattle.lattice.proofs.bounds.any_missed.Tie as tie
-use Rattle.lattice.proofs.bounds.any_missed.Reads as reads
-use Rattle.lattice.proofs.bounds.any_missed.Lts as lts
-use Rattle.lattice.proofs.bounds.is_missed.Reads as is-missed-reads
 
 abbrev Inv-loop : tie.InvT-loop
 Inv-loop b dual i j k n m₀ m = (m ≤ n) × NoneBelow (missed (facing (b .rows) dual) i j k) m
@@ -17,31 +15,24 @@ Inv-loop b dual i j k n m₀ m = (m ≤ n) × NoneBelow (missed (facing (b .rows
 abbrev μ-loop : tie.MeasureT-loop
 μ-loop b dual i j k n m₀ m = n - m
 
--- src/bounds.rt:41:5
 loop-holds : tie.Need-loop-holds Inv-loop μ-loop
 loop-holds c = (search needs, below-none _)
 
--- src/bounds.rt:42:12
 is-missed-requires : tie.Need-is-missed-requires Inv-loop μ-loop
 is-missed-requires c κs = search needs
 
--- src/bounds.rt:43:13
 returns : tie.Need-returns Inv-loop μ-loop
 returns c = sym (any-some _ _ _ (c .before .before .loop-test .taken) (sym (c .before .is-missed .ensures) ∙ c .if1 .taken))
 
--- src/bounds.rt:45:9
 add-m : tie.Need-add-m Inv-loop μ-loop
 add-m c = search needs
 
--- src/bounds.rt:41:5
 loop-less : tie.Need-loop-less Inv-loop μ-loop
 loop-less c = search needs
 
--- src/bounds.rt:41:5
 loop-again : tie.Need-loop-again Inv-loop μ-loop
 loop-again c = (search needs, below-more _ _ (c .before .before .before .loop .inv .1) (sym (c .before .is-missed .ensures) ∙ c .if1 .left))
 
--- src/bounds.rt:35:1
 returns-2 : tie.Need-returns-2 Inv-loop μ-loop
 returns-2 c = sym (any-none _ _ (past (c .loop-test .left) (c .before .loop .inv .1)))
 

@@ -1,3 +1,4 @@
+-- `greatest`: no level below t is the greatest.
 use mathlib.Core.Path.{_≡_, sym, _∙_}
 use Prim.Native.Nat.{_-_, _≤_}
 use borrow.Author.Count.{below-none, below-more}
@@ -9,9 +10,6 @@ use native.Mathlib.Nat.{le-antisymm}
 use borrow.Author.Needs.{needs}
 use Rattle.lattice.proofs.bounds.greatest.Statement.{statement}
 use Rattle.lattice.proofs.bounds.greatest.Tie as tie
-use Rattle.lattice.proofs.bounds.greatest.Reads as reads
-use Rattle.lattice.proofs.bounds.greatest.Lts as lts
-use Rattle.lattice.proofs.bounds.is_greatest.Reads as is-greatest-reads
 
 abbrev Inv-loop : tie.InvT-loop
 Inv-loop b dual n t₀ t = (t ≤ n) × NoneBelow (λ x. all (λ i. facing (b .rows) dual i x) n) t
@@ -19,32 +17,25 @@ Inv-loop b dual n t₀ t = (t ≤ n) × NoneBelow (λ x. all (λ i. facing (b .r
 abbrev μ-loop : tie.MeasureT-loop
 μ-loop b dual n t₀ t = n - t
 
--- src/bounds.rt:125:5
 loop-holds : tie.Need-loop-holds Inv-loop μ-loop
 loop-holds c = (search needs, below-none _)
 
--- src/bounds.rt:126:12
 is-greatest-requires : tie.Need-is-greatest-requires Inv-loop μ-loop
 is-greatest-requires c κs = search needs
 
--- src/bounds.rt:127:13
 returns : tie.Need-returns Inv-loop μ-loop
 unfolding top
 returns c = sym (first-is _ _ _ (c .before .before .loop-test .taken) (sym (c .before .is-greatest .ensures) ∙ c .if1 .taken) (c .before .before .before .loop .inv .1))
 
--- src/bounds.rt:129:9
 add-t : tie.Need-add-t Inv-loop μ-loop
 add-t c = search needs
 
--- src/bounds.rt:125:5
 loop-less : tie.Need-loop-less Inv-loop μ-loop
 loop-less c = search needs
 
--- src/bounds.rt:125:5
 loop-again : tie.Need-loop-again Inv-loop μ-loop
 loop-again c = (search needs, below-more _ _ (c .before .before .before .loop .inv .1) (sym (c .before .is-greatest .ensures) ∙ c .if1 .left))
 
--- src/bounds.rt:119:1
 returns-2 : tie.Need-returns-2 Inv-loop μ-loop
 unfolding top
 returns-2 c = sym (first-none _ _ (past (c .loop-test .left) (c .before .loop .inv .1)) ∙ le-antisymm (c .loop-test .left) (c .before .loop .inv .0))

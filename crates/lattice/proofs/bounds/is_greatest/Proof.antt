@@ -1,3 +1,4 @@
+-- `is_greatest`: the levels below i are at or below t.
 use mathlib.Core.Path.{_≡_, sym, _∙_}
 use Prim.Native.Nat.{_-_, _≤_}
 use native.Mathlib.Nat.{lt-of-lt-of-le}
@@ -8,9 +9,6 @@ use Rattle.lattice.specs.LevelBook.{facing}
 use borrow.Author.Needs.{needs}
 use Rattle.lattice.proofs.bounds.is_greatest.Statement.{statement}
 use Rattle.lattice.proofs.bounds.is_greatest.Tie as tie
-use Rattle.lattice.proofs.bounds.is_greatest.Reads as reads
-use Rattle.lattice.proofs.bounds.is_greatest.Lts as lts
-use Rattle.lattice.proofs.bounds.below.Reads as below-reads
 
 abbrev Inv-loop : tie.InvT-loop
 Inv-loop b dual t n i₀ i = (i ≤ n) × AllBelow (λ x. facing (b .rows) dual x t) i
@@ -18,31 +16,24 @@ Inv-loop b dual t n i₀ i = (i ≤ n) × AllBelow (λ x. facing (b .rows) dual 
 abbrev μ-loop : tie.MeasureT-loop
 μ-loop b dual t n i₀ i = n - i
 
--- src/bounds.rt:110:5
 loop-holds : tie.Need-loop-holds Inv-loop μ-loop
 loop-holds c = (search needs, below-none _)
 
--- src/bounds.rt:111:13
 below-requires : tie.Need-below-requires Inv-loop μ-loop
 below-requires c κs = search needs
 
--- src/bounds.rt:112:13
 returns : tie.Need-returns Inv-loop μ-loop
 returns c = sym (all-fails _ _ _ (c .before .before .loop-test .taken) (sym (c .before .below .ensures) ∙ not-true _ (c .if1 .taken)))
 
--- src/bounds.rt:114:9
 add-i : tie.Need-add-i Inv-loop μ-loop
 add-i c = search needs
 
--- src/bounds.rt:110:5
 loop-less : tie.Need-loop-less Inv-loop μ-loop
 loop-less c = search needs
 
--- src/bounds.rt:110:5
 loop-again : tie.Need-loop-again Inv-loop μ-loop
 loop-again c = (search needs, below-more _ _ (c .before .before .before .loop .inv .1) (sym (c .before .below .ensures) ∙ not-false _ (c .if1 .left)))
 
--- src/bounds.rt:104:1
 returns-2 : tie.Need-returns-2 Inv-loop μ-loop
 returns-2 c = sym (all-intro _ _ (λ k l. c .before .loop .inv .1 k (lt-of-lt-of-le l (c .loop-test .left))))
 

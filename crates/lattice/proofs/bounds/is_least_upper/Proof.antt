@@ -1,34 +1,25 @@
+-- `is_least_upper`: each way out decides one test of the definition.
 use mathlib.Core.Path.{_≡_, sym, ap, _∙_}
 use mathlib.Core.Bool.{not}
 use borrow.Author.Needs.{needs}
 use Rattle.lattice.proofs.bounds.is_least_upper.Statement.{statement}
 use Rattle.lattice.proofs.bounds.is_least_upper.Tie as tie
-use Rattle.lattice.proofs.bounds.is_least_upper.Reads as reads
-use Rattle.lattice.proofs.bounds.is_least_upper.Lts as lts
-use Rattle.lattice.proofs.bounds.any_missed.Reads as any-missed-reads
-use Rattle.lattice.proofs.bounds.below.Reads as below-reads
 
--- src/bounds.rt:54:8
 below-requires : tie.Need-below-requires
 below-requires c κs = search needs
 
--- src/bounds.rt:55:12
 below-requires-2 : tie.Need-below-requires-2
 below-requires-2 c κs = search needs
 
--- src/bounds.rt:56:21
 any-missed-requires : tie.Need-any-missed-requires
 any-missed-requires c κs = search needs
 
--- src/bounds.rt:56:13
 returns : tie.Need-returns
 returns c = simp (sym (c .before .before .before .before .below .ensures) ∙ c .before .before .before .if1 .taken, sym (c .before .before .below2 .ensures) ∙ c .before .if2 .taken) (ap not (c .any-missed .ensures))
 
--- src/bounds.rt:50:1
 returns-2 : tie.Need-returns-2
 returns-2 c = simp (sym (c .before .before .before .below .ensures) ∙ c .before .before .if1 .taken, sym (c .before .below2 .ensures) ∙ c .if2 .left)
 
--- src/bounds.rt:50:1
 returns-3 : tie.Need-returns-3
 returns-3 c = simp (sym (c .before .below .ensures) ∙ c .if1 .left)
 

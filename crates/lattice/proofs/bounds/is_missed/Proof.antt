@@ -1,33 +1,25 @@
+-- `is_missed`: each way out decides one test of the definition.
 use mathlib.Core.Path.{_≡_, sym, ap, _∙_}
 use mathlib.Core.Bool.{not}
 use borrow.Author.Needs.{needs}
 use Rattle.lattice.proofs.bounds.is_missed.Statement.{statement}
 use Rattle.lattice.proofs.bounds.is_missed.Tie as tie
-use Rattle.lattice.proofs.bounds.is_missed.Reads as reads
-use Rattle.lattice.proofs.bounds.is_missed.Lts as lts
-use Rattle.lattice.proofs.bounds.below.Reads as below-reads
 
--- src/bounds.rt:27:8
 below-requires : tie.Need-below-requires
 below-requires c κs = search needs
 
--- src/bounds.rt:28:12
 below-requires-2 : tie.Need-below-requires-2
 below-requires-2 c κs = search needs
 
--- src/bounds.rt:29:21
 below-requires-3 : tie.Need-below-requires-3
 below-requires-3 c κs = search needs
 
--- src/bounds.rt:29:13
 returns : tie.Need-returns
 returns c = simp (sym (c .before .before .before .before .below .ensures) ∙ c .before .before .before .if1 .taken, sym (c .before .before .below2 .ensures) ∙ c .before .if2 .taken) (ap not (c .below3 .ensures))
 
--- src/bounds.rt:23:1
 returns-2 : tie.Need-returns-2
 returns-2 c = simp (sym (c .before .before .before .below .ensures) ∙ c .before .before .if1 .taken, sym (c .before .below2 .ensures) ∙ c .if2 .left)
 
--- src/bounds.rt:23:1
 returns-3 : tie.Need-returns-3
 returns-3 c = simp (sym (c .before .below .ensures) ∙ c .if1 .left)
 

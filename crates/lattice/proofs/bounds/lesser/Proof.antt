@@ -1,16 +1,13 @@
+-- `lesser`: by the test.
 use mathlib.Core.Path.{sym}
 use borrow.Author.Tests.{le-leb, lt-leb}
 use borrow.Author.Needs.{needs}
 use Rattle.lattice.proofs.bounds.lesser.Statement.{statement}
 use Rattle.lattice.proofs.bounds.lesser.Tie as tie
-use Rattle.lattice.proofs.bounds.lesser.Reads as reads
-use Rattle.lattice.proofs.bounds.lesser.Lts as lts
 
--- src/bounds.rt:102:9
 returns : tie.Need-returns
 returns c = sym (simp (le-leb _ _ (c .if1 .taken)))
 
--- src/bounds.rt:98:1
 returns-2 : tie.Need-returns-2
 returns-2 c = sym (simp (lt-leb _ _ (c .if1 .left)))
 

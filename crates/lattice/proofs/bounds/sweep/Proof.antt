@@ -1,3 +1,4 @@
+-- `sweep`: the own entries and the pairs up to the one at hand are done (`Sweeps`), and no level below k is the least common upper one.
 use mathlib.Core.Path.{_≡_, sym, _∙_, subst}
 use mathlib.Core.Logic.{⊎-elim}
 use Prim.Native.Nat.{_+_, _*_, _-_, _≤_, _<_}
@@ -6,15 +7,12 @@ use native.Mathlib.Omega.{arith}
 use borrow.Author.Count.{below-none, below-more}
 use Rattle.prelude.proofs.Searches.{NoneBelow, past, first-is, first-none}
 use Rattle.lattice.specs.Order.{isLeastUpper, leastUpper}
-use Rattle.lattice.specs.LevelBook.{facing}
+use Rattle.lattice.specs.LevelBook.{mostLevels, facing}
 use Rattle.lattice.specs.Bounds.{Swept}
 use Rattle.lattice.proofs.Sweeps.{Done, start, own-next, pair-next, row-next, finish, stop}
 use borrow.Author.Needs.{needs}
 use Rattle.lattice.proofs.bounds.sweep.Statement.{statement}
 use Rattle.lattice.proofs.bounds.sweep.Tie as tie
-use Rattle.lattice.proofs.bounds.sweep.Reads as reads
-use Rattle.lattice.proofs.bounds.sweep.Lts as lts
-use Rattle.lattice.proofs.bounds.is_least_upper.Reads as is-least-upper-reads
 
 abbrev Inv-levels : tie.InvT-levels
 Inv-levels b dual t n place i j k₀ k = (k ≤ n) × NoneBelow (isLeastUpper (facing (b .rows) dual) n i j) k
@@ -23,17 +21,16 @@ abbrev μ-levels : tie.MeasureT-levels
 μ-levels b dual t n place i j k₀ k = n - k
 
 abbrev Inv-others : tie.InvT-others
-Inv-others b dual t₀ n place₀ i j₀ t place j = (i < j) × ((j ≤ n) × ((place ≡ 256) × Done (facing (b .rows) dual) n (i + 1) (16 * i + j) t))
+Inv-others b dual t₀ n place₀ i j₀ t place j = (i < j) × ((j ≤ n) × ((place ≡ mostLevels * mostLevels) × Done (facing (b .rows) dual) n (i + 1) (mostLevels * i + j) t))
 
 abbrev μ-others : tie.MeasureT-others
 μ-others b dual t₀ n place₀ i j₀ t place j = n - j
 
 abbrev Inv-pairs : tie.InvT-pairs
-Inv-pairs b dual t₀ n place₀ i₀ t place i = (i ≤ n) × ((place ≡ 256) × Done (facing (b .rows) dual) n i (16 * i) t)
+Inv-pairs b dual t₀ n place₀ i₀ t place i = (i ≤ n) × ((place ≡ mostLevels * mostLevels) × Done (facing (b .rows) dual) n i (mostLevels * i) t)
 
 abbrev μ-pairs : tie.MeasureT-pairs
 μ-pairs b dual t₀ n place₀ i₀ t place i = n - i
-
 
 -- where the search over the levels has ended, k is what it finds
 least-is :
@@ -51,120 +48,91 @@ least-is l =
     (λ w. first-is _ _ _ (w .0 .taken) (sym (w .1 .ensures) ∙ w .2 .taken) (l .before .levels .inv .1))
     (l .levels-test .came)
 
--- src/bounds.rt:71:5
 pairs-holds : tie.Need-pairs-holds Inv-levels μ-levels Inv-others μ-others Inv-pairs μ-pairs
 pairs-holds c = (search needs, (search needs, start _ _ (search needs) _ (c .pre .1)))
 
--- src/bounds.rt:72:19
 cast-t : tie.Need-cast-t Inv-levels μ-levels Inv-others μ-others Inv-pairs μ-pairs
 cast-t c = search needs
 
--- src/bounds.rt:72:9
 mul-t : tie.Need-mul-t Inv-levels μ-levels Inv-others μ-others Inv-pairs μ-pairs
 mul-t c = search needs
 
--- src/bounds.rt:72:9
 index-1-t : tie.Need-index-1-t Inv-levels μ-levels Inv-others μ-others Inv-pairs μ-pairs
 index-1-t c = search needs
 
--- src/bounds.rt:72:9
 index-2-t : tie.Need-index-2-t Inv-levels μ-levels Inv-others μ-others Inv-pairs μ-pairs
 index-2-t c = search needs
 
--- src/bounds.rt:73:21
 add-j : tie.Need-add-j Inv-levels μ-levels Inv-others μ-others Inv-pairs μ-pairs
 add-j c = search needs
 
--- src/bounds.rt:74:9
 others-holds : tie.Need-others-holds Inv-levels μ-levels Inv-others μ-others Inv-pairs μ-pairs
 others-holds c = (search needs, (search needs, (search needs, own-next _ _ (search needs) _ _ (c .pairs-test .taken) (c .before .pairs .inv .1 .1))))
 
--- src/bounds.rt:76:13
 levels-holds : tie.Need-levels-holds Inv-levels μ-levels Inv-others μ-others Inv-pairs μ-pairs
 levels-holds c = (search needs, below-none _)
 
--- src/bounds.rt:77:20
 is-least-upper-requires :
     tie.Need-is-least-upper-requires Inv-levels μ-levels Inv-others μ-others Inv-pairs μ-pairs
 is-least-upper-requires c κs = search needs
 
--- src/bounds.rt:80:17
 add-k : tie.Need-add-k Inv-levels μ-levels Inv-others μ-others Inv-pairs μ-pairs
 add-k c = search needs
 
--- src/bounds.rt:76:13
 levels-less : tie.Need-levels-less Inv-levels μ-levels Inv-others μ-others Inv-pairs μ-pairs
 levels-less c = search needs
 
--- src/bounds.rt:76:13
 levels-again : tie.Need-levels-again Inv-levels μ-levels Inv-others μ-others Inv-pairs μ-pairs
 levels-again c = (search needs, below-more _ _ (c .before .before .before .levels .inv .1) (sym (c .before .is-least-upper .ensures) ∙ c .if1 .left))
 
--- src/bounds.rt:83:25
 mul-place : tie.Need-mul-place Inv-levels μ-levels Inv-others μ-others Inv-pairs μ-pairs
 mul-place c = search needs
 
--- src/bounds.rt:83:25
 add-place : tie.Need-add-place Inv-levels μ-levels Inv-others μ-others Inv-pairs μ-pairs
 add-place c = search needs
 
--- src/bounds.rt:86:23
 cast-t-2 : tie.Need-cast-t-2 Inv-levels μ-levels Inv-others μ-others Inv-pairs μ-pairs
 cast-t-2 c = search needs
 
--- src/bounds.rt:86:13
 mul-t-2 : tie.Need-mul-t-2 Inv-levels μ-levels Inv-others μ-others Inv-pairs μ-pairs
 mul-t-2 c = search needs
 
--- src/bounds.rt:86:13
 index-1-t-2 : tie.Need-index-1-t-2 Inv-levels μ-levels Inv-others μ-others Inv-pairs μ-pairs
 index-1-t-2 c = search needs
 
--- src/bounds.rt:86:13
 index-2-t-2 : tie.Need-index-2-t-2 Inv-levels μ-levels Inv-others μ-others Inv-pairs μ-pairs
 index-2-t-2 c = search needs
 
--- src/bounds.rt:87:23
 cast-t-3 : tie.Need-cast-t-3 Inv-levels μ-levels Inv-others μ-others Inv-pairs μ-pairs
 cast-t-3 c = search needs
 
--- src/bounds.rt:87:13
 mul-t-3 : tie.Need-mul-t-3 Inv-levels μ-levels Inv-others μ-others Inv-pairs μ-pairs
 mul-t-3 c = search needs
 
--- src/bounds.rt:87:13
 index-1-t-3 : tie.Need-index-1-t-3 Inv-levels μ-levels Inv-others μ-others Inv-pairs μ-pairs
 index-1-t-3 c = search needs
 
--- src/bounds.rt:87:13
 index-2-t-3 : tie.Need-index-2-t-3 Inv-levels μ-levels Inv-others μ-others Inv-pairs μ-pairs
 index-2-t-3 c = search needs
 
--- src/bounds.rt:88:13
 add-j-2 : tie.Need-add-j-2 Inv-levels μ-levels Inv-others μ-others Inv-pairs μ-pairs
 add-j-2 c = search needs
 
--- src/bounds.rt:74:9
 others-less : tie.Need-others-less Inv-levels μ-levels Inv-others μ-others Inv-pairs μ-pairs
 others-less c = search needs
 
--- src/bounds.rt:74:9
 others-again : tie.Need-others-again Inv-levels μ-levels Inv-others μ-others Inv-pairs μ-pairs
 others-again c = (search needs, (search needs, (search needs, pair-next _ _ (search needs) _ _ _ _ (c .before .before .before .before .others .inv .0) (c .before .before .before .others-test .taken) (least-is (c .before)) (search needs) (c .before .before .before .before .others .inv .1 .1 .1))))
 
--- src/bounds.rt:90:9
 add-i : tie.Need-add-i Inv-levels μ-levels Inv-others μ-others Inv-pairs μ-pairs
 add-i c = search needs
 
--- src/bounds.rt:71:5
 pairs-less : tie.Need-pairs-less Inv-levels μ-levels Inv-others μ-others Inv-pairs μ-pairs
 pairs-less c = search needs
 
--- src/bounds.rt:71:5
 pairs-again : tie.Need-pairs-again Inv-levels μ-levels Inv-others μ-others Inv-pairs μ-pairs
 pairs-again c = (search needs, (search needs, row-next _ _ (search needs) _ _ _ (c .others-test .left) (c .before .others .inv .1 .1 .1)))
 
--- src/bounds.rt:64:1
 returns : tie.Need-returns Inv-levels μ-levels Inv-others μ-others Inv-pairs μ-pairs
 returns c =
     subst
@@ -172,7 +140,6 @@ returns c =
     (sym (c .before .pairs .inv .1 .0))
     (finish _ _ (search needs) _ _ (c .pairs-test .left) (c .before .pairs .inv .1 .1))
 
--- src/bounds.rt:64:1
 returns-2 : tie.Need-returns-2 Inv-levels μ-levels Inv-others μ-others Inv-pairs μ-pairs
 returns-2 c = stop _ _ (search needs) _ _ _ _ (c .before .before .before .before .others .inv .0) (c .before .before .before .others-test .taken) (least-is (c .before) ∙ c .if2 .taken) (c .before .before .before .before .others .inv .1 .1 .1)
 

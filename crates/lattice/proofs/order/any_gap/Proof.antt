@@ -1,3 +1,4 @@
+-- `any_gap`: the levels below k show no gap.
 use borrow.Author.Needs.{needs}
 use mathlib.Core.Path.{_≡_, sym, _∙_}
 use Prim.Native.Nat.{_-_, _≤_}
@@ -7,9 +8,6 @@ use Rattle.lattice.specs.Order.{gap}
 use Rattle.lattice.specs.LevelBook.{atOrBelow}
 use Rattle.lattice.proofs.order.any_gap.Statement.{statement}
 use Rattle.lattice.proofs.order.any_gap.Tie as tie
-use Rattle.lattice.proofs.order.any_gap.Reads as reads
-use Rattle.lattice.proofs.order.any_gap.Lts as lts
-use Rattle.lattice.proofs.order.is_gap.Reads as is-gap-reads
 
 abbrev Inv-loop : tie.InvT-loop
 Inv-loop b i j n k₀ k = (k ≤ n) × NoneBelow (gap (atOrBelow (b .rows)) i j) k
@@ -17,31 +15,24 @@ Inv-loop b i j n k₀ k = (k ≤ n) × NoneBelow (gap (atOrBelow (b .rows)) i j)
 abbrev μ-loop : tie.MeasureT-loop
 μ-loop b i j n k₀ k = n - k
 
--- src/order.rt:45:5
 loop-holds : tie.Need-loop-holds Inv-loop μ-loop
 loop-holds c = (search needs, below-none _)
 
--- src/order.rt:46:12
 is-gap-requires : tie.Need-is-gap-requires Inv-loop μ-loop
 is-gap-requires c κs = search needs
 
--- src/order.rt:47:13
 returns : tie.Need-returns Inv-loop μ-loop
 returns c = sym (any-some _ _ _ (c .before .before .loop-test .taken) (sym (c .before .is-gap .ensures) ∙ c .if1 .taken))
 
--- src/order.rt:49:9
 add-k : tie.Need-add-k Inv-loop μ-loop
 add-k c = search needs
 
--- src/order.rt:45:5
 loop-less : tie.Need-loop-less Inv-loop μ-loop
 loop-less c = search needs
 
--- src/order.rt:45:5
 loop-again : tie.Need-loop-again Inv-loop μ-loop
 loop-again c = (search needs, below-more _ _ (c .before .before .before .loop .inv .1) (sym (c .before .is-gap .ensures) ∙ c .if1 .left))
 
--- src/order.rt:39:1
 returns-2 : tie.Need-returns-2 Inv-loop μ-loop
 returns-2 c = sym (any-none _ _ (past (c .loop-test .left) (c .before .loop .inv .1)))
 

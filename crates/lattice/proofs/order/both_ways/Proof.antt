@@ -1,29 +1,22 @@
+-- `both_ways`: each way out decides one test of the definition.
 use mathlib.Core.Path.{_≡_, sym, ap, _∙_}
 use borrow.Author.Tests.{eq-eqb, ne-eqb}
 use borrow.Author.Needs.{needs}
 use Rattle.lattice.proofs.order.both_ways.Statement.{statement}
 use Rattle.lattice.proofs.order.both_ways.Tie as tie
-use Rattle.lattice.proofs.order.both_ways.Reads as reads
-use Rattle.lattice.proofs.order.both_ways.Lts as lts
-use Rattle.lattice.proofs.book.at_or_below.Reads as at-or-below-reads
 
--- src/order.rt:18:9
 returns : tie.Need-returns
 returns c = simp (eq-eqb _ _ (c .if1 .taken))
 
--- src/order.rt:20:8
 at-or-below-requires : tie.Need-at-or-below-requires
 at-or-below-requires c κs = search needs
 
--- src/order.rt:21:9
 at-or-below-requires-2 : tie.Need-at-or-below-requires-2
 at-or-below-requires-2 c κs = search needs
 
--- src/order.rt:21:9
 returns-2 : tie.Need-returns-2
 returns-2 c = simp (ne-eqb _ _ (c .before .before .before .if1 .left), sym (c .before .before .at-or-below .ensures) ∙ c .before .if2 .taken) (c .at-or-below2 .ensures)
 
--- src/order.rt:13:1
 returns-3 : tie.Need-returns-3
 returns-3 c = simp (ne-eqb _ _ (c .before .before .if1 .left), sym (c .before .at-or-below .ensures) ∙ c .if2 .left)
 

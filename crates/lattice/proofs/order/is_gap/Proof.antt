@@ -1,33 +1,25 @@
+-- `is_gap`: each way out decides one test of the definition.
 use mathlib.Core.Path.{_≡_, sym, ap, _∙_}
 use mathlib.Core.Bool.{not}
 use borrow.Author.Needs.{needs}
 use Rattle.lattice.proofs.order.is_gap.Statement.{statement}
 use Rattle.lattice.proofs.order.is_gap.Tie as tie
-use Rattle.lattice.proofs.order.is_gap.Reads as reads
-use Rattle.lattice.proofs.order.is_gap.Lts as lts
-use Rattle.lattice.proofs.book.at_or_below.Reads as at-or-below-reads
 
--- src/order.rt:31:8
 at-or-below-requires : tie.Need-at-or-below-requires
 at-or-below-requires c κs = search needs
 
--- src/order.rt:32:12
 at-or-below-requires-2 : tie.Need-at-or-below-requires-2
 at-or-below-requires-2 c κs = search needs
 
--- src/order.rt:33:21
 at-or-below-requires-3 : tie.Need-at-or-below-requires-3
 at-or-below-requires-3 c κs = search needs
 
--- src/order.rt:33:13
 returns : tie.Need-returns
 returns c = simp (sym (c .before .before .before .before .at-or-below .ensures) ∙ c .before .before .before .if1 .taken, sym (c .before .before .at-or-below2 .ensures) ∙ c .before .if2 .taken) (ap not (c .at-or-below3 .ensures))
 
--- src/order.rt:27:1
 returns-2 : tie.Need-returns-2
 returns-2 c = simp (sym (c .before .before .before .at-or-below .ensures) ∙ c .before .before .if1 .taken, sym (c .before .at-or-below2 .ensures) ∙ c .if2 .left)
 
--- src/order.rt:27:1
 returns-3 : tie.Need-returns-3
 returns-3 c = simp (sym (c .before .at-or-below .ensures) ∙ c .if1 .left)
 

@@ -1,0 +1,71 @@
+// Prints what the library makes of some level books. What it prints is held to the file stdout.
+use lattice::book::Book;
+use lattice::book::PairTable;
+use libc::STDOUT_FILENO;
+ghost use Prim.Native.Nat.{_<_, _≤_};
+ghost use Rattle.lattice.specs.LevelBook.{mostLevels};
+
+fn say(word: &[u8], n: usize) {
+    io::write_all(STDOUT_FILENO, word);
+    io::print_decimal(STDOUT_FILENO, n as u64);
+}
+
+fn end_line() {
+    io::write_all(STDOUT_FILENO, b"\n");
+}
+
+// The levels that a table keeps for level i and each level.
+fn say_row(t: &PairTable, n: usize, i: usize)
+    requires { ⌜ (i < n) × (n ≤ mostLevels) ⌝ }
+{
+    let mut j: usize = 0;
+    while j < n {
+        say(b" ", lattice::bounds::level_at(t, i, j));
+        j += 1;
+    }
+    end_line();
+}
+
+fn say_table(t: &PairTable, n: usize)
+    requires { ⌜ n ≤ mostLevels ⌝ }
+{
+    let mut i: usize = 0;
+    while i < n {
+        say_row(t, n, i);
+        i += 1;
+    }
+}
+
+fn show(s: &[u8]) {
+    let mut join = [[0u8; Book::MAX_LEVELS]; Book::MAX_LEVELS];
+    let mut meet = [[0u8; Book::MAX_LEVELS]; Book::MAX_LEVELS];
+    let loaded = lattice::load(s, &mut join, &mut meet);
+    if 0 < loaded.refusal.number {
+        say(b"refused ", loaded.refusal.number as usize);
+        say(b" ", loaded.refusal.place as usize);
+        end_line();
+        return;
+    }
+    let b = loaded.book;
+    say(b"levels ", b.count);
+    say(b" bottom ", lattice::bounds::bottom_of(b));
+    say(b" top ", lattice::bounds::top_of(b));
+    end_line();
+    say_table(&join, b.count);
+    say_table(&meet, b.count);
+}
+
+fn main() {
+    show(b"\x02\x00\x03\x00\x02");
+    show(b"\x04\x00\x01\x00\x03\x00\x05\x00\x0f");
+    show(b"");
+    show(b"\x00");
+    show(b"\x01\x00\x01\x00");
+    show(b"\x02\x00\x03");
+    show(b"\x02\x00\x03\x00\x00");
+    show(b"\x01\x00\x03");
+    show(b"\x02\x00\x03\x00\x03");
+    show(b"\x03\x00\x03\x00\x06\x00\x04");
+    show(b"\x02\x00\x01\x00\x02");
+    show(b"\x06\x00\x3f\x00\x3a\x00\x3c\x00\x28\x00\x30\x00\x20");
+}
