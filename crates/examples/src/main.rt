@@ -20,7 +20,7 @@ fn say_row(t: &PairTable, n: usize, i: usize)
 {
     let mut j: usize = 0;
     while j < n {
-        say(b" ", lattice::bounds::level_at(t, i, j));
+        say(b" ", lattice::book::level_at(t, i, j));
         j += 1;
     }
     end_line();
@@ -48,8 +48,8 @@ fn show(s: &[u8]) {
     }
     let b = loaded.book;
     say(b"levels ", b.count);
-    say(b" bottom ", lattice::bounds::bottom_of(b));
-    say(b" top ", lattice::bounds::top_of(b));
+    say(b" bottom ", lattice::bottom_of(b));
+    say(b" top ", lattice::top_of(b));
     end_line();
     say_table(&join, b.count);
     say_table(&meet, b.count);

@@ -40,16 +40,18 @@ pub record Passing (s : List ℕ) : Type 0 where
 pub passing : (s : List ℕ) → isAccepted s ≡ true → Passing s
 unfolding refusal firstFaulty firstLacking
 passing s h =
-    let w : (not (sizeIsRight s) ≡ false) × ((ltb (firstFaulty (rows s) (count s)) (count s) ≡ false) × (ltb (firstLacking (atOrBelow (rows s)) (count s)) (mostLevels * mostLevels) ≡ false)) = parts _ _ _ _ _ h in
-    let f : ℕ → Bool = isFaulty (rows s) (count s) in
-    let g : ℕ → Bool = λ p. lacksUpper (atOrBelow (rows s)) (count s) p || lacksUpper (converse (atOrBelow (rows s))) (count s) p in
+    let R : Relation = atOrBelow (rows s) in
+    let n : ℕ = count s in
+    let most : ℕ = mostLevels * mostLevels in
+    let f : ℕ → Bool = isFaulty (rows s) n in
+    let g : ℕ → Bool = λ p. lacksUpper R n p || lacksUpper (converse R) n p in
+    let w : (not (sizeIsRight s) ≡ false) × ((ltb (first f n) n ≡ false) × (ltb (first g most) most ≡ false)) =
+    parts _ _ _ _ _ h
+    in
     record {
       size = not-false _ (w .0);
-      faultless =
-          first-at-end f (count s) (omega (arith, first-within f (count s), ltb-false (first f (count s)) (count s) (w .1 .0)));
-      complete =
-          first-at-end g (mostLevels * mostLevels)
-          (omega (arith, first-within g (mostLevels * mostLevels), ltb-false (first g (mostLevels * mostLevels)) (mostLevels * mostLevels) (w .1 .1)));
+      faultless = first-at-end f n (omega (arith, first-within f n, ltb-false (first f n) n (w .1 .0)));
+      complete = first-at-end g most (omega (arith, first-within g most, ltb-false (first g most) most (w .1 .1)));
     }
 
 -- a level with no fault, over the rows and any number of levels
@@ -75,7 +77,9 @@ module _ (rs : List ℕ) (n : ℕ) (faultless : NoneBelow (isFaulty rs n) n) whe
         transitive =
             λ i j k a b c u v.
             not-false _ (fails _ (λ e.
-            false≢true (sym (none-of-any (gap (atOrBelow rs) i j) n (or-right (bothWays (atOrBelow rs) i j) _ (at-pair i j a b)) k c) ∙ and-intro _ _ u (and-intro _ _ v e))));
+            false≢true
+            (sym (none-of-any (gap (atOrBelow rs) i j) n (or-right (bothWays (atOrBelow rs) i j) _ (at-pair i j a b)) k c)
+            ∙ and-intro _ _ u (and-intro _ _ v e))));
       }
 
 -- a pair that does not lack its least common upper level has it

@@ -4,6 +4,7 @@ ghost use Prim.Native.Nat.{_+_, _*_, _<_, _≤_};
 ghost use mathlib.Core.Bool.{true};
 ghost use lib.ListN.{length};
 ghost use Rattle.lattice.specs.LevelBook.{mostLevels, count, row, rows, sizeIsRight, atOrBelow};
+ghost use Rattle.lattice.specs.Bounds.{kept};
 ghost use Rattle.lattice.specs.Load.{bookOf};
 
 // The number of levels, and for each level the set of the levels that it is at or below: bit j for level j.
@@ -29,6 +30,14 @@ pub fn at_or_below(b: Book, i: usize, j: usize) -> bool
     ensures { λ r. ⌜ r ≡ atOrBelow (b .rows) i j ⌝ }
 {
     (b.rows[i] >> j) % 2 == 1
+}
+
+// The level that a table keeps for the pair of i and j.
+pub fn level_at(t: &PairTable, i: usize, j: usize) -> usize
+    requires { ⌜ (i < mostLevels) × (j < mostLevels) ⌝ }
+    ensures { λ r. ⌜ r ≡ kept (now (t .entry)) i j ⌝ }
+{
+    prelude::wide(t[i][j])
 }
 
 // The length and the number of levels are those of a book.

@@ -1,4 +1,4 @@
-// Common upper and lower levels. A function that takes `dual` works on the order upside down where it is set,
+// Common upper and lower levels, and the greatest and the least level of all. A function that takes `dual` works on the order upside down where it is set,
 // so that one search serves both: the greatest common lower level is the least common upper one upside down.
 use crate::book::Book;
 use crate::book::PairTable;
@@ -8,9 +8,9 @@ ghost use mathlib.Core.Bool.{cond};
 ghost use lib.Dec.{leb};
 ghost use Prim.Native.Nat.{_<_, _≤_};
 ghost use Rattle.prelude.specs.Search.{any, all};
-ghost use Rattle.lattice.specs.Order.{missed, isLeastUpper, top, bottom};
-ghost use Rattle.lattice.specs.LevelBook.{mostLevels, atOrBelow, facing};
-ghost use Rattle.lattice.specs.Bounds.{kept, Square, Swept};
+ghost use Rattle.lattice.specs.Order.{missed, isLeastUpper, top};
+ghost use Rattle.lattice.specs.LevelBook.{mostLevels, facing};
+ghost use Rattle.lattice.specs.Bounds.{Square, Swept};
 
 fn below(b: Book, dual: bool, i: usize, j: usize) -> bool
     requires { ⌜ (i < mostLevels) × (j < mostLevels) ⌝ }
@@ -105,14 +105,6 @@ pub fn lesser(a: usize, b: usize) -> usize
     b
 }
 
-// What a table keeps for a pair: their join or their meet, by the table.
-pub fn level_at(t: &PairTable, i: usize, j: usize) -> usize
-    requires { ⌜ (i < mostLevels) × (j < mostLevels) ⌝ }
-    ensures { λ r. ⌜ r ≡ kept (now (t .entry)) i j ⌝ }
-{
-    prelude::wide(t[i][j])
-}
-
 // Every level is at or below t.
 fn is_greatest(b: Book, dual: bool, t: usize) -> bool
     requires { ⌜ (t < mostLevels) × (b .count ≤ mostLevels) ⌝ }
@@ -129,7 +121,8 @@ fn is_greatest(b: Book, dual: bool, t: usize) -> bool
     true
 }
 
-fn greatest(b: Book, dual: bool) -> usize
+// The level that every level is at or below, or the number of levels.
+pub fn greatest(b: Book, dual: bool) -> usize
     requires { ⌜ b .count ≤ mostLevels ⌝ }
     ensures { λ r. ⌜ r ≡ top (facing (b .rows) dual) (b .count) ⌝ }
 {
@@ -142,18 +135,4 @@ fn greatest(b: Book, dual: bool) -> usize
         t += 1;
     }
     t
-}
-
-pub fn top_of(b: Book) -> usize
-    requires { ⌜ b .count ≤ mostLevels ⌝ }
-    ensures { λ r. ⌜ r ≡ top (atOrBelow (b .rows)) (b .count) ⌝ }
-{
-    greatest(b, false)
-}
-
-pub fn bottom_of(b: Book) -> usize
-    requires { ⌜ b .count ≤ mostLevels ⌝ }
-    ensures { λ r. ⌜ r ≡ bottom (atOrBelow (b .rows)) (b .count) ⌝ }
-{
-    greatest(b, true)
 }

@@ -1,15 +1,16 @@
 // The level book: any bytes in; out comes a checked book with the join and meet of every pair, or a refusal.
 pub mod book; // book.rt: the book by value, and how it is read from bytes
-pub mod order; // order.rt: the faults of refusal 2
-pub mod bounds; // bounds.rt: common upper and lower levels, refusal 3, top and bottom
+mod order; // order.rt: the faults of refusal 2
+mod bounds; // bounds.rt: common upper and lower levels, refusal 3, the greatest and the least level
 
 use crate::book::Book;
 use crate::book::PairTable;
 use prelude::Refusal;
 ghost use mathlib.Core.Path.{_≡_};
 ghost use Prim.Native.Nat.{_*_, _≤_};
+ghost use Rattle.lattice.specs.Order.{top, bottom};
 ghost use Rattle.lattice.specs.Refusals.{refusedBy, notRefused};
-ghost use Rattle.lattice.specs.LevelBook.{mostLevels};
+ghost use Rattle.lattice.specs.LevelBook.{mostLevels, atOrBelow};
 ghost use Rattle.lattice.specs.Bounds.{Square};
 ghost use Rattle.lattice.specs.Load.{answer, noBook, Loads};
 
@@ -69,4 +70,20 @@ pub fn load(s: &[u8], join: &mut PairTable, meet: &mut PairTable) -> Loaded
         return refused(3, place);
     }
     accepted(b)
+}
+
+// The greatest level of all. (It need not be the last.)
+pub fn top_of(b: Book) -> usize
+    requires { ⌜ b .count ≤ mostLevels ⌝ }
+    ensures { λ r. ⌜ r ≡ top (atOrBelow (b .rows)) (b .count) ⌝ }
+{
+    bounds::greatest(b, false)
+}
+
+// The least level of all. (It need not be the first.)
+pub fn bottom_of(b: Book) -> usize
+    requires { ⌜ b .count ≤ mostLevels ⌝ }
+    ensures { λ r. ⌜ r ≡ bottom (atOrBelow (b .rows)) (b .count) ⌝ }
+{
+    bounds::greatest(b, true)
 }

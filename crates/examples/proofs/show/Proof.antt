@@ -51,7 +51,8 @@ slice-aggregate-say-5 : tie.Need-slice-aggregate-say-5
 slice-aggregate-say-5 c = search needs
 
 top-of-requires : tie.Need-top-of-requires
-top-of-requires c κs = loads-few _ _ _ _ (c .before .before .before .before .before .before .before .before .before .load .ensures)
+top-of-requires c κs =
+    loads-few _ _ _ _ (c .before .before .before .before .before .before .before .before .before .load .ensures)
 
 say-requires-5 : tie.Need-say-requires-5
 say-requires-5 c κs = search needs
@@ -60,10 +61,14 @@ end-line-requires-2 : tie.Need-end-line-requires-2
 end-line-requires-2 c κs = search needs
 
 say-table-requires : tie.Need-say-table-requires
-say-table-requires c κs = loads-few _ _ _ _ (c .before .before .before .before .before .before .before .before .before .before .before .before .before .load .ensures)
+say-table-requires c κs =
+    loads-few _ _ _ _
+    (c .before .before .before .before .before .before .before .before .before .before .before .before .before .load .ensures)
 
 say-table-requires-2 : tie.Need-say-table-requires-2
-say-table-requires-2 c κs = loads-few _ _ _ _ (c .before .before .before .before .before .before .before .before .before .before .before .before .before .before .before .load .ensures)
+say-table-requires-2 c κs =
+    loads-few _ _ _ _
+    (c .before .before .before .before .before .before .before .before .before .before .before .before .before .before .before .load .ensures)
 
 returns-2 : tie.Need-returns-2
 returns-2 c = search needs

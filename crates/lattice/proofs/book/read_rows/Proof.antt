@@ -34,10 +34,20 @@ loop-less : tie.Need-loop-less Inv-loop μ-loop
 loop-less c = search needs
 
 loop-again : tie.Need-loop-again Inv-loop μ-loop
-loop-again c = (search needs, (simp length-set (search needs), fill-more _ _ _ _ (search needs) (c .before .before .loop .inv .1 .1) (c .row-at .ensures)))
+loop-again c = (
+  search needs,
+  (
+    simp length-set (search needs),
+    fill-more _ _ _ _ (search needs) (c .before .before .loop .inv .1 .1) (c .row-at .ensures),
+  ),
+)
 
 returns : tie.Need-returns Inv-loop μ-loop
-returns c = fill-all _ _ _ _ (c .before .loop .inv .1 .0) (c .before .loop .inv .0) (c .loop-test .left) (c .before .loop .inv .1 .1)
+returns c =
+    fill-all _ _ _ _ (c .before .loop .inv .1 .0)
+    (c .before .loop .inv .0)
+    (c .loop-test .left)
+    (c .before .loop .inv .1 .1)
 
 pub read-rows-spec : {M : Type 1} → statement M
 read-rows-spec =

@@ -19,10 +19,24 @@ wide-requires : tie.Need-wide-requires
 wide-requires c κs = search needs
 
 returns-2 : tie.Need-returns-2
-returns-2 c = sym (simp (lt-leb 1 (count (c .before .before .before .before .before .args .s .now)) (omega (arith, c .before .wide .ensures))))
+returns-2 c =
+    sym
+    (simp
+    (lt-leb 1
+    (count (c .before .before .before .before .before .args .s .now))
+    (omega (arith, c .before .wide .ensures))))
 
 returns-3 : tie.Need-returns-3
-returns-3 c = sym (simp (le-leb 1 (count (c .before .before .before .before .before .before .args .s .now)) (omega (arith, c .before .before .wide .ensures)), lt-leb (count (c .before .before .before .before .before .before .args .s .now)) mostLevels (omega (arith, c .before .before .wide .ensures))))
+returns-3 c =
+    sym
+    (simp (
+      le-leb 1
+          (count (c .before .before .before .before .before .before .args .s .now))
+          (omega (arith, c .before .before .wide .ensures)),
+      lt-leb
+          (count (c .before .before .before .before .before .before .args .s .now))
+          mostLevels (omega (arith, c .before .before .wide .ensures)),
+    ))
 
 mul-result : tie.Need-mul-result
 mul-result c = search needs
@@ -31,7 +45,17 @@ add-result : tie.Need-add-result
 add-result c = search needs
 
 returns-4 : tie.Need-returns-4
-returns-4 c = sym (simp (le-leb 1 (count (c .before .before .before .before .before .before .args .s .now)) (omega (arith, c .before .before .wide .ensures)), le-leb (count (c .before .before .before .before .before .before .args .s .now)) mostLevels (omega (arith, c .before .before .wide .ensures)), c .before .before .wide .ensures))
+returns-4 c =
+    sym
+    (simp (
+      le-leb 1
+          (count (c .before .before .before .before .before .before .args .s .now))
+          (omega (arith, c .before .before .wide .ensures)),
+      le-leb
+          (count (c .before .before .before .before .before .before .args .s .now))
+          mostLevels (omega (arith, c .before .before .wide .ensures)),
+      c .before .before .wide .ensures,
+    ))
 
 pub size-is-right-spec : {M : Type 1} → statement M
 size-is-right-spec =

@@ -25,7 +25,11 @@ is-greatest-requires c κs = search needs
 
 returns : tie.Need-returns Inv-loop μ-loop
 unfolding top
-returns c = sym (first-is _ _ _ (c .before .before .loop-test .taken) (sym (c .before .is-greatest .ensures) ∙ c .if1 .taken) (c .before .before .before .loop .inv .1))
+returns c =
+    sym
+    (first-is _ _ _ (c .before .before .loop-test .taken)
+    (sym (c .before .is-greatest .ensures) ∙ c .if1 .taken)
+    (c .before .before .before .loop .inv .1))
 
 add-t : tie.Need-add-t Inv-loop μ-loop
 add-t c = search needs
@@ -34,11 +38,17 @@ loop-less : tie.Need-loop-less Inv-loop μ-loop
 loop-less c = search needs
 
 loop-again : tie.Need-loop-again Inv-loop μ-loop
-loop-again c = (search needs, below-more _ _ (c .before .before .before .loop .inv .1) (sym (c .before .is-greatest .ensures) ∙ c .if1 .left))
+loop-again c = (
+  search needs,
+  below-more _ _ (c .before .before .before .loop .inv .1) (sym (c .before .is-greatest .ensures) ∙ c .if1 .left),
+)
 
 returns-2 : tie.Need-returns-2 Inv-loop μ-loop
 unfolding top
-returns-2 c = sym (first-none _ _ (past (c .loop-test .left) (c .before .loop .inv .1)) ∙ le-antisymm (c .loop-test .left) (c .before .loop .inv .0))
+returns-2 c =
+    sym
+    (first-none _ _ (past (c .loop-test .left) (c .before .loop .inv .1))
+    ∙ le-antisymm (c .loop-test .left) (c .before .loop .inv .0))
 
 pub greatest-spec : {M : Type 1} → statement M
 greatest-spec =

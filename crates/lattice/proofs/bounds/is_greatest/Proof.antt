@@ -23,7 +23,10 @@ below-requires : tie.Need-below-requires Inv-loop μ-loop
 below-requires c κs = search needs
 
 returns : tie.Need-returns Inv-loop μ-loop
-returns c = sym (all-fails _ _ _ (c .before .before .loop-test .taken) (sym (c .before .below .ensures) ∙ not-true _ (c .if1 .taken)))
+returns c =
+    sym
+    (all-fails _ _ _ (c .before .before .loop-test .taken)
+    (sym (c .before .below .ensures) ∙ not-true _ (c .if1 .taken)))
 
 add-i : tie.Need-add-i Inv-loop μ-loop
 add-i c = search needs
@@ -32,7 +35,11 @@ loop-less : tie.Need-loop-less Inv-loop μ-loop
 loop-less c = search needs
 
 loop-again : tie.Need-loop-again Inv-loop μ-loop
-loop-again c = (search needs, below-more _ _ (c .before .before .before .loop .inv .1) (sym (c .before .below .ensures) ∙ not-false _ (c .if1 .left)))
+loop-again c = (
+  search needs,
+  below-more _ _ (c .before .before .before .loop .inv .1)
+      (sym (c .before .below .ensures) ∙ not-false _ (c .if1 .left)),
+)
 
 returns-2 : tie.Need-returns-2 Inv-loop μ-loop
 returns-2 c = sym (all-intro _ _ (λ k l. c .before .loop .inv .1 k (lt-of-lt-of-le l (c .loop-test .left))))

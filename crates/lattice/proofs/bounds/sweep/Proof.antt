@@ -21,13 +21,16 @@ abbrev μ-levels : tie.MeasureT-levels
 μ-levels b dual t n place i j k₀ k = n - k
 
 abbrev Inv-others : tie.InvT-others
-Inv-others b dual t₀ n place₀ i j₀ t place j = (i < j) × ((j ≤ n) × ((place ≡ mostLevels * mostLevels) × Done (facing (b .rows) dual) n (i + 1) (mostLevels * i + j) t))
+Inv-others b dual t₀ n place₀ i j₀ t place j =
+    (i < j)
+    × ((j ≤ n) × ((place ≡ mostLevels * mostLevels) × Done (facing (b .rows) dual) n (i + 1) (mostLevels * i + j) t))
 
 abbrev μ-others : tie.MeasureT-others
 μ-others b dual t₀ n place₀ i j₀ t place j = n - j
 
 abbrev Inv-pairs : tie.InvT-pairs
-Inv-pairs b dual t₀ n place₀ i₀ t place i = (i ≤ n) × ((place ≡ mostLevels * mostLevels) × Done (facing (b .rows) dual) n i (mostLevels * i) t)
+Inv-pairs b dual t₀ n place₀ i₀ t place i =
+    (i ≤ n) × ((place ≡ mostLevels * mostLevels) × Done (facing (b .rows) dual) n i (mostLevels * i) t)
 
 abbrev μ-pairs : tie.MeasureT-pairs
 μ-pairs b dual t₀ n place₀ i₀ t place i = n - i
@@ -36,7 +39,9 @@ abbrev μ-pairs : tie.MeasureT-pairs
 least-is :
     (l : tie.Left-levels Inv-levels μ-levels Inv-others μ-others Inv-pairs μ-pairs) →
     leastUpper
-    (facing (l .before .before .before .before .before .before .args .b .rows) (l .before .before .before .before .before .before .args .dual))
+    (facing
+    (l .before .before .before .before .before .before .args .b .rows)
+    (l .before .before .before .before .before .before .args .dual))
     (l .before .before .before .before .before .before .args .b .count)
     (l .before .before .before .before .before .pairs .i)
     (l .before .before .before .others .j)
@@ -44,7 +49,8 @@ least-is :
 unfolding leastUpper
 least-is l =
     ⊎-elim
-    (λ w. first-none _ _ (past (w .left) (l .before .levels .inv .1)) ∙ le-antisymm (w .left) (l .before .levels .inv .0))
+    (λ w. first-none _ _ (past (w .left) (l .before .levels .inv .1))
+    ∙ le-antisymm (w .left) (l .before .levels .inv .0))
     (λ w. first-is _ _ _ (w .0 .taken) (sym (w .1 .ensures) ∙ w .2 .taken) (l .before .levels .inv .1))
     (l .levels-test .came)
 
@@ -67,7 +73,13 @@ add-j : tie.Need-add-j Inv-levels μ-levels Inv-others μ-others Inv-pairs μ-pa
 add-j c = search needs
 
 others-holds : tie.Need-others-holds Inv-levels μ-levels Inv-others μ-others Inv-pairs μ-pairs
-others-holds c = (search needs, (search needs, (search needs, own-next _ _ (search needs) _ _ (c .pairs-test .taken) (c .before .pairs .inv .1 .1))))
+others-holds c = (
+  search needs,
+  (
+    search needs,
+    (search needs, own-next _ _ (search needs) _ _ (c .pairs-test .taken) (c .before .pairs .inv .1 .1)),
+  ),
+)
 
 levels-holds : tie.Need-levels-holds Inv-levels μ-levels Inv-others μ-others Inv-pairs μ-pairs
 levels-holds c = (search needs, below-none _)
@@ -83,7 +95,11 @@ levels-less : tie.Need-levels-less Inv-levels μ-levels Inv-others μ-others Inv
 levels-less c = search needs
 
 levels-again : tie.Need-levels-again Inv-levels μ-levels Inv-others μ-others Inv-pairs μ-pairs
-levels-again c = (search needs, below-more _ _ (c .before .before .before .levels .inv .1) (sym (c .before .is-least-upper .ensures) ∙ c .if1 .left))
+levels-again c = (
+  search needs,
+  below-more _ _ (c .before .before .before .levels .inv .1)
+      (sym (c .before .is-least-upper .ensures) ∙ c .if1 .left),
+)
 
 mul-place : tie.Need-mul-place Inv-levels μ-levels Inv-others μ-others Inv-pairs μ-pairs
 mul-place c = search needs
@@ -122,7 +138,21 @@ others-less : tie.Need-others-less Inv-levels μ-levels Inv-others μ-others Inv
 others-less c = search needs
 
 others-again : tie.Need-others-again Inv-levels μ-levels Inv-others μ-others Inv-pairs μ-pairs
-others-again c = (search needs, (search needs, (search needs, pair-next _ _ (search needs) _ _ _ _ (c .before .before .before .before .others .inv .0) (c .before .before .before .others-test .taken) (least-is (c .before)) (search needs) (c .before .before .before .before .others .inv .1 .1 .1))))
+others-again c = (
+  search needs,
+  (
+    search needs,
+    (
+      search needs,
+      pair-next _ _ (search needs)
+          _ _ _ _ (c .before .before .before .before .others .inv .0)
+          (c .before .before .before .others-test .taken)
+          (least-is (c .before))
+          (search needs)
+          (c .before .before .before .before .others .inv .1 .1 .1),
+    ),
+  ),
+)
 
 add-i : tie.Need-add-i Inv-levels μ-levels Inv-others μ-others Inv-pairs μ-pairs
 add-i c = search needs
@@ -131,7 +161,10 @@ pairs-less : tie.Need-pairs-less Inv-levels μ-levels Inv-others μ-others Inv-p
 pairs-less c = search needs
 
 pairs-again : tie.Need-pairs-again Inv-levels μ-levels Inv-others μ-others Inv-pairs μ-pairs
-pairs-again c = (search needs, (search needs, row-next _ _ (search needs) _ _ _ (c .others-test .left) (c .before .others .inv .1 .1 .1)))
+pairs-again c = (
+  search needs,
+  (search needs, row-next _ _ (search needs) _ _ _ (c .others-test .left) (c .before .others .inv .1 .1 .1)),
+)
 
 returns : tie.Need-returns Inv-levels μ-levels Inv-others μ-others Inv-pairs μ-pairs
 returns c =
@@ -141,7 +174,12 @@ returns c =
     (finish _ _ (search needs) _ _ (c .pairs-test .left) (c .before .pairs .inv .1 .1))
 
 returns-2 : tie.Need-returns-2 Inv-levels μ-levels Inv-others μ-others Inv-pairs μ-pairs
-returns-2 c = stop _ _ (search needs) _ _ _ _ (c .before .before .before .before .others .inv .0) (c .before .before .before .others-test .taken) (least-is (c .before) ∙ c .if2 .taken) (c .before .before .before .before .others .inv .1 .1 .1)
+returns-2 c =
+    stop _ _ (search needs)
+    _ _ _ _ (c .before .before .before .before .others .inv .0)
+    (c .before .before .before .others-test .taken)
+    (least-is (c .before) ∙ c .if2 .taken)
+    (c .before .before .before .before .others .inv .1 .1 .1)
 
 pub sweep-spec : {M : Type 1} → statement M
 sweep-spec =

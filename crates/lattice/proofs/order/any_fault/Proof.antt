@@ -22,7 +22,8 @@ shows-fault-requires : tie.Need-shows-fault-requires Inv-loop μ-loop
 shows-fault-requires c κs = search needs
 
 returns : tie.Need-returns Inv-loop μ-loop
-returns c = sym (any-some _ _ _ (c .before .before .loop-test .taken) (sym (c .before .shows-fault .ensures) ∙ c .if1 .taken))
+returns c =
+    sym (any-some _ _ _ (c .before .before .loop-test .taken) (sym (c .before .shows-fault .ensures) ∙ c .if1 .taken))
 
 add-j : tie.Need-add-j Inv-loop μ-loop
 add-j c = search needs
@@ -31,7 +32,10 @@ loop-less : tie.Need-loop-less Inv-loop μ-loop
 loop-less c = search needs
 
 loop-again : tie.Need-loop-again Inv-loop μ-loop
-loop-again c = (search needs, below-more _ _ (c .before .before .before .loop .inv .1) (sym (c .before .shows-fault .ensures) ∙ c .if1 .left))
+loop-again c = (
+  search needs,
+  below-more _ _ (c .before .before .before .loop .inv .1) (sym (c .before .shows-fault .ensures) ∙ c .if1 .left),
+)
 
 returns-2 : tie.Need-returns-2 Inv-loop μ-loop
 returns-2 c = sym (any-none _ _ (past (c .loop-test .left) (c .before .loop .inv .1)))

@@ -15,7 +15,12 @@ at-or-below-requires-2 : tie.Need-at-or-below-requires-2
 at-or-below-requires-2 c κs = search needs
 
 returns-2 : tie.Need-returns-2
-returns-2 c = simp (ne-eqb _ _ (c .before .before .before .if1 .left), sym (c .before .before .at-or-below .ensures) ∙ c .before .if2 .taken) (c .at-or-below2 .ensures)
+returns-2 c =
+    simp (
+      ne-eqb _ _ (c .before .before .before .if1 .left),
+      sym (c .before .before .at-or-below .ensures) ∙ c .before .if2 .taken,
+    )
+    (c .at-or-below2 .ensures)
 
 returns-3 : tie.Need-returns-3
 returns-3 c = simp (ne-eqb _ _ (c .before .before .if1 .left), sym (c .before .at-or-below .ensures) ∙ c .if2 .left)

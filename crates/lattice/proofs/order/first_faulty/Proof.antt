@@ -23,7 +23,11 @@ is-faulty-requires c κs = search needs
 
 returns : tie.Need-returns Inv-loop μ-loop
 unfolding firstFaulty
-returns c = sym (first-is _ _ _ (c .before .before .loop-test .taken) (sym (c .before .is-faulty .ensures) ∙ c .if1 .taken) (c .before .before .before .loop .inv .1))
+returns c =
+    sym
+    (first-is _ _ _ (c .before .before .loop-test .taken)
+    (sym (c .before .is-faulty .ensures) ∙ c .if1 .taken)
+    (c .before .before .before .loop .inv .1))
 
 add-i : tie.Need-add-i Inv-loop μ-loop
 add-i c = search needs
@@ -32,11 +36,17 @@ loop-less : tie.Need-loop-less Inv-loop μ-loop
 loop-less c = search needs
 
 loop-again : tie.Need-loop-again Inv-loop μ-loop
-loop-again c = (search needs, below-more _ _ (c .before .before .before .loop .inv .1) (sym (c .before .is-faulty .ensures) ∙ c .if1 .left))
+loop-again c = (
+  search needs,
+  below-more _ _ (c .before .before .before .loop .inv .1) (sym (c .before .is-faulty .ensures) ∙ c .if1 .left),
+)
 
 returns-2 : tie.Need-returns-2 Inv-loop μ-loop
 unfolding firstFaulty
-returns-2 c = sym (first-none _ _ (past (c .loop-test .left) (c .before .loop .inv .1)) ∙ le-antisymm (c .loop-test .left) (c .before .loop .inv .0))
+returns-2 c =
+    sym
+    (first-none _ _ (past (c .loop-test .left) (c .before .loop .inv .1))
+    ∙ le-antisymm (c .loop-test .left) (c .before .loop .inv .0))
 
 pub first-faulty-spec : {M : Type 1} → statement M
 first-faulty-spec =

@@ -30,14 +30,24 @@ shr-if2 c = search needs
 
 returns-2 : tie.Need-returns-2
 unfolding isFaulty
-returns-2 c = simp (sym (c .before .before .before .at-or-below .ensures) ∙ not-false _ (c .before .before .if1 .left), lt-ltb _ _ (c .if2 .taken))
+returns-2 c =
+    simp (
+      sym (c .before .before .before .at-or-below .ensures) ∙ not-false _ (c .before .before .if1 .left),
+      lt-ltb _ _ (c .if2 .taken),
+    )
 
 any-fault-requires : tie.Need-any-fault-requires
 any-fault-requires c κs = search needs
 
 returns-3 : tie.Need-returns-3
 unfolding isFaulty
-returns-3 c = simp (sym (c .before .before .before .before .at-or-below .ensures) ∙ not-false _ (c .before .before .before .if1 .left), le-ltb _ _ (c .before .if2 .left)) (c .any-fault .ensures)
+returns-3 c =
+    simp (
+      sym (c .before .before .before .before .at-or-below .ensures)
+          ∙ not-false _ (c .before .before .before .if1 .left),
+      le-ltb _ _ (c .before .if2 .left),
+    )
+    (c .any-fault .ensures)
 
 pub is-faulty-spec : {M : Type 1} → statement M
 is-faulty-spec =

@@ -15,10 +15,19 @@ at-or-below-requires-3 : tie.Need-at-or-below-requires-3
 at-or-below-requires-3 c κs = search needs
 
 returns : tie.Need-returns
-returns c = simp (sym (c .before .before .before .before .at-or-below .ensures) ∙ c .before .before .before .if1 .taken, sym (c .before .before .at-or-below2 .ensures) ∙ c .before .if2 .taken) (ap not (c .at-or-below3 .ensures))
+returns c =
+    simp (
+      sym (c .before .before .before .before .at-or-below .ensures) ∙ c .before .before .before .if1 .taken,
+      sym (c .before .before .at-or-below2 .ensures) ∙ c .before .if2 .taken,
+    )
+    (ap not (c .at-or-below3 .ensures))
 
 returns-2 : tie.Need-returns-2
-returns-2 c = simp (sym (c .before .before .before .at-or-below .ensures) ∙ c .before .before .if1 .taken, sym (c .before .at-or-below2 .ensures) ∙ c .if2 .left)
+returns-2 c =
+    simp (
+      sym (c .before .before .before .at-or-below .ensures) ∙ c .before .before .if1 .taken,
+      sym (c .before .at-or-below2 .ensures) ∙ c .if2 .left,
+    )
 
 returns-3 : tie.Need-returns-3
 returns-3 c = simp (sym (c .before .at-or-below .ensures) ∙ c .if1 .left)
