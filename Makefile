@@ -7,6 +7,5 @@ test:
 
 # Proves, builds and runs the example program.
 run:
-	@rt check examples >target-run.log 2>&1 || { cat target-run.log; rm -f target-run.log; exit 1; }
-	@rm -f target-run.log
+	@mkdir -p target && rt check examples >target/run.log 2>&1 || { cat target/run.log; exit 1; }
 	@./target/bin/examples

@@ -26,9 +26,10 @@ fn say_row(t: &PairTable, n: usize, i: usize)
     end_line();
 }
 
-fn say_table(t: &PairTable, n: usize)
+fn say_table(title: &[u8], t: &PairTable, n: usize)
     requires { ⌜ n ≤ mostLevels ⌝ }
 {
+    io::write_all(STDOUT_FILENO, title);
     let mut i: usize = 0;
     while i < n {
         say_row(t, n, i);
@@ -51,8 +52,8 @@ fn show(s: &[u8]) {
     say(b" bottom ", lattice::bottom_of(b));
     say(b" top ", lattice::top_of(b));
     end_line();
-    say_table(&join, b.count);
-    say_table(&meet, b.count);
+    say_table(b"joins\n", &join, b.count);
+    say_table(b"meets\n", &meet, b.count);
 }
 
 fn main() {

@@ -14,9 +14,10 @@ use Rattle.prelude.proofs.Searches.{first-or, first-within}
 use Rattle.prelude.proofs.Bools.{by-cases}
 use Rattle.lattice.specs.declared.Loaded.{Loaded}
 use Rattle.lattice.specs.declared.book.Book.{Book}
+use Rattle.prelude.specs.Refusals.{refusedBy, notRefused, passes}
 use Rattle.lattice.specs.Order.{Relation, converse, leastUpper, PartialOrder}
 use Rattle.lattice.specs.LevelBook.{mostLevels, count, sizeIsRight, rows, atOrBelow}
-use Rattle.lattice.specs.Refusals.{firstFaulty, lacksUpper, firstLacking, refusedBy, notRefused, refusal, isAccepted}
+use Rattle.lattice.specs.Refusals.{firstFaulty, lacksUpper, firstLacking, refusal, isAccepted}
 use Rattle.lattice.specs.Bounds.{kept, Keeps, Square, Swept}
 use Rattle.lattice.specs.Load.{answer, noBook, bookOf, loaded, Loads}
 use Rattle.lattice.proofs.Orders.{dual, least-swap, least-own}
@@ -59,7 +60,7 @@ module _ (s : List ℕ) (join meet : List (List ℕ)) where
   refuses : (k p : ℕ) → eqb k 0 ≡ false → refusal s ≡ refusedBy k p → Loads s (answer (refusedBy k p) noBook) join meet
   unfolding loaded
   refuses k p h e =
-      let no : isAccepted s ≡ false = ap (λ r. eqb (r .number) 0) e ∙ h in
+      let no : isAccepted s ≡ false = ap passes e ∙ h in
       record {
         result = rw (no, e);
         joins = λ yes. absurd (false≢true (sym no ∙ yes));
@@ -99,7 +100,7 @@ module _ (s : List ℕ) (join meet : List (List ℕ)) where
       unfolding loaded
       by-none h u l =
           let e : refusal s ≡ notRefused = accepts h in
-          let yes : isAccepted s ≡ true = ap (λ r. eqb (r .number) 0) e in
+          let yes : isAccepted s ≡ true = ap passes e in
           let o = order s (passing s yes) in
           record {
             result = rw (yes, e);

@@ -12,16 +12,17 @@ use borrow.Author.Tests.{ltb-false, leb-true, eqb-true, eqb-false, lt-ltb, eq-eq
 use Rattle.prelude.specs.Search.{first, any}
 use Rattle.prelude.proofs.Bools.{fails, and-intro, and-left, and-right, or-left, or-right}
 use Rattle.prelude.proofs.Searches.{first-within, first-at-end, none-of-any, NoneBelow}
+use Rattle.prelude.specs.Refusals.{refusedBy, notRefused, passes}
 use Rattle.lattice.specs.Order.{Relation, converse, bothWays, gap, showsFault, isLeastUpper, leastUpper, PartialOrder}
 use Rattle.lattice.specs.LevelBook.{mostLevels, count, sizeIsRight, rows, atOrBelow}
-use Rattle.lattice.specs.Refusals.{isFaulty, firstFaulty, lacksUpper, firstLacking, refusedBy, notRefused, refusal, isAccepted}
+use Rattle.lattice.specs.Refusals.{isFaulty, firstFaulty, lacksUpper, firstLacking, refusal, isAccepted}
 use Rattle.lattice.proofs.Sizes.{few}
 use Rattle.lattice.proofs.Sweeps.{quotient, remainder}
 
 -- the three tests of a refusal fail
 parts :
     (a b c : Bool) (p q : ℕ) →
-    eqb (cond a (refusedBy 1 0) (cond b (refusedBy 2 p) (cond c (refusedBy 3 q) notRefused)) .number) 0 ≡ true →
+    passes (cond a (refusedBy 1 0) (cond b (refusedBy 2 p) (cond c (refusedBy 3 q) notRefused))) ≡ true →
     (a ≡ false) × ((b ≡ false) × (c ≡ false))
 parts true b c p q h = absurd (false≢true h)
 parts false true c p q h = absurd (false≢true h)

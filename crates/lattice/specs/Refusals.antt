@@ -5,6 +5,7 @@ use Prim.Native.Nat.{ℕ, _+_, _*_, _/_, _%_, _^_}
 use lib.Dec.{eqb, ltb}
 use lib.ListN.{getD}
 use Rattle.prelude.specs.declared.Refusal.{Refusal}
+use Rattle.prelude.specs.Refusals.{refusedBy, notRefused, passes}
 use Rattle.prelude.specs.Search.{first, any}
 use Rattle.lattice.specs.Order.{Relation, converse, showsFault, leastUpper}
 use Rattle.lattice.specs.LevelBook.{mostLevels, count, sizeIsRight, rows, atOrBelow}
@@ -32,21 +33,17 @@ lacksUpper R n p =
 unfoldable pub firstLacking : Relation → ℕ → ℕ
 firstLacking R n = first (λ p. lacksUpper R n p || lacksUpper (converse R) n p) (mostLevels * mostLevels)
 
-abbrev pub refusedBy : ℕ → ℕ → Refusal
-refusedBy number place = record { number = number; place = place }
-
-abbrev pub notRefused : Refusal
-notRefused = refusedBy 0 0
-
 -- "The lowest number that applies is given"
 unfoldable pub refusal : List ℕ → Refusal
 refusal s =
+    let n : ℕ = count s in
+    let faulty : ℕ = firstFaulty (rows s) n in
+    let lacking : ℕ = firstLacking (atOrBelow (rows s)) n in
     cond (not (sizeIsRight s)) (refusedBy 1 0)
-    (cond (ltb (firstFaulty (rows s) (count s)) (count s)) (refusedBy 2 (firstFaulty (rows s) (count s)))
-    (cond (ltb (firstLacking (atOrBelow (rows s)) (count s)) (mostLevels * mostLevels))
-    (refusedBy 3 (firstLacking (atOrBelow (rows s)) (count s)))
+    (cond (ltb faulty n) (refusedBy 2 faulty)
+    (cond (ltb lacking (mostLevels * mostLevels)) (refusedBy 3 lacking)
     notRefused))
 
--- "0 means not refused"
+-- the book passes
 abbrev pub isAccepted : List ℕ → Bool
-isAccepted s = eqb (refusal s .number) 0
+isAccepted s = passes (refusal s)

@@ -9,7 +9,7 @@ use prelude::Refusal;
 ghost use mathlib.Core.Path.{_≡_};
 ghost use Prim.Native.Nat.{_*_, _≤_};
 ghost use Rattle.lattice.specs.Order.{top, bottom};
-ghost use Rattle.lattice.specs.Refusals.{refusedBy, notRefused};
+ghost use Rattle.prelude.specs.Refusals.{refusedBy, notRefused};
 ghost use Rattle.lattice.specs.LevelBook.{mostLevels, atOrBelow};
 ghost use Rattle.lattice.specs.Bounds.{Square};
 ghost use Rattle.lattice.specs.Load.{answer, noBook, Loads};

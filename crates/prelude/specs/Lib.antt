@@ -3,3 +3,4 @@ pub mod Search
 pub mod Table
 pub mod Course
 pub mod Numbers
+pub mod Refusals

@@ -5,10 +5,13 @@ use Rattle.examples.proofs.say_table.Statement.{statement}
 use Rattle.examples.proofs.say_table.Tie as tie
 
 abbrev Inv-loop : tie.InvT-loop
-Inv-loop t n i₀ i = i ≤ n
+Inv-loop title t n i₀ i = i ≤ n
 
 abbrev μ-loop : tie.MeasureT-loop
-μ-loop t n i₀ i = n - i
+μ-loop title t n i₀ i = n - i
+
+write-all-requires : tie.Need-write-all-requires Inv-loop μ-loop
+write-all-requires c κs = search needs
 
 loop-holds : tie.Need-loop-holds Inv-loop μ-loop
 loop-holds c = search needs
@@ -31,4 +34,13 @@ returns c = search needs
 pub say-table-spec : {M : Type 1} → statement M
 say-table-spec =
     tie.close
-    (tie.spec Inv-loop μ-loop loop-holds say-row-requires add-i loop-less loop-again returns)
+    (tie.spec
+    Inv-loop
+    μ-loop
+    write-all-requires
+    loop-holds
+    say-row-requires
+    add-i
+    loop-less
+    loop-again
+    returns)

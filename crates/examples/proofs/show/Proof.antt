@@ -60,15 +60,21 @@ say-requires-5 c κs = search needs
 end-line-requires-2 : tie.Need-end-line-requires-2
 end-line-requires-2 c κs = search needs
 
+slice-aggregate-say-table : tie.Need-slice-aggregate-say-table
+slice-aggregate-say-table c = search needs
+
 say-table-requires : tie.Need-say-table-requires
 say-table-requires c κs =
     loads-few _ _ _ _
-    (c .before .before .before .before .before .before .before .before .before .before .before .before .before .load .ensures)
+    (c .before .before .before .before .before .before .before .before .before .before .before .before .before .before .load .ensures)
+
+slice-aggregate-say-table-2 : tie.Need-slice-aggregate-say-table-2
+slice-aggregate-say-table-2 c = search needs
 
 say-table-requires-2 : tie.Need-say-table-requires-2
 say-table-requires-2 c κs =
     loads-few _ _ _ _
-    (c .before .before .before .before .before .before .before .before .before .before .before .before .before .before .before .load .ensures)
+    (c .before .before .before .before .before .before .before .before .before .before .before .before .before .before .before .before .before .load .ensures)
 
 returns-2 : tie.Need-returns-2
 returns-2 c = search needs
@@ -95,6 +101,8 @@ show-spec =
     top-of-requires
     say-requires-5
     end-line-requires-2
+    slice-aggregate-say-table
     say-table-requires
+    slice-aggregate-say-table-2
     say-table-requires-2
     returns-2)
