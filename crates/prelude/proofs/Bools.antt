@@ -34,6 +34,15 @@ pub or-right : (a b : Bool) → (a || b) ≡ false → b ≡ false
 or-right true b h = absurd (true≢false h)
 or-right false b h = h
 
+-- a disjunction, by its first test
+pub or-first : (a b : Bool) → a ≡ true → (a || b) ≡ true
+or-first true b h = refl
+or-first false b h = absurd (false≢true h)
+
+pub or-second : (a b : Bool) → a ≡ false → (a || b) ≡ b
+or-second true b h = absurd (true≢false h)
+or-second false b h = refl
+
 pub or-swap : (a b : Bool) → (a || b) ≡ (b || a)
 or-swap true true = refl
 or-swap true false = refl
