@@ -1,15 +1,14 @@
 -- What each way out of `load` has to show.
 -- Assumes nothing.
 use mathlib.Core.Path.{_≡_, refl, sym, ap, _∙_, subst}
-use mathlib.Core.Bool.{Bool, true, false, cond, not, _||_, false≢true}
+use mathlib.Core.Bool.{Bool, true, false, cond, false≢true}
 use mathlib.Core.List.{List, []}
-use Prim.Native.Nat.{ℕ, _+_, _*_, _≤_, _<_}
+use Prim.Native.Nat.{ℕ, _*_, _≤_, _<_}
 use native.Mathlib.Decide.{decLt}
 use native.Mathlib.Omega.{arith}
-use lib.Dec.{ltb, leb, eqb}
-use lib.ListN.{getD, length, replicate, length-replicate, getD-replicate}
+use lib.Dec.{leb, eqb}
+use lib.ListN.{length, replicate, length-replicate, getD-replicate}
 use borrow.Author.Tests.{lt-ltb, le-ltb, leb-true, leb-false}
-use Rattle.prelude.specs.Search.{first}
 use Rattle.prelude.proofs.Searches.{first-or, first-within}
 use Rattle.prelude.proofs.Bools.{by-cases}
 use Rattle.lattice.specs.declared.Loaded.{Loaded}
@@ -21,7 +20,7 @@ use Rattle.lattice.specs.Refusals.{firstFaulty, lacksUpper, firstLacking
 use Rattle.lattice.specs.Bounds.{kept, Keeps, Square, Swept}
 use Rattle.lattice.specs.Load.{answer, noBook, bookOf, loaded, Loads}
 use Rattle.lattice.proofs.Orders.{dual, least-swap, least-own}
-use Rattle.lattice.proofs.Passing.{Passing, passing, order}
+use Rattle.lattice.proofs.Passing.{passing, order}
 
 -- a new table is square
 pub new-square : (n v : ℕ) → Square n (replicate n (replicate n v))

@@ -1,14 +1,14 @@
 -- From tests to laws, for any relation R and any number n of levels.
 -- Assumes nothing.
-use mathlib.Core.Path.{_≡_, refl, sym, ap, _∙_, subst}
-use mathlib.Core.Bool.{Bool, true, false, not, _&&_, true≢false}
+use mathlib.Core.Path.{_≡_, sym, ap, _∙_, subst}
+use mathlib.Core.Bool.{Bool, true, not, _&&_, true≢false}
 use Prim.Native.Nat.{ℕ, zero, suc, _≤_, _<_}
 use native.Mathlib.Decide.{decLt}
 use native.Mathlib.Omega.{arith}
 use borrow.Author.Tests.{not-true, not-false}
 use Rattle.prelude.specs.Search.{first, any, all}
 use Rattle.prelude.proofs.Bools.{fails, and-intro, and-left, and-right, and-swap}
-use Rattle.prelude.proofs.Searches.{first-within, first-holds, first-found, first-is, first-same, any-none, any-same, none-of-any, all-intro, all-elim, AllBelow}
+use Rattle.prelude.proofs.Searches.{first-holds, first-found, first-is, first-same, any-none, any-same, none-of-any, all-intro, all-elim}
 use Rattle.lattice.specs.Order.{Relation, converse, missed, isLeastUpper, leastUpper, top, PartialOrder, LeastUppers, Greatest}
 
 pub dual : (R : Relation) (n : ℕ) → PartialOrder R n → PartialOrder (converse R) n

@@ -1,16 +1,16 @@
 -- What a book that is not refused shows, read off the definition of its refusal.
 -- Assumes nothing.
-use mathlib.Core.Path.{_≡_, refl, sym, ap, _∙_, subst}
+use mathlib.Core.Path.{_≡_, refl, sym, _∙_}
 use mathlib.Core.Bool.{Bool, true, false, cond, not, _||_, false≢true}
 use mathlib.Core.List.{List}
-use Prim.Native.Nat.{ℕ, _+_, _*_, _/_, _%_, _^_, _≤_, _<_}
+use Prim.Native.Nat.{ℕ, _+_, _*_, _/_, _^_, _≤_, _<_}
 use native.Mathlib.Decide.{decLt}
 use native.Mathlib.Omega.{arith}
-use lib.Dec.{ltb, leb, eqb}
-use lib.ListN.{getD, length}
-use borrow.Author.Tests.{ltb-false, leb-true, eqb-true, eqb-false, lt-ltb, eq-eqb, not-true, not-false}
-use Rattle.prelude.specs.Search.{first, any}
-use Rattle.prelude.proofs.Bools.{fails, and-intro, and-left, and-right, or-left, or-right}
+use lib.Dec.{ltb, eqb}
+use lib.ListN.{getD}
+use borrow.Author.Tests.{ltb-false, eqb-true, eqb-false, lt-ltb, not-false}
+use Rattle.prelude.specs.Search.{first}
+use Rattle.prelude.proofs.Bools.{fails, and-intro, or-left, or-right}
 use Rattle.prelude.proofs.Searches.{first-within, first-at-end, none-of-any, NoneBelow}
 use Rattle.prelude.specs.Refusals.{refusedBy, notRefused, passes}
 use Rattle.lattice.specs.Order.{Relation, converse, bothWays, gap, showsFault, isLeastUpper, leastUpper, PartialOrder}

@@ -1,15 +1,13 @@
 -- The sweep over the pairs: what holds when the pairs of all places below p are done.
 -- Assumes nothing.
-use mathlib.Core.Path.{_≡_, refl, sym, ap, _∙_, subst}
-use mathlib.Core.Bool.{Bool, true, false, _&&_}
-use mathlib.Core.List.{List, []}
+use mathlib.Core.Path.{_≡_, sym, _∙_, subst}
+use mathlib.Core.Bool.{true, false}
+use mathlib.Core.List.{List}
 use Prim.Native.Nat.{ℕ, _+_, _*_, _/_, _%_, _≤_, _<_}
 use native.Mathlib.Decide.{ℕ-discrete, decLt}
 use native.Mathlib.Omega.{arith}
-use lib.Dec.{ltb, eqb}
 use borrow.Author.Tests.{lt-ltb, le-ltb, eq-eqb, ne-eqb}
-use Rattle.prelude.specs.Search.{first}
-use Rattle.prelude.proofs.Searches.{first-is, first-none, NoneBelow}
+use Rattle.prelude.proofs.Searches.{first-is, first-none}
 use Rattle.lattice.specs.Order.{Relation, leastUpper}
 use Rattle.lattice.specs.LevelBook.{mostLevels}
 use Rattle.lattice.specs.Refusals.{lacksUpper}

@@ -1,7 +1,7 @@
 -- The theorems of the level book, for every list of bytes that is not refused.
 -- Assumes nothing.
-use mathlib.Core.Path.{_≡_, refl, sym, ap, _∙_, subst}
-use mathlib.Core.Bool.{Bool, true, false, cond}
+use mathlib.Core.Path.{_≡_, sym, subst}
+use mathlib.Core.Bool.{true}
 use mathlib.Core.List.{List}
 use Prim.Native.Nat.{ℕ, _≤_, _<_}
 use native.Mathlib.Decide.{decLt}
@@ -9,7 +9,7 @@ use native.Mathlib.Omega.{arith}
 use borrow.Author.Tests.{lt-ltb, le-ltb}
 use Rattle.prelude.proofs.Bools.{by-cases}
 use Rattle.lattice.specs.declared.Loaded.{Loaded}
-use Rattle.lattice.specs.Order.{Relation, converse, leastUpper, greatestLower, LevelLattice}
+use Rattle.lattice.specs.Order.{Relation, leastUpper, greatestLower, LevelLattice}
 use Rattle.lattice.specs.LevelBook.{mostLevels, count, rows, atOrBelow}
 use Rattle.lattice.specs.Refusals.{isAccepted}
 use Rattle.lattice.specs.Load.{bookOf, noBook, loaded, Loads}

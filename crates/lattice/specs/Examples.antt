@@ -3,8 +3,6 @@ use mathlib.Core.Bool.{Bool, true, _&&_}
 use mathlib.Core.List.{List, [], _∷_}
 use Prim.Native.Nat.{ℕ}
 use lib.Dec.{eqb}
-use Rattle.lattice.specs.LevelBook.{count, rows, atOrBelow}
-use Rattle.lattice.specs.Order.{top, bottom}
 use Rattle.lattice.specs.Refusals.{refusal}
 
 pub record Example : Type 0 where

@@ -25,7 +25,7 @@ bookOf s = record { count = count s; rows = rows s }
 unfoldable pub loaded : List ℕ → Loaded
 loaded s = answer (refusal s) (cond (isAccepted s) (bookOf s) noBook)
 
--- "Both are found once and kept for every pair of levels."
+-- "Both are found once and kept for every pair of levels." What a refused book leaves in the two tables is left free.
 pub record Loads (s : List ℕ) (r : Loaded) (join meet : List (List ℕ)) : Type 0 where
   pub result : r ≡ loaded s
   pub joins : isAccepted s ≡ true → Keeps join (count s) (leastUpper (atOrBelow (rows s)) (count s))

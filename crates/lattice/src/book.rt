@@ -1,11 +1,8 @@
-// A level book by value, and its bytes.
+// A level book by value, and a table of levels for its pairs.
 ghost use mathlib.Core.Path.{_≡_};
-ghost use Prim.Native.Nat.{_+_, _*_, _<_, _≤_};
-ghost use mathlib.Core.Bool.{true};
-ghost use lib.ListN.{length};
-ghost use Rattle.lattice.specs.LevelBook.{mostLevels, count, row, rows, sizeIsRight, atOrBelow};
+ghost use Prim.Native.Nat.{_<_};
+ghost use Rattle.lattice.specs.LevelBook.{mostLevels, atOrBelow};
 ghost use Rattle.lattice.specs.Bounds.{kept};
-ghost use Rattle.lattice.specs.Load.{bookOf};
 
 // The number of levels, and for each level the set of the levels that it is at or below: bit j for level j.
 pub struct Book {
@@ -18,7 +15,7 @@ impl Book {
     pub const MAX_LEVELS: usize = 16;
 
     // The places of pairs, i * MAX_LEVELS + j, are below this number.
-    pub const PLACES: usize = 256;
+    pub const PLACES: usize = Book::MAX_LEVELS * Book::MAX_LEVELS;
 }
 
 // A level for each pair of levels.
@@ -38,55 +35,4 @@ pub fn level_at(t: &PairTable, i: usize, j: usize) -> usize
     ensures { λ r. ⌜ r ≡ kept (now (t .entry)) i j ⌝ }
 {
     prelude::wide(t[i][j])
-}
-
-// The length and the number of levels are those of a book.
-pub fn size_is_right(s: &[u8]) -> bool
-    ensures { λ r. ⌜ r ≡ sizeIsRight (now (s .entry)) ⌝ }
-{
-    if s.len() == 0 {
-        return false;
-    }
-    let n = prelude::wide(s[0]);
-    if n < 1 {
-        return false;
-    }
-    if Book::MAX_LEVELS < n {
-        return false;
-    }
-    s.len() == 1 + 2 * n
-}
-
-// Row i, or 0 where the book has fewer rows.
-fn row_at(s: &[u8], i: usize) -> u16
-    requires { ⌜ (i < mostLevels) × (length (now s) ≡ 1 + 2 * count (now s)) ⌝ }
-    ensures { λ r. ⌜ r ≡ row (now (s .entry)) i ⌝ }
-{
-    if s.len() <= 2 + 2 * i {
-        return 0;
-    }
-    prelude::word_of(s[1 + 2 * i], s[2 + 2 * i])
-}
-
-fn read_rows(s: &[u8]) -> [u16; Book::MAX_LEVELS]
-    requires { ⌜ length (now s) ≡ 1 + 2 * count (now s) ⌝ }
-    ensures { λ r. ⌜ r ≡ rows (now (s .entry)) ⌝ }
-{
-    let mut filled = [0u16; Book::MAX_LEVELS];
-    let mut i: usize = 0;
-    while i < Book::MAX_LEVELS {
-        filled[i] = row_at(s, i);
-        i += 1;
-    }
-    filled
-}
-
-pub fn read_book(s: &[u8]) -> Book
-    requires { ⌜ sizeIsRight (now s) ≡ true ⌝ }
-    ensures { λ r. ⌜ r ≡ bookOf (now (s .entry)) ⌝ }
-{
-    Book {
-        count: prelude::wide(s[0]),
-        rows: read_rows(s),
-    }
 }

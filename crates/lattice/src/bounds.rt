@@ -1,5 +1,6 @@
-// Common upper and lower levels, and the greatest and the least level of all. A function that takes `dual` works on the order upside down where it is set,
-// so that one search serves both: the greatest common lower level is the least common upper one upside down.
+// Common upper and lower levels, and the greatest and the least level of all.
+// A function that takes `dual` works on the order upside down where it is set, so that one search serves both:
+// the greatest common lower level is the least common upper one upside down.
 use crate::book::Book;
 use crate::book::PairTable;
 use crate::book::at_or_below;

@@ -1,5 +1,6 @@
 // The level book: any bytes in; out comes a checked book with the join and meet of every pair, or a refusal.
-pub mod book; // book.rt: the book by value, and how it is read from bytes
+pub mod book; // book.rt: the book by value, and the table of levels for its pairs
+mod read; // read.rt: the book from its bytes, refusal 1
 mod order; // order.rt: the faults of refusal 2
 mod bounds; // bounds.rt: common upper and lower levels, refusal 3, the greatest and the least level
 
@@ -54,10 +55,10 @@ pub fn load(s: &[u8], join: &mut PairTable, meet: &mut PairTable) -> Loaded
     requires { ⌜ Square mostLevels (now join) × Square mostLevels (now meet) ⌝ }
     ensures { λ r. ⌜ Loads (now (s .entry)) r (now (join .exit)) (now (meet .exit)) ⌝ }
 {
-    if !book::size_is_right(s) {
+    if !read::size_is_right(s) {
         return refused(1, 0);
     }
-    let b = book::read_book(s);
+    let b = read::read_book(s);
     let n = b.count;
     let faulty = order::first_faulty(b);
     if faulty < n {

@@ -1,6 +1,6 @@
 -- Searches over the numbers below n, by a test that computes.
 -- 01 says 'smallest', 'first', 'some' and 'every' of levels, names, expressions and nodes: always by these.
-use mathlib.Core.Bool.{Bool, true, false, cond, not}
+use mathlib.Core.Bool.{Bool, cond, not}
 use Prim.Native.Nat.{ℕ, zero, suc}
 use lib.Dec.{ltb}
 

@@ -1,4 +1,5 @@
 -- `show`: new tables are square, and a loaded book has few enough levels.
+use Rattle.lattice.specs.LevelBook.{mostLevels}
 use Rattle.lattice.proofs.Loads.{new-square}
 use Rattle.lattice.proofs.Theorems.{loads-few}
 use borrow.Author.Needs.{needs}
@@ -6,7 +7,7 @@ use Rattle.examples.proofs.show.Statement.{statement}
 use Rattle.examples.proofs.show.Tie as tie
 
 load-requires : tie.Need-load-requires
-load-requires c κs = (new-square 16 0, new-square 16 0)
+load-requires c κs = (new-square mostLevels 0, new-square mostLevels 0)
 
 slice-aggregate-say : tie.Need-slice-aggregate-say
 slice-aggregate-say c = search needs

@@ -1,5 +1,5 @@
 -- `greatest`: no level below t is the greatest.
-use mathlib.Core.Path.{_≡_, sym, _∙_}
+use mathlib.Core.Path.{sym, _∙_}
 use Prim.Native.Nat.{_-_, _≤_}
 use borrow.Author.Count.{below-none, below-more}
 use Rattle.prelude.proofs.Searches.{NoneBelow, past, first-is, first-none}

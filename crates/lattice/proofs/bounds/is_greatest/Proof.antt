@@ -1,5 +1,5 @@
 -- `is_greatest`: the levels below i are at or below t.
-use mathlib.Core.Path.{_≡_, sym, _∙_}
+use mathlib.Core.Path.{sym, _∙_}
 use Prim.Native.Nat.{_-_, _≤_}
 use native.Mathlib.Nat.{lt-of-lt-of-le}
 use borrow.Author.Count.{below-none, below-more}

@@ -1,5 +1,5 @@
 -- `is_least_upper`: each way out decides one test of the definition.
-use mathlib.Core.Path.{_≡_, sym, ap, _∙_}
+use mathlib.Core.Path.{sym, ap, _∙_}
 use mathlib.Core.Bool.{not}
 use borrow.Author.Needs.{needs}
 use Rattle.lattice.proofs.bounds.is_least_upper.Statement.{statement}

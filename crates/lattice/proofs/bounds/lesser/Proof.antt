@@ -1,7 +1,6 @@
 -- `lesser`: by the test.
 use mathlib.Core.Path.{sym}
 use borrow.Author.Tests.{le-leb, lt-leb}
-use borrow.Author.Needs.{needs}
 use Rattle.lattice.proofs.bounds.lesser.Statement.{statement}
 use Rattle.lattice.proofs.bounds.lesser.Tie as tie
 

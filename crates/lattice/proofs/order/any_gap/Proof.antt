@@ -1,6 +1,6 @@
 -- `any_gap`: the levels below k show no gap.
 use borrow.Author.Needs.{needs}
-use mathlib.Core.Path.{_≡_, sym, _∙_}
+use mathlib.Core.Path.{sym, _∙_}
 use Prim.Native.Nat.{_-_, _≤_}
 use borrow.Author.Count.{below-none, below-more}
 use Rattle.prelude.proofs.Searches.{NoneBelow, past, any-some, any-none}

@@ -1,5 +1,5 @@
 -- `both_ways`: each way out decides one test of the definition.
-use mathlib.Core.Path.{_≡_, sym, ap, _∙_}
+use mathlib.Core.Path.{sym, _∙_}
 use borrow.Author.Tests.{eq-eqb, ne-eqb}
 use borrow.Author.Needs.{needs}
 use Rattle.lattice.proofs.order.both_ways.Statement.{statement}

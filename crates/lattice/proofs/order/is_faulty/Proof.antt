@@ -1,5 +1,5 @@
 -- `is_faulty`: each way out decides one test of the definition.
-use mathlib.Core.Path.{_≡_, sym, _∙_}
+use mathlib.Core.Path.{sym, _∙_}
 use borrow.Author.Tests.{not-true, not-false, lt-ltb, le-ltb}
 use Rattle.lattice.specs.Refusals.{isFaulty}
 use borrow.Author.Needs.{needs}

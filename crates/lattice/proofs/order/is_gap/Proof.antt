@@ -1,5 +1,5 @@
 -- `is_gap`: each way out decides one test of the definition.
-use mathlib.Core.Path.{_≡_, sym, ap, _∙_}
+use mathlib.Core.Path.{sym, ap, _∙_}
 use mathlib.Core.Bool.{not}
 use borrow.Author.Needs.{needs}
 use Rattle.lattice.proofs.order.is_gap.Statement.{statement}

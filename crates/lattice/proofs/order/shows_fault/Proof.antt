@@ -1,5 +1,5 @@
 -- `shows_fault`: each way out decides one test of the definition.
-use mathlib.Core.Path.{_≡_, sym, _∙_}
+use mathlib.Core.Path.{sym, _∙_}
 use Rattle.prelude.proofs.Bools.{or-first, or-second}
 use borrow.Author.Needs.{needs}
 use Rattle.lattice.proofs.order.shows_fault.Statement.{statement}

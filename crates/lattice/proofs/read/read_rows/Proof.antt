@@ -6,8 +6,8 @@ use lib.ListN.{length, take, length-set}
 use Rattle.prelude.specs.Table.{table}
 use Rattle.prelude.proofs.Tables.{fill-none, fill-more, fill-all}
 use Rattle.lattice.specs.LevelBook.{mostLevels, row}
-use Rattle.lattice.proofs.book.read_rows.Statement.{statement}
-use Rattle.lattice.proofs.book.read_rows.Tie as tie
+use Rattle.lattice.proofs.read.read_rows.Statement.{statement}
+use Rattle.lattice.proofs.read.read_rows.Tie as tie
 
 abbrev Inv-loop : tie.InvT-loop
 Inv-loop s filled₀ i₀ filled i = (i ≤ mostLevels) × ((length filled ≡ mostLevels) × (take i filled ≡ table (row s) i))

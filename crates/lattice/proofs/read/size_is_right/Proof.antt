@@ -1,13 +1,13 @@
 -- `size_is_right`: each way out decides one test of the definition.
-use mathlib.Core.Path.{_≡_, sym, _∙_}
+use mathlib.Core.Path.{sym}
 use Prim.Native.Nat.{ℕ}
 use native.Mathlib.Omega.{arith}
 use borrow.Author.Tests.{lt-leb, le-leb}
 use lib.ListN.{List·getD-eq-default}
 use Rattle.lattice.specs.LevelBook.{mostLevels, count}
 use borrow.Author.Needs.{needs}
-use Rattle.lattice.proofs.book.size_is_right.Statement.{statement}
-use Rattle.lattice.proofs.book.size_is_right.Tie as tie
+use Rattle.lattice.proofs.read.size_is_right.Statement.{statement}
+use Rattle.lattice.proofs.read.size_is_right.Tie as tie
 
 returns : tie.Need-returns
 returns c = sym (simp (List·getD-eq-default {A = ℕ} (c .before .before .args .s .now) 0 {n = 0} (omega arith)))

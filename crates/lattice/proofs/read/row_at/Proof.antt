@@ -1,13 +1,13 @@
 -- `row_at`: a row that the book lacks is 0, since its bytes lie past the end.
-use mathlib.Core.Path.{_≡_, sym, ap, _∙_}
+use mathlib.Core.Path.{_≡_, sym}
 use native.Mathlib.Omega.{arith}
 use Prim.Native.Nat.{ℕ, _+_, _*_, _≤_}
 use lib.ListN.{getD, length, List·getD-eq-default}
 use mathlib.Core.List.{List}
 use Rattle.lattice.specs.LevelBook.{count, row}
 use borrow.Author.Needs.{needs}
-use Rattle.lattice.proofs.book.row_at.Statement.{statement}
-use Rattle.lattice.proofs.book.row_at.Tie as tie
+use Rattle.lattice.proofs.read.row_at.Statement.{statement}
+use Rattle.lattice.proofs.read.row_at.Tie as tie
 
 -- past the last row there are no bytes
 no-row : (s : List ℕ) (i : ℕ) → length s ≡ 1 + 2 * count s → length s ≤ 2 + 2 * i → row s i ≡ 0

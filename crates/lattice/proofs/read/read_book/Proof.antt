@@ -2,8 +2,8 @@
 use native.Mathlib.Omega.{arith}
 use Rattle.lattice.proofs.Sizes.{right-size}
 use borrow.Author.Needs.{needs}
-use Rattle.lattice.proofs.book.read_book.Statement.{statement}
-use Rattle.lattice.proofs.book.read_book.Tie as tie
+use Rattle.lattice.proofs.read.read_book.Statement.{statement}
+use Rattle.lattice.proofs.read.read_book.Tie as tie
 
 shared-slice-read-wide : tie.Need-shared-slice-read-wide
 shared-slice-read-wide c = omega (arith, right-size (c .before .before .args .s .now) (c .before .before .pre))
