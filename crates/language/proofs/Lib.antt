@@ -1,2 +1,14 @@
--- Laws that the proofs of several functions use.
+-- Laws that the proofs of several functions use, and the theorems of the crate.
 pub mod Signed
+pub mod Orders
+pub mod Needs
+pub mod Typing
+pub mod Figures
+pub mod Runs
+pub mod Stores
+pub mod Safe
+pub mod Lockstep
+pub mod Noninterference
+pub mod Flows
+pub mod Theorems
+pub mod Examples

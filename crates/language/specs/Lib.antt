@@ -1,2 +1,14 @@
--- The language of scripts: 01, 'Script file' (values) to 'Calls', and the figures of RR-5594.
+-- The language of scripts: 01, 'Script file' (values) to 'Calls', then the figures of RR-5594, then what is proved.
 pub mod Values
+pub mod Syntax
+pub mod Scope
+pub mod Levels
+pub mod Steps
+pub mod Calls
+pub mod Suspension
+pub mod Moves
+pub mod Instants
+pub mod Typing
+pub mod Paths
+pub mod Results
+pub mod Examples

@@ -54,3 +54,12 @@ and-swap false false c = refl
 pub by-cases {ℓ} : {A : Type ℓ} (M : A → Type 0) (b : Bool) {x y : A} → (b ≡ true → M x) → (b ≡ false → M y) → M (cond b x y)
 by-cases M true f g = f refl
 by-cases M false f g = g refl
+
+-- two conditionals with equal tests
+pub by-both {ℓ} :
+    {A : Type ℓ} (M : A → A → Type 0) (b b′ : Bool) {x y x′ y′ : A} →
+    b ≡ b′ → (b ≡ true → M x x′) → (b ≡ false → M y y′) → M (cond b x y) (cond b′ x′ y′)
+by-both M true true e f g = f refl
+by-both M true false e f g = absurd (true≢false e)
+by-both M false true e f g = absurd (false≢true e)
+by-both M false false e f g = g refl

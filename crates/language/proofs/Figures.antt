@@ -1,0 +1,245 @@
+-- The functions of 01's 'Steps' make exactly the steps of the report's Figures 1 to 4.
+-- Assumes nothing.
+use Prim.Native.Nat.{ℕ, suc}
+use mathlib.Core.Path.{_≡_, refl, ap, ap₂, sym, subst, _∙_}
+use mathlib.Core.Bool.{Bool, true, false, cond, not, _&&_, _||_, true≢false, false≢true}
+use mathlib.Core.List.{List}
+use mathlib.Core.Logic.{_⊎_, inl, inr}
+use lib.IntN.{ℤ}
+use Rattle.prelude.proofs.Bools.{by-cases, fails, and-intro, and-left, and-right, or-left, or-right}
+use Rattle.language.specs.Syntax.{Names, Exp, Proc, nil, assign, letIn, ifThenElse, while, sequence, emit, local, watching, when, parallel, isNil}
+use Rattle.language.specs.Steps.{present, value, test, Output, silent, Outcome, leaves, inside, suspended, move, change, instantStart, step}
+use Rattle.language.specs.Calls.{System, output, next}
+use Rattle.language.specs.Suspension.{Suspended, WHEN-SUS₁, WHEN-SUS₂, WATCH-SUS, SEQ-SUS, PAR-SUS}
+use Rattle.language.specs.Moves.{Move, ASSIGN-OP, SEQ-OP₁, SEQ-OP₂, LET-OP, COND-OP₁, COND-OP₂, WHILE-OP₁, WHILE-OP₂, EMIT-OP, LOCAL-OP, WATCH-OP₁, WATCH-OP₂, WHEN-OP₁, WHEN-OP₂, PAR-OP₁, PAR-OP₂, PAR-OP₃}
+use Rattle.language.specs.Instants.{Changed, WATCH-PRESENT, WATCH-ABSENT, WHEN-PRESENT, WHEN-ABSENT, SEQ-CHANGED, PAR-CHANGED, Step, MOVE, INSTANT-OP}
+
+not-true : (b : Bool) → not b ≡ false → b ≡ true
+not-true true h = refl
+not-true false h = absurd (true≢false h)
+
+either-true : (a b : Bool) → (not a || b) ≡ true → (a ≡ false) ⊎ (b ≡ true)
+either-true true b h = inr h
+either-true false b h = inl refl
+
+or-late : (a b : Bool) → b ≡ true → (a || b) ≡ true
+or-late true b h = refl
+or-late false b h = h
+
+module _ {L : Type 0} where
+  nil-of : (p : Proc L) → isNil p ≡ true → p ≡ nil
+  unfolding isNil
+  nil-of nil h = refl
+  nil-of (assign x e) h = absurd (false≢true h)
+  nil-of (letIn x δ e p) h = absurd (false≢true h)
+  nil-of (ifThenElse e p q) h = absurd (false≢true h)
+  nil-of (while e p) h = absurd (false≢true h)
+  nil-of (sequence p q) h = absurd (false≢true h)
+  nil-of (emit a) h = absurd (false≢true h)
+  nil-of (local a δ p) h = absurd (false≢true h)
+  nil-of (watching a p) h = absurd (false≢true h)
+  nil-of (when a p) h = absurd (false≢true h)
+  nil-of (parallel p q) h = absurd (false≢true h)
+
+  -- Figure 1
+  pub suspended-of : {s : List ℤ} {p : Proc L} → Suspended s p → suspended p s ≡ true
+  unfolding suspended
+  suspended-of (WHEN-SUS₁ h) = rw h
+  suspended-of {s} (WHEN-SUS₂ {a = a} {p = p} d) = or-late (not (present s a)) (suspended p s) (suspended-of d)
+  suspended-of (WATCH-SUS d) = suspended-of d
+  suspended-of (SEQ-SUS d) = suspended-of d
+  suspended-of (PAR-SUS d d′) = and-intro _ _ (suspended-of d) (suspended-of d′)
+
+  pub suspended-is : (p : Proc L) (s : List ℤ) → suspended p s ≡ true → Suspended s p
+  unfolding suspended
+  suspended-is nil s h = absurd (false≢true h)
+  suspended-is (assign x e) s h = absurd (false≢true h)
+  suspended-is (letIn x δ e p) s h = absurd (false≢true h)
+  suspended-is (ifThenElse e p q) s h = absurd (false≢true h)
+  suspended-is (while e p) s h = absurd (false≢true h)
+  suspended-is (sequence p q) s h = SEQ-SUS (suspended-is p s h)
+  suspended-is (emit a) s h = absurd (false≢true h)
+  suspended-is (local a δ p) s h = absurd (false≢true h)
+  suspended-is (watching a p) s h = WATCH-SUS (suspended-is p s h)
+  suspended-is (when a p) s h = go (either-true (present s a) (suspended p s) h) (suspended-is p s)
+    where
+      go : (present s a ≡ false) ⊎ (suspended p s ≡ true) → (suspended p s ≡ true → Suspended s p) → Suspended s (when a p)
+      go (inl e) ih = WHEN-SUS₁ e
+      go (inr e) ih = WHEN-SUS₂ (ih e)
+  suspended-is (parallel p q) s h =
+      PAR-SUS
+      (suspended-is p s (and-left (suspended p s) (suspended q s) h))
+      (suspended-is q s (and-right (suspended p s) (suspended q s) h))
+
+  suspended-not-nil : {s : List ℤ} {p : Proc L} → Suspended s p → isNil p ≡ false
+  unfolding isNil
+  suspended-not-nil (WHEN-SUS₁ h) = refl
+  suspended-not-nil (WHEN-SUS₂ d) = refl
+  suspended-not-nil (WATCH-SUS d) = refl
+  suspended-not-nil (SEQ-SUS d) = refl
+  suspended-not-nil (PAR-SUS d d′) = refl
+
+  awake : (p : Proc L) (s : List ℤ) → suspended p s ≡ false → Suspended s p → ⊥
+  awake p s h d = true≢false (sym (suspended-of d) ∙ h)
+
+  not-suspended : (p : Proc L) (s : List ℤ) → (Suspended s p → ⊥) → suspended p s ≡ false
+  not-suspended p s n = fails (suspended p s) (λ h. n (suspended-is p s h))
+
+  -- Figures 2 and 3
+  move-not-nil : {s s′ : List ℤ} {p p′ : Proc L} {o : Output} → Move s p o p′ s′ → isNil p ≡ false
+  unfolding isNil
+  move-not-nil ASSIGN-OP = refl
+  move-not-nil SEQ-OP₁ = refl
+  move-not-nil (SEQ-OP₂ d) = refl
+  move-not-nil LET-OP = refl
+  move-not-nil (COND-OP₁ h) = refl
+  move-not-nil (COND-OP₂ h) = refl
+  move-not-nil (WHILE-OP₁ h) = refl
+  move-not-nil (WHILE-OP₂ h) = refl
+  move-not-nil EMIT-OP = refl
+  move-not-nil LOCAL-OP = refl
+  move-not-nil WATCH-OP₁ = refl
+  move-not-nil (WATCH-OP₂ d) = refl
+  move-not-nil (WHEN-OP₁ h) = refl
+  move-not-nil (WHEN-OP₂ h d) = refl
+  move-not-nil PAR-OP₁ = refl
+  move-not-nil (PAR-OP₂ d) = refl
+  move-not-nil (PAR-OP₃ d n) = refl
+
+  move-awake : {s s′ : List ℤ} {p p′ : Proc L} {o : Output} → Move s p o p′ s′ → suspended p s ≡ false
+  unfolding suspended
+  move-awake ASSIGN-OP = refl
+  move-awake SEQ-OP₁ = refl
+  move-awake (SEQ-OP₂ d) = move-awake d
+  move-awake LET-OP = refl
+  move-awake (COND-OP₁ h) = refl
+  move-awake (COND-OP₂ h) = refl
+  move-awake (WHILE-OP₁ h) = refl
+  move-awake (WHILE-OP₂ h) = refl
+  move-awake EMIT-OP = refl
+  move-awake LOCAL-OP = refl
+  move-awake WATCH-OP₁ = refl
+  move-awake (WATCH-OP₂ d) = move-awake d
+  move-awake (WHEN-OP₁ h) = rw h
+  move-awake (WHEN-OP₂ h d) = rw (h, move-awake d)
+  move-awake PAR-OP₁ = refl
+  move-awake (PAR-OP₂ d) = rw (move-awake d)
+  move-awake {s} (PAR-OP₃ {q = q} d n) = rw (suspended-of d, not-suspended q s n)
+
+  -- the function's move is the only one that a rule allows
+  abbrev Is : Outcome L → Output → Proc L → List ℤ → Type 0
+  Is r o p s = (r .output ≡ o) × (r .process ≡ p) × (r .values ≡ s)
+
+  is-inside :
+      (context : Proc L → Proc L) {r : Outcome L} {o : Output} {p : Proc L} {s : List ℤ} →
+      Is r o p s → Is (inside context r) o (context p) s
+  is-inside context h = (h .0, ap context (h .1), h .2)
+
+  pub move-only : {s s′ : List ℤ} {p p′ : Proc L} {o : Output} → Move s p o p′ s′ → Is (move p s) o p′ s′
+  unfolding move isNil
+  move-only ASSIGN-OP = (refl, refl, refl)
+  move-only SEQ-OP₁ = (refl, refl, refl)
+  move-only (SEQ-OP₂ {q = q} d) = rw (move-not-nil d) (is-inside (λ z. sequence z q) (move-only d))
+  move-only LET-OP = (refl, refl, refl)
+  move-only (COND-OP₁ h) = rw h (refl, refl, refl)
+  move-only (COND-OP₂ h) = rw h (refl, refl, refl)
+  move-only (WHILE-OP₁ h) = rw h (refl, refl, refl)
+  move-only (WHILE-OP₂ h) = rw h (refl, refl, refl)
+  move-only EMIT-OP = (refl, refl, refl)
+  move-only LOCAL-OP = (refl, refl, refl)
+  move-only WATCH-OP₁ = (refl, refl, refl)
+  move-only (WATCH-OP₂ {a = a} d) = rw (move-not-nil d) (is-inside (watching a) (move-only d))
+  move-only (WHEN-OP₁ h) = (refl, refl, refl)
+  move-only (WHEN-OP₂ {a = a} h d) = rw (move-not-nil d) (is-inside (when a) (move-only d))
+  move-only PAR-OP₁ = (refl, refl, refl)
+  move-only (PAR-OP₂ {q = q} d) = rw (move-not-nil d, move-awake d) (is-inside (λ z. parallel z q) (move-only d))
+  move-only (PAR-OP₃ d n) = rw (suspended-not-nil d, suspended-of d) (refl, refl, refl)
+
+  -- and a rule allows it
+  abbrev Allowed : List ℤ → Proc L → Outcome L → Type 0
+  Allowed s p r = Move s p (r .output) (r .process) (r .values)
+
+  pub move-is : (p : Proc L) (s : List ℤ) → isNil p ≡ false → suspended p s ≡ false → Allowed s p (move p s)
+  unfolding move suspended isNil
+  move-is nil s n h = absurd (true≢false n)
+  move-is (assign x e) s n h = ASSIGN-OP
+  move-is (letIn x δ e p) s n h = LET-OP
+  move-is (ifThenElse e p q) s n h = by-cases (λ z. Move s (ifThenElse e p q) silent z s) _ COND-OP₁ COND-OP₂
+  move-is (while e p) s n h = by-cases (λ z. Move s (while e p) silent z s) _ WHILE-OP₁ WHILE-OP₂
+  move-is (sequence p q) s n h =
+      by-cases (Allowed s (sequence p q)) _ (λ e. rw (nil-of p e) SEQ-OP₁) (λ e. SEQ-OP₂ (move-is p s e h))
+  move-is (emit a) s n h = EMIT-OP
+  move-is (local a δ p) s n h = LOCAL-OP
+  move-is (watching a p) s n h =
+      by-cases (Allowed s (watching a p)) _ (λ e. rw (nil-of p e) WATCH-OP₁) (λ e. WATCH-OP₂ (move-is p s e h))
+  move-is (when a p) s n h =
+      let here = not-true (present s a) (or-left (not (present s a)) (suspended p s) h) in
+      let free = or-right (not (present s a)) (suspended p s) h in
+      by-cases (Allowed s (when a p)) _ (λ e. rw (nil-of p e) (WHEN-OP₁ here)) (λ e. WHEN-OP₂ here (move-is p s e free))
+  move-is (parallel p q) s n h =
+      by-cases
+      (Allowed s (parallel p q))
+      _
+      (λ e. rw (nil-of p e) PAR-OP₁)
+      (λ e.
+      by-cases
+      (Allowed s (parallel p q))
+      _
+      (λ w. PAR-OP₃ (suspended-is p s w) (awake q s (rw w at h)))
+      (λ w. PAR-OP₂ (move-is p s e w)))
+
+  -- Figure 4
+  changed-only : {s : List ℤ} {p p′ : Proc L} → Changed s p p′ → change p s ≡ p′
+  unfolding change
+  changed-only (WATCH-PRESENT h) = rw h
+  changed-only (WATCH-ABSENT {a = a} h d) = rw h (ap (watching a) (changed-only d))
+  changed-only (WHEN-PRESENT {a = a} h d) = rw h (ap (when a) (changed-only d))
+  changed-only (WHEN-ABSENT h) = rw h
+  changed-only (SEQ-CHANGED {q = q} d) = ap (λ z. sequence z q) (changed-only d)
+  changed-only (PAR-CHANGED d d′) = ap₂ parallel (changed-only d) (changed-only d′)
+
+  change-is : {s : List ℤ} {p : Proc L} → Suspended s p → Changed s p (change p s)
+  unfolding change
+  change-is {s} (WHEN-SUS₁ {a = a} {p = p} e) = by-cases (Changed s (when a p)) _ (λ h. absurd (true≢false (sym h ∙ e))) WHEN-ABSENT
+  change-is {s} (WHEN-SUS₂ {a = a} {p = p} d) = by-cases (Changed s (when a p)) _ (λ h. WHEN-PRESENT h (change-is d)) WHEN-ABSENT
+  change-is {s} (WATCH-SUS {a = a} {p = p} d) =
+      by-cases (Changed s (watching a p)) _ WATCH-PRESENT (λ h. WATCH-ABSENT h (change-is d))
+  change-is (SEQ-SUS d) = SEQ-CHANGED (change-is d)
+  change-is (PAR-SUS d d′) = PAR-CHANGED (change-is d) (change-is d′)
+
+module _ {L : Type 0} (names : Names L) (at : System L) where
+  -- a system from its parts
+  abbrev built : Proc L → List ℤ → ℕ → System L
+  built p s i = record { process = p; values = s; steps = suc (at .steps); instants = i }
+
+  -- what is next, where it is known whether the process is suspended
+  abbrev outcome : Bool → Outcome L
+  outcome b = cond b (leaves (change (at .process) (at .values)) (instantStart names (at .values))) (move (at .process) (at .values))
+
+  abbrev following : Bool → System L
+  following b = built (outcome b .process) (outcome b .values) (cond b (suc (at .instants)) (at .instants))
+
+  known : (b : Bool) → suspended (at .process) (at .values) ≡ b → (output names at ≡ outcome b .output) × (next names at ≡ following b)
+  unfolding step
+  known b h = subst (λ c. (output names at ≡ outcome c .output) × (next names at ≡ following c)) h (refl, refl)
+
+  pub step-only : {o : Output} {to : System L} → Step names at o to → (output names at ≡ o) × (next names at ≡ to)
+  step-only (MOVE d) =
+      let k = known false (move-awake d) in
+      let m = move-only d in
+      (k .0 ∙ m .0, k .1 ∙ ap₂ (λ p s. built p s (at .instants)) (m .1) (m .2))
+  step-only (INSTANT-OP d c) =
+      let k = known true (suspended-of d) in
+      (k .0, k .1 ∙ ap (λ p. built p (instantStart names (at .values)) (suc (at .instants))) (changed-only c))
+
+  pub step-is : isNil (at .process) ≡ false → Step names at (output names at) (next names at)
+  unfolding step
+  step-is n = go (suspended (at .process) (at .values)) refl
+    where
+      go : (b : Bool) → suspended (at .process) (at .values) ≡ b → Step names at (outcome b .output) (following b)
+      go true h = let d = suspended-is (at .process) (at .values) h in INSTANT-OP d (change-is d)
+      go false h = MOVE (move-is (at .process) (at .values) n h)
+
+  pub nil-rests : isNil (at .process) ≡ true → {o : Output} {to : System L} → Step names at o to → ⊥
+  nil-rests h (MOVE d) = true≢false (sym h ∙ move-not-nil d)
+  nil-rests h (INSTANT-OP d c) = true≢false (sym h ∙ suspended-not-nil d)

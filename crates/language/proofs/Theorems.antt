@@ -1,0 +1,95 @@
+-- The results of specs/Results.antt.
+-- Assumes nothing.
+use Prim.Native.Nat.{ℕ, _≤_}
+use native.Mathlib.Nat.{zero-add, le-refl}
+use mathlib.Core.Path.{_≡_, refl, sym, ap, _∙_}
+use mathlib.Core.Bool.{Bool, true, false}
+use mathlib.Core.Logic.{_↔_}
+use mathlib.Core.List.{List}
+use lib.IntN.{ℤ}
+use Rattle.lattice.specs.Lattice.{Lattice, Laws}
+use Rattle.language.specs.Syntax.{Names, Proc}
+use Rattle.language.specs.Scope.{Scoped}
+use Rattle.language.specs.Levels.{writeLevel, testLevel, needs}
+use Rattle.language.specs.Steps.{held}
+use Rattle.language.specs.Calls.{System, Run, starts, readable, run}
+use Rattle.language.specs.Typing.{environment, Below, Typed}
+use Rattle.language.specs.Results.{upTo, StepsAgree, RunsAgree, LevelsAgree, StartsAgree, RecordsAgree, NonInterference}
+use Rattle.language.proofs.Needs.{Needs, needs-hold, hold-needs}
+use Rattle.language.proofs.Typing.{derives, derived, environment-covers, environment-agrees}
+use Rattle.language.proofs.Figures.{step-is, step-only, nil-rests}
+use Rattle.language.proofs.Runs.{run-is, run-only}
+use Rattle.language.proofs.Safe.{Safe}
+use Rattle.language.proofs.Lockstep.{Twins}
+use Rattle.language.proofs.Noninterference.{Agree, agree}
+use Rattle.language.proofs.Flows.{safe-of}
+
+pub steps-agree : {L : Type 0} (names : Names L) (at : System L) → StepsAgree names at
+steps-agree names at =
+    record { allowed = step-is names at; only = λ o to d. step-only names at d; nil-rests = λ h o to d. nil-rests names at h d }
+
+pub runs-agree : {L : Type 0} (names : Names L) (seen : ℕ → Bool) (n room : ℕ) (at : System L) → RunsAgree names seen n room at
+runs-agree names seen n room at = record { path = run-is names seen n room at; only = run-only names seen n room at }
+
+module _
+    {L : Type 0} (𝓛 : Lattice L) (laws : Laws 𝓛) (names : Names L) (p : Proc L)
+    (scoped : Scoped names (names .isSession) p)
+  where
+    pub levels-agree : LevelsAgree 𝓛 names (environment names (names .isSession)) p
+    levels-agree =
+        record {
+          accepts = (λ h. (writeLevel 𝓛 names p, testLevel 𝓛 names p, derive h), λ d. hold-needs 𝓛 names p (read (d .2) .0));
+          derivable = derive;
+          tightest = λ θ σ d. (read d .1, read d .2);
+        }
+      where
+        derive :
+            needs 𝓛 names p ≡ true →
+            Typed 𝓛 (environment names (names .isSession)) p (writeLevel 𝓛 names p) (testLevel 𝓛 names p)
+        derive h =
+            derives 𝓛 laws names p _ (names .isSession) (environment-covers names (names .isSession)) scoped (needs-hold 𝓛 names p h)
+
+        read :
+            {θ σ : L} → Typed 𝓛 (environment names (names .isSession)) p θ σ →
+            Needs 𝓛 names p × Below 𝓛 θ (writeLevel 𝓛 names p) × Below 𝓛 (testLevel 𝓛 names p) σ
+        read d = derived 𝓛 laws names d (names .isSession) (environment-agrees names (names .isSession)) scoped
+
+    -- two starts that agree below a reader are low-equal
+    starts-twins :
+        (reader : L) (s t : List ℤ) → StartsAgree 𝓛 names reader s t →
+        Twins names (readable 𝓛 names reader) (starts p s) (starts p t)
+    starts-twins reader s t h =
+        record {
+          process = refl;
+          values = record { lengths = h .lengths; agree = λ x l. equal x l (names .isSession x) refl };
+          steps = refl;
+          instants = refl;
+        }
+      where
+        equal :
+            (x : ℕ) → readable 𝓛 names reader x ≡ true → (b : Bool) → names .isSession x ≡ b → held s x ≡ held t x
+        equal x l true k = h .session x k l
+        equal x l false k = h .owned x k .0 ∙ sym (h .owned x k .1)
+
+    pub noninterference : needs 𝓛 names p ≡ true → (reader : L) → NonInterference 𝓛 names reader p
+    noninterference h reader s t q room n m l =
+        record {
+          shorter = both .lines;
+          equal = λ e. both .lines ∙ ap (λ j. upTo j (run names low m room (starts p t) .lines)) e ∙ sym (alone .lines);
+          registers = λ e x w i u. both .registers e x (u, w, i);
+        }
+      where
+        low : ℕ → Bool
+        low = readable 𝓛 names reader
+
+        safe : Safe names low p
+        safe = safe-of 𝓛 laws names reader p (names .isSession) scoped (needs-hold 𝓛 names p h)
+
+        both : Agree names low n n m (run names low n room (starts p s)) (run names low m room (starts p t))
+        both = agree names low n m n room (starts p s) (starts p t) (zero-add n) l (starts-twins reader s t q) safe
+
+        self : StartsAgree 𝓛 names reader t t
+        self = record { lengths = refl; session = λ x w u. refl; owned = λ x w. (q .owned x w .1, q .owned x w .1) }
+
+        alone : Agree names low m m m (run names low m room (starts p t)) (run names low m room (starts p t))
+        alone = agree names low m m m room (starts p t) (starts p t) (zero-add m) (le-refl m) (starts-twins reader t t self) safe

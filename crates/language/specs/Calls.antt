@@ -1,0 +1,96 @@
+-- 01, 'Calls': what a run does, step by step.
+use Prim.Native.Nat.{ℕ, zero, suc}
+use mathlib.Core.Bool.{Bool, cond}
+use mathlib.Core.Option.{Option, none, some}
+use mathlib.Core.List.{List, [], _∷_}
+use lib.IntN.{ℤ, pos}
+use lib.ListN.{length}
+use Rattle.prelude.specs.Table.{table}
+use Rattle.lattice.specs.Lattice.{Lattice}
+use Rattle.language.specs.Syntax.{Names, Proc, isNil}
+use Rattle.language.specs.Steps.{held, Output, silent, assigned, emitted, Outcome, suspended, step}
+
+-- 'step from 1, instant from 0, name, value (1 for an emission)'
+pub record Line : Type 0 where
+  pub step : ℕ
+  pub instant : ℕ
+  pub name : ℕ
+  pub value : ℤ
+
+pub data Ending : Type 0 where
+  finished spent logFull : Ending
+
+-- a script that runs: what is left of it, the values, and what has been counted
+pub record System (L : Type 0) : Type 0 where
+  pub process : Proc L
+  pub values : List ℤ
+  pub steps : ℕ
+  pub instants : ℕ
+
+-- 'Run returns how it ended, steps, instants, lines' and leaves the values.
+pub record Run : Type 0 where
+  pub ending : Ending
+  pub steps : ℕ
+  pub instants : ℕ
+  pub lines : List Line
+  pub values : List ℤ
+
+abbrev pub starts : {L : Type 0} → Proc L → List ℤ → System L
+starts p s = record { process = p; values = s; steps = 0; instants = 0 }
+
+-- 'a name at or below the reader's level'
+abbrev pub readable : {L : Type 0} → Lattice L → Names L → L → ℕ → Bool
+readable 𝓛 names reader x = 𝓛 .leq (names .level x) reader
+
+-- The line that a step calls for, from the system before it: 'A line is written for each assignment and emission to a name
+-- at or below the reader's level; a let writes none.'
+module _ {L : Type 0} (seen : ℕ → Bool) (at : System L) where
+  abbrev pub lineFor : ℕ → ℤ → Option Line
+  lineFor x v = cond (seen x) (some (record { step = suc (at .steps); instant = at .instants; name = x; value = v })) none
+
+  unfoldable pub calledFor : Output → Option Line
+  calledFor silent = none
+  calledFor (assigned x v) = lineFor x v
+  calledFor (emitted a) = lineFor a (pos 1)
+
+module _ {L : Type 0} (names : Names L) where
+  -- 'Values then hold the state after the counted steps, owned names 0.'
+  unfoldable pub givenBack : List ℤ → List ℤ
+  givenBack s = table (λ x. cond (names .isSession x) (held s x) (pos 0)) (length s)
+
+  abbrev pub output : System L → Output
+  output at = step names (at .process) (at .values) .output
+
+  abbrev pub next : System L → System L
+  next at =
+      record {
+        process = step names (at .process) (at .values) .process;
+        values = step names (at .process) (at .values) .values;
+        steps = suc (at .steps);
+        instants = cond (suspended (at .process) (at .values)) (suc (at .instants)) (at .instants);
+      }
+
+  abbrev pub stops : Ending → System L → Run
+  stops how at =
+      record { ending = how; steps = at .steps; instants = at .instants; lines = []; values = givenBack (at .values) }
+
+abbrev pub withLine : Line → Run → Run
+withLine l r =
+    record { ending = r .ending; steps = r .steps; instants = r .instants; lines = l ∷ r .lines; values = r .values }
+
+-- A step that calls for this line, with room for so many: `go` on with the room that is left, or stop as `full`.
+unfoldable pub logged : Option Line → ℕ → (ℕ → Run) → Run → Run
+logged none room go full = go room
+logged (some l) zero go full = full
+logged (some l) (suc room) go full = withLine l (go room)
+
+module _ {L : Type 0} (names : Names L) (seen : ℕ → Bool) where
+  -- At most n steps more, with room for so many lines. 'Before each step: 0 finished if the script is nil; else 1 spent if
+  -- the limit is reached; else 2 log full if this step needs a line and no four words are left.'
+  unfoldable pub run : ℕ → ℕ → System L → Run
+  run zero room at = cond (isNil (at .process)) (stops names finished at) (stops names spent at)
+  run (suc n) room at =
+      cond
+      (isNil (at .process))
+      (stops names finished at)
+      (logged (calledFor seen at (output names at)) room (λ left. run n left (next names at)) (stops names logFull at))

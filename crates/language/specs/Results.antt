@@ -1,0 +1,67 @@
+-- What is proved of the language: demands 2 and 3, over trees. The proofs are in proofs/Theorems.antt.
+use Prim.Native.Nat.{ℕ, _≤_}
+use mathlib.Core.Path.{_≡_}
+use mathlib.Core.Bool.{Bool, true, false, cond}
+use mathlib.Core.Logic.{_↔_}
+use mathlib.Core.List.{List, [], _∷_}
+use lib.Dec.{leb}
+use lib.IntN.{ℤ, pos}
+use lib.ListN.{length}
+use Rattle.lattice.specs.Lattice.{Lattice}
+use Rattle.language.specs.Syntax.{Names, Proc, isNil}
+use Rattle.language.specs.Levels.{writeLevel, testLevel, needs}
+use Rattle.language.specs.Steps.{held, Output}
+use Rattle.language.specs.Calls.{Line, System, Run, starts, readable, output, next, run}
+use Rattle.language.specs.Instants.{Step}
+use Rattle.language.specs.Typing.{Environment, Below, Typed}
+use Rattle.language.specs.Paths.{IsRun}
+
+-- Demand 2, the runner: the step of a system is the report's, and the report has no other; none from nil.
+pub record StepsAgree {L : Type 0} (names : Names L) (at : System L) : Type 0 where
+  pub allowed : isNil (at .process) ≡ false → Step names at (output names at) (next names at)
+  pub only : (o : Output) (to : System L) → Step names at o to → (output names at ≡ o) × (next names at ≡ to)
+  pub nil-rests : isNil (at .process) ≡ true → (o : Output) (to : System L) → Step names at o to → ⊥
+
+-- Demand 2, the runner: a run is a path of the report's steps that ends where 01 says, and nothing else is.
+pub record RunsAgree {L : Type 0} (names : Names L) (seen : ℕ → Bool) (n room : ℕ) (at : System L) : Type 0 where
+  pub path : IsRun names seen n room at (run names seen n room at)
+  pub only : (r : Run) → IsRun names seen n room at r → r ≡ run names seen n room at
+
+-- Demand 2, the checker: the needs hold exactly when the rules give a pair; then W and T are one, and the tightest.
+pub record LevelsAgree {L : Type 0} (𝓛 : Lattice L) (names : Names L) (Γ : Environment L) (p : Proc L) : Type 0 where
+  pub accepts : (needs 𝓛 names p ≡ true) ↔ ((θ : L) × (σ : L) × Typed 𝓛 Γ p θ σ)
+  pub derivable : needs 𝓛 names p ≡ true → Typed 𝓛 Γ p (writeLevel 𝓛 names p) (testLevel 𝓛 names p)
+  pub tightest :
+      (θ σ : L) → Typed 𝓛 Γ p θ σ → Below 𝓛 θ (writeLevel 𝓛 names p) × Below 𝓛 (testLevel 𝓛 names p) σ
+
+-- 'those lines that are stamped n or less'
+unfoldable pub upTo : ℕ → List Line → List Line
+upTo n [] = []
+upTo n (l ∷ ls) = cond (leb (l .step) n) (l ∷ upTo n ls) (upTo n ls)
+
+module _ {L : Type 0} (𝓛 : Lattice L) (names : Names L) (reader : L) where
+  -- Demand 3: two value lists that are 'equal for every session register and signal at or below the reader's level'. Owned
+  -- names are 0 at the start (01, 'Calls').
+  pub record StartsAgree (s t : List ℤ) : Type 0 where
+    pub lengths : length s ≡ length t
+    pub session : (x : ℕ) → names .isSession x ≡ true → readable 𝓛 names reader x ≡ true → held s x ≡ held t x
+    pub owned : (x : ℕ) → names .isSession x ≡ false → (held s x ≡ pos 0) × (held t x ≡ pos 0)
+
+  -- 'the first record is exactly those lines of the second that are stamped n or less, word for word, in the same order. With
+  -- n = m the records are equal and the session registers at or below that level end equal.'
+  pub record RecordsAgree (n m : ℕ) (first second : Run) : Type 0 where
+    pub shorter : first .lines ≡ upTo n (second .lines)
+    pub equal : n ≡ m → first .lines ≡ second .lines
+    pub registers :
+        n ≡ m → (x : ℕ) → names .isSession x ≡ true → names .isSignal x ≡ false → readable 𝓛 names reader x ≡ true →
+        held (first .values) x ≡ held (second .values) x
+
+  -- any two whole runs of the process, with any limits n ≤ m and room for any number of lines
+  abbrev pub NonInterference : Proc L → Type 0
+  NonInterference p =
+      (s t : List ℤ) → StartsAgree s t → (room n m : ℕ) → n ≤ m →
+      RecordsAgree
+      n
+      m
+      (run names (readable 𝓛 names reader) n room (starts p s))
+      (run names (readable 𝓛 names reader) m room (starts p t))
