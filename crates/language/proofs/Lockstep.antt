@@ -8,14 +8,13 @@ use mathlib.Core.Option.{Option, none, some}
 use mathlib.Core.List.{List}
 use mathlib.Core.Logic.{_⊎_, inl, inr}
 use lib.IntN.{ℤ}
-use lib.ListN.{set}
 use Rattle.prelude.proofs.Bools.{by-cases, by-both}
 use Rattle.language.specs.Values.{holds, negation}
 use Rattle.language.specs.Syntax.{Names, Exp, constant, register, binary, negated, Occurs, here, left, right, under, Proc, nil, assign, letIn, ifThenElse, while, sequence, emit, local, watching, when, parallel, isNil}
 use Rattle.language.specs.Steps.{held, present, apply, value, test, Output, silent, assigned, emitted, Outcome, inside, suspended, move, change, step}
 use Rattle.language.specs.Calls.{Line, System, lineFor, calledFor, output, next}
 use Rattle.language.proofs.Stores.{set-unseen, LowEqual, set-low, instant-low, instant-register}
-use Rattle.language.proofs.Safe.{LowReads, LowTests, Quiet, Safe, either, same, step-uses, step-safe}
+use Rattle.language.proofs.Safe.{LowReads, LowTests, Quiet, Safe, either, same, step-uses}
 
 -- what remains of two disjunctions
 pick : {X Q : Type 0} → X ⊎ Q → X ⊎ (Q → ⊥) → X
@@ -316,16 +315,16 @@ module _ {L : Type 0} (names : Names L) (low : ℕ → Bool) where
       (at at′ : System L) → Twins at at′ → Safe names low (at .process) → Lockstep (at .process) → SameStep at at′
   steps-alike at at′ q h k =
       let m =
-          subst
-          (λ p. SameOutcome (step names (at .process) (at .values)) (step names p (at′ .values)))
-          (q .process)
-          (step-same (at .process) (at .values) (at′ .values) (q .values) h k)
+      subst
+      (λ p. SameOutcome (step names (at .process) (at .values)) (step names p (at′ .values)))
+      (q .process)
+      (step-same (at .process) (at .values) (at′ .values) (q .values) h k)
       in
       let e =
-          subst
-          (λ p. suspended (at .process) (at .values) ≡ suspended p (at′ .values))
-          (q .process)
-          (suspended-same (at .process) (at .values) (at′ .values) (q .values) h k)
+      subst
+      (λ p. suspended (at .process) (at .values) ≡ suspended p (at′ .values))
+      (q .process)
+      (suspended-same (at .process) (at .values) (at′ .values) (q .values) h k)
       in
       record {
         twins =

@@ -3,18 +3,17 @@
 use Prim.Native.Nat.{ℕ, zero, suc, _+_, _≤_, _<_}
 use native.Mathlib.Omega.{arith}
 use mathlib.Core.Path.{_≡_, refl, ap, sym, _∙_, subst}
-use mathlib.Core.Bool.{Bool, true, false, cond, true≢false}
+use mathlib.Core.Bool.{Bool, true, false, true≢false}
 use mathlib.Core.Logic.{_⊎_, inl, inr}
 use mathlib.Core.Option.{Option, none, some}
-use mathlib.Core.List.{List, [], _∷_}
-use lib.Dec.{leb}
+use mathlib.Core.List.{[], _∷_}
 use borrow.Author.Tests.{le-leb, lt-leb}
 use Rattle.prelude.proofs.Bools.{by-cases, by-both}
 use Rattle.language.specs.Syntax.{Names, Proc, nil, assign, letIn, ifThenElse, while, sequence, emit, local, watching, when, parallel, isNil}
 use Rattle.language.specs.Steps.{held}
 use Rattle.language.specs.Calls.{Line, Ending, finished, spent, logFull, System, Run, calledFor, output, next, stops, withLine, logged, run}
 use Rattle.language.specs.Results.{upTo}
-use Rattle.language.proofs.Stores.{LowEqual, given-back-session}
+use Rattle.language.proofs.Stores.{given-back-session}
 use Rattle.language.proofs.Safe.{Quiet, Safe, either, step-safe}
 use Rattle.language.proofs.Lockstep.{Twins, Stamped, called-stamped, steps-alike, steps-quietly}
 

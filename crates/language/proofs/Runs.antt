@@ -1,14 +1,14 @@
 -- A run is a path of the report's steps that ends where 01 says, and the only one.
 -- Assumes nothing.
-use Prim.Native.Nat.{ℕ, zero, suc, _+_, _≤_, _<_}
+use Prim.Native.Nat.{ℕ, zero, suc, _+_, _≤_}
 use native.Mathlib.Omega.{arith}
 use mathlib.Core.Path.{_≡_, refl, ap, ap₂, sym, _∙_, subst}
-use mathlib.Core.Bool.{Bool, true, false, cond}
+use mathlib.Core.Bool.{Bool}
 use mathlib.Core.Option.{Option, none, some}
 use mathlib.Core.List.{List, [], _∷_, _++_, Option·toList}
 use lib.ListN.{length}
-use Rattle.prelude.proofs.Bools.{by-cases, fails}
-use Rattle.language.specs.Syntax.{Names, isNil}
+use Rattle.prelude.proofs.Bools.{by-cases}
+use Rattle.language.specs.Syntax.{Names}
 use Rattle.language.specs.Steps.{Output}
 use Rattle.language.specs.Calls.{Line, Ending, finished, spent, logFull, System, Run, calledFor, givenBack, output, next, stops, withLine, logged, run}
 use Rattle.language.specs.Instants.{Step}

@@ -1,10 +1,9 @@
 -- The results of specs/Results.antt.
 -- Assumes nothing.
-use Prim.Native.Nat.{ℕ, _≤_}
+use Prim.Native.Nat.{ℕ}
 use native.Mathlib.Nat.{zero-add, le-refl}
 use mathlib.Core.Path.{_≡_, refl, sym, ap, _∙_}
 use mathlib.Core.Bool.{Bool, true, false}
-use mathlib.Core.Logic.{_↔_}
 use mathlib.Core.List.{List}
 use lib.IntN.{ℤ}
 use Rattle.lattice.specs.Lattice.{Lattice, Laws}
@@ -12,9 +11,9 @@ use Rattle.language.specs.Syntax.{Names, Proc}
 use Rattle.language.specs.Scope.{Scoped}
 use Rattle.language.specs.Levels.{writeLevel, testLevel, needs}
 use Rattle.language.specs.Steps.{held}
-use Rattle.language.specs.Calls.{System, Run, starts, readable, run}
+use Rattle.language.specs.Calls.{System, starts, readable, run}
 use Rattle.language.specs.Typing.{environment, Below, Typed}
-use Rattle.language.specs.Results.{upTo, StepsAgree, RunsAgree, LevelsAgree, StartsAgree, RecordsAgree, NonInterference}
+use Rattle.language.specs.Results.{upTo, StepsAgree, RunsAgree, LevelsAgree, StartsAgree, NonInterference}
 use Rattle.language.proofs.Needs.{Needs, needs-hold, hold-needs}
 use Rattle.language.proofs.Typing.{derives, derived, environment-covers, environment-agrees}
 use Rattle.language.proofs.Figures.{step-is, step-only, nil-rests}

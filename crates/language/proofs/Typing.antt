@@ -2,12 +2,12 @@
 -- Assumes nothing.
 use Prim.Native.Nat.{ℕ}
 use mathlib.Core.Path.{_≡_, refl, sym, ap, subst, _∙_}
-use mathlib.Core.Bool.{Bool, true, false, cond, _&&_, _||_}
+use mathlib.Core.Bool.{Bool, true, false, _||_}
 use lib.Dec.{T, eqb, eqb→eq}
 use Rattle.prelude.proofs.Bools.{by-cases, and-intro, and-left, and-right, or-second}
 use Rattle.lattice.specs.Lattice.{Lattice, Laws}
 use Rattle.language.specs.Syntax.{Names, Exp, constant, register, binary, negated, Occurs, here, left, right, under, Proc, nil, assign, letIn, ifThenElse, while, sequence, emit, local, watching, when, parallel}
-use Rattle.language.specs.Scope.{withName, ReadsIn, Declares, Scoped}
+use Rattle.language.specs.Scope.{withName, ReadsIn, Scoped}
 use Rattle.language.specs.Levels.{expLevel, writeLevel, testLevel, need}
 use Rattle.language.specs.Typing.{NameType, undefined, var, sig, Environment, extended, typeOf, environment, Below, HasLevel, EXPR, Typed, NIL, ASSIGN, LET, SEQ, COND, WHILE, EMIT, LOCAL, WATCH, WHEN, PAR, SUB}
 use Rattle.language.proofs.Orders.{via, joins, meets}

@@ -8,7 +8,7 @@ use lib.ListN.{length}
 use Rattle.prelude.specs.Table.{table}
 use Rattle.lattice.specs.Lattice.{Lattice}
 use Rattle.language.specs.Syntax.{Names, Proc, isNil}
-use Rattle.language.specs.Steps.{held, Output, silent, assigned, emitted, Outcome, suspended, step}
+use Rattle.language.specs.Steps.{held, Output, silent, assigned, emitted, suspended, step}
 
 -- 'step from 1, instant from 0, name, value (1 for an emission)'
 pub record Line : Type 0 where

@@ -1,6 +1,6 @@
 -- 01, 'Peg list': the starred examples of values, levels and runs, over trees; some of its others; and a pause of the report.
 use Prim.Native.Nat.{ℕ}
-use mathlib.Core.Bool.{Bool, cond, _||_}
+use mathlib.Core.Bool.{cond, _||_}
 use mathlib.Core.Option.{Option, none, some}
 use mathlib.Core.List.{List, [], _∷_, map}
 use mathlib.Core.Path.{_≡_}
@@ -101,11 +101,11 @@ runs =
     ran (when b nil) (holding 0 0 0 0 0) 3 256 (ends spent 3 3 [] (holding 0 0 0 0 0))
     ∷ ran (watching c (when b nil)) (holding 0 0 0 0 1) 1000 256 (ends finished 1 1 [] (holding 0 0 0 0 0))
     ∷ ran
-      (parallel (when c (assign y (constant (pos 1)))) (emit c))
-      (holding 0 0 0 0 0)
-      1000
-      256
-      (ends finished 5 0 (line 2 0 c (pos 1) ∷ line 4 0 y (pos 1) ∷ []) (holding 1 0 0 0 1))
+    (parallel (when c (assign y (constant (pos 1)))) (emit c))
+    (holding 0 0 0 0 0)
+    1000
+    256
+    (ends finished 5 0 (line 2 0 c (pos 1) ∷ line 4 0 y (pos 1) ∷ []) (holding 1 0 0 0 1))
     -- limit 0: nil is finished, others spent
     ∷ ran nil (holding 0 0 0 0 0) 0 256 (ends finished 0 0 [] (holding 0 0 0 0 0))
     ∷ ran (emit b) (holding 0 0 0 0 0) 0 256 (ends spent 0 0 [] (holding 0 0 0 0 0))
@@ -113,11 +113,11 @@ runs =
     ∷ ran (sequence (assign x (constant (pos 7))) (emit b)) (holding 0 0 0 0 0) 1000 0 (ends logFull 2 0 [] (holding 0 7 0 0 0))
     -- the report's pause, with b before it: two instants, and b is absent in the second
     ∷ ran
-      (sequence (emit b) pause)
-      (holding 0 0 0 0 0)
-      1000
-      256
-      (ends finished 7 1 (line 1 0 b (pos 1) ∷ line 5 0 p (pos 1) ∷ []) (holding 0 0 0 0 0))
+    (sequence (emit b) pause)
+    (holding 0 0 0 0 0)
+    1000
+    256
+    (ends finished 7 1 (line 1 0 b (pos 1) ∷ line 5 0 p (pos 1) ∷ []) (holding 0 0 0 0 0))
     ∷ []
 
 pub record Examples : Type 0 where
