@@ -42,11 +42,12 @@ starts p s = record { process = p; values = s; steps = 0; instants = 0 }
 abbrev pub readable : {L : Type 0} → Lattice L → Names L → L → ℕ → Bool
 readable 𝓛 names reader x = 𝓛 .leq (names .level x) reader
 
--- The line that a step calls for, from the system before it: 'A line is written for each assignment and emission to a name
--- at or below the reader's level; a let writes none.'
+-- The line that a step calls for, from the system before it: 'A line is written for each assignment and emission to a
+-- name at or below the reader's level; a let writes none.'
 module _ {L : Type 0} (seen : ℕ → Bool) (at : System L) where
   abbrev pub lineFor : ℕ → ℤ → Option Line
-  lineFor x v = cond (seen x) (some (record { step = suc (at .steps); instant = at .instants; name = x; value = v })) none
+  lineFor x v =
+      cond (seen x) (some (record { step = suc (at .steps); instant = at .instants; name = x; value = v })) none
 
   unfoldable pub calledFor : Output → Option Line
   calledFor silent = none
@@ -85,8 +86,8 @@ logged (some l) zero go full = full
 logged (some l) (suc room) go full = withLine l (go room)
 
 module _ {L : Type 0} (names : Names L) (seen : ℕ → Bool) where
-  -- At most n steps more, with room for so many lines. 'Before each step: 0 finished if the script is nil; else 1 spent if
-  -- the limit is reached; else 2 log full if this step needs a line and no four words are left.'
+  -- At most n steps more, with room for so many lines. 'Before each step: 0 finished if the script is nil; else 1 spent
+  -- if the limit is reached; else 2 log full if this step needs a line and no four words are left.'
   unfoldable pub run : ℕ → ℕ → System L → Run
   run zero room at = cond (isNil (at .process)) (stops names finished at) (stops names spent at)
   run (suc n) room at =

@@ -1,6 +1,6 @@
--- 01, 'Peg list': the starred examples of values, levels and runs, over trees; some of its others; and a pause of the report.
+-- 01, 'Peg list': the starred examples of values, levels and runs, over trees; some of the others; the report's pause.
 use Prim.Native.Nat.{ℕ}
-use mathlib.Core.Bool.{cond, _||_}
+use mathlib.Core.Bool.{cond, _&&_, _||_}
 use mathlib.Core.Option.{Option, none, some}
 use mathlib.Core.List.{List, [], _∷_, map}
 use mathlib.Core.Path.{_≡_}
@@ -8,7 +8,7 @@ use lib.Dec.{eqb, ltb, leb}
 use lib.IntN.{ℤ, pos, negsuc}
 use Rattle.lattice.specs.Lattice.{Lattice, bookLattice}
 use Rattle.language.specs.Values.{sum, quotient}
-use Rattle.language.specs.Syntax.{Names, Exp, constant, register, Proc, nil, assign, ifThenElse, while, sequence, emit, local, watching, when, parallel}
+use Rattle.language.specs.Syntax.{Names, Exp, constant, register, Proc, nil, assign, letIn, ifThenElse, while, sequence, emit, local, watching, when, parallel}
 use Rattle.language.specs.Levels.{writeLevel, testLevel, needs}
 use Rattle.language.specs.Calls.{Line, Ending, finished, spent, logFull, Run, starts, readable, run}
 
@@ -22,7 +22,7 @@ pub record Arithmetic : Type 0 where
 abbrev pub levels : Lattice ℕ
 levels = bookLattice (2 ∷ 0 ∷ 3 ∷ 0 ∷ 2 ∷ [])
 
--- y_L and x_H are registers; a_H, b_L and c_L are signals; p_L and q_L are signals of the script's own.
+-- y_L and x_H are registers, a_H, b_L and c_L signals; the script's own are the signals p_L, q_L and the register z_L.
 abbrev pub y : ℕ
 y = 0
 
@@ -44,8 +44,16 @@ p = 5
 abbrev pub q : ℕ
 q = 6
 
+abbrev pub z : ℕ
+z = 7
+
 abbrev pub names : Names ℕ
-names = record { isSignal = λ n. leb 2 n; level = λ n. cond (eqb n x || eqb n a) 1 0; isSession = λ n. ltb n p }
+names =
+    record {
+      isSignal = λ n. leb a n && ltb n z;
+      level = λ n. cond (eqb n x || eqb n a) 1 0;
+      isSession = λ n. ltb n p;
+    }
 
 abbrev pub zero : Exp
 zero = constant (pos 0)
@@ -86,9 +94,9 @@ ends e k i ls vs = record { ending = e; steps = k; instants = i; lines = ls; val
 abbrev pub line : ℕ → ℕ → ℕ → ℤ → Line
 line k i n v = record { step = k; instant = i; name = n; value = v }
 
--- values of y, x, a, b, c, p, q
+-- values of y, x, a, b, c; the script's own names hold 0
 abbrev pub holding : ℕ → ℕ → ℕ → ℕ → ℕ → List ℤ
-holding v₀ v₁ v₂ v₃ v₄ = pos v₀ ∷ pos v₁ ∷ pos v₂ ∷ pos v₃ ∷ pos v₄ ∷ pos 0 ∷ pos 0 ∷ []
+holding v₀ v₁ v₂ v₃ v₄ = pos v₀ ∷ pos v₁ ∷ pos v₂ ∷ pos v₃ ∷ pos v₄ ∷ pos 0 ∷ pos 0 ∷ pos 0 ∷ []
 
 abbrev pub pause : Proc ℕ
 pause = local q 0 (local p 0 (sequence (emit p) (watching p (when q nil))))
@@ -109,8 +117,20 @@ runs =
     -- limit 0: nil is finished, others spent
     ∷ ran nil (holding 0 0 0 0 0) 0 256 (ends finished 0 0 [] (holding 0 0 0 0 0))
     ∷ ran (emit b) (holding 0 0 0 0 0) 0 256 (ends spent 0 0 [] (holding 0 0 0 0 0))
+    -- a let writes no line, and its name is given back as 0
+    ∷ ran
+    (letIn z 0 (constant (pos 5)) (assign y (register z)))
+    (holding 0 0 0 0 0)
+    1000
+    256
+    (ends finished 2 0 (line 2 0 y (pos 5) ∷ []) (holding 5 0 0 0 0))
     -- no room for a line: log full if the step needs one
-    ∷ ran (sequence (assign x (constant (pos 7))) (emit b)) (holding 0 0 0 0 0) 1000 0 (ends logFull 2 0 [] (holding 0 7 0 0 0))
+    ∷ ran
+    (sequence (assign x (constant (pos 7))) (emit b))
+    (holding 0 0 0 0 0)
+    1000
+    0
+    (ends logFull 2 0 [] (holding 0 7 0 0 0))
     -- the report's pause, with b before it: two instants, and b is absent in the second
     ∷ ran
     (sequence (emit b) pause)

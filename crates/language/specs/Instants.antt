@@ -13,7 +13,8 @@ use Rattle.language.specs.Moves.{Move}
 -- p′ is [p]_E. Like the report's function, it is there for suspendable processes alone.
 pub data Changed {L : Type 0} (s : List ℤ) : Proc L → Proc L → Type 0 where
   WATCH-PRESENT : {a : ℕ} {p : Proc L} → present s a ≡ true → Changed s (watching a p) nil
-  WATCH-ABSENT : {a : ℕ} {p p′ : Proc L} → present s a ≡ false → Changed s p p′ → Changed s (watching a p) (watching a p′)
+  WATCH-ABSENT :
+      {a : ℕ} {p p′ : Proc L} → present s a ≡ false → Changed s p p′ → Changed s (watching a p) (watching a p′)
   WHEN-PRESENT : {a : ℕ} {p p′ : Proc L} → present s a ≡ true → Changed s p p′ → Changed s (when a p) (when a p′)
   WHEN-ABSENT : {a : ℕ} {p : Proc L} → present s a ≡ false → Changed s (when a p) (when a p)
   SEQ-CHANGED : {p p′ q : Proc L} → Changed s p p′ → Changed s (sequence p q) (sequence p′ q)

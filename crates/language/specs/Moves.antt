@@ -1,8 +1,8 @@
--- RR-5594, Figures 2 and 3: moves, C → C′. A configuration ⟨Γ, S, E, P⟩ is the process with the values that hold S and E;
--- Γ plays no part in a move. A move also says what it writes, which the record of a run is made of.
+-- RR-5594, Figures 2 and 3: moves, C → C′. A configuration ⟨Γ, S, E, P⟩ is the process with the values that hold S and
+-- E; Γ plays no part in a move. A move also says what it writes, which the record of a run is made of.
 --
--- In the report LET-OP and LOCAL-OP put a fresh name for the declared one. Here the declared name stays: LET-OP sets it,
--- and LOCAL-OP makes it absent, as a fresh signal is.
+-- In the report LET-OP and LOCAL-OP put a fresh name for the declared one. Here the declared name stays: LET-OP sets
+-- it, and LOCAL-OP makes it absent, as a fresh signal is.
 use Prim.Native.Nat.{ℕ}
 use mathlib.Core.Path.{_≡_}
 use mathlib.Core.Bool.{true, false}
@@ -27,10 +27,12 @@ pub data Move {L : Type 0} (s : List ℤ) : Proc L → Output → Proc L → Lis
   EMIT-OP : {a : ℕ} → Move s (emit a) (emitted a) nil (set s a (pos 1))
   LOCAL-OP : {a : ℕ} {δ : L} {p : Proc L} → Move s (local a δ p) silent p (set s a (pos 0))
   WATCH-OP₁ : {a : ℕ} → Move s (watching a nil) silent nil s
-  WATCH-OP₂ : {a : ℕ} {p p′ : Proc L} {o : Output} {s′ : List ℤ} → Move s p o p′ s′ → Move s (watching a p) o (watching a p′) s′
+  WATCH-OP₂ :
+      {a : ℕ} {p p′ : Proc L} {o : Output} {s′ : List ℤ} → Move s p o p′ s′ → Move s (watching a p) o (watching a p′) s′
   WHEN-OP₁ : {a : ℕ} → present s a ≡ true → Move s (when a nil) silent nil s
   WHEN-OP₂ :
-      {a : ℕ} {p p′ : Proc L} {o : Output} {s′ : List ℤ} → present s a ≡ true → Move s p o p′ s′ → Move s (when a p) o (when a p′) s′
+      {a : ℕ} {p p′ : Proc L} {o : Output} {s′ : List ℤ} →
+      present s a ≡ true → Move s p o p′ s′ → Move s (when a p) o (when a p′) s′
   PAR-OP₁ : {q : Proc L} → Move s (parallel nil q) silent q s
   PAR-OP₂ : {p p′ q : Proc L} {o : Output} {s′ : List ℤ} → Move s p o p′ s′ → Move s (parallel p q) o (parallel p′ q) s′
   PAR-OP₃ : {p q : Proc L} → Suspended s p → (Suspended s q → ⊥) → Move s (parallel p q) silent (parallel q p) s

@@ -40,15 +40,15 @@ upTo n [] = []
 upTo n (l ∷ ls) = cond (leb (l .step) n) (l ∷ upTo n ls) (upTo n ls)
 
 module _ {L : Type 0} (𝓛 : Lattice L) (names : Names L) (reader : L) where
-  -- Demand 3: two value lists that are 'equal for every session register and signal at or below the reader's level'. Owned
-  -- names are 0 at the start (01, 'Calls').
+  -- Demand 3: two value lists that are 'equal for every session register and signal at or below the reader's level'.
+  -- Owned names are 0 at the start (01, 'Calls').
   pub record StartsAgree (s t : List ℤ) : Type 0 where
     pub lengths : length s ≡ length t
     pub session : (x : ℕ) → names .isSession x ≡ true → readable 𝓛 names reader x ≡ true → held s x ≡ held t x
     pub owned : (x : ℕ) → names .isSession x ≡ false → (held s x ≡ pos 0) × (held t x ≡ pos 0)
 
-  -- 'the first record is exactly those lines of the second that are stamped n or less, word for word, in the same order. With
-  -- n = m the records are equal and the session registers at or below that level end equal.'
+  -- 'the first record is exactly those lines of the second that are stamped n or less, word for word, in the same order.
+  -- With n = m the records are equal and the session registers at or below that level end equal.'
   pub record RecordsAgree (n m : ℕ) (first second : Run) : Type 0 where
     pub shorter : first .lines ≡ upTo n (second .lines)
     pub equal : n ≡ m → first .lines ≡ second .lines

@@ -93,8 +93,8 @@ module _ {L : Type 0} where
       (leaves q s)
       (cond (suspended p s) (leaves (parallel q p) s) (inside (λ p′. parallel p′ q) (move p s)))
 
-  -- 'watching becomes nil if its signal was present, else its body changes; when changes its body only if its signal was
-  -- present; a sequence changes its first part; a parallel both'
+  -- 'watching becomes nil if its signal was present, else its body changes; when changes its body only if its signal
+  -- was present; a sequence changes its first part; a parallel both'
   unfoldable pub change : Proc L → List ℤ → Proc L
   change nil s = nil
   change (assign x e) s = assign x e
