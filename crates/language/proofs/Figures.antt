@@ -6,7 +6,7 @@ use mathlib.Core.Bool.{Bool, true, false, cond, not, _||_, true≢false, false�
 use mathlib.Core.List.{List}
 use mathlib.Core.Logic.{_⊎_, inl, inr}
 use lib.IntN.{ℤ}
-use Rattle.prelude.proofs.Bools.{by-cases, fails, and-intro, and-left, and-right, or-left, or-right}
+use Rattle.prelude.proofs.Bools.{by-cases, fails, and-left, and-right, or-left, or-right}
 use Rattle.language.specs.Syntax.{Names, Proc, nil, assign, letIn, ifThenElse, while, sequence, emit, local, watching, when, parallel, isNil}
 use Rattle.language.specs.Steps.{present, Output, silent, Outcome, leaves, inside, suspended, move, change, instantStart, step}
 use Rattle.language.specs.Calls.{System, output, next}
@@ -48,7 +48,7 @@ module _ {L : Type 0} where
   suspended-of {s} (WHEN-SUS₂ {a = a} {p = p} d) = or-late (not (present s a)) (suspended p s) (suspended-of d)
   suspended-of (WATCH-SUS d) = suspended-of d
   suspended-of (SEQ-SUS d) = suspended-of d
-  suspended-of (PAR-SUS d d′) = and-intro _ _ (suspended-of d) (suspended-of d′)
+  suspended-of (PAR-SUS d d′) = rw (suspended-of d, suspended-of d′)
 
   pub suspended-is : (p : Proc L) (s : List ℤ) → suspended p s ≡ true → Suspended s p
   unfolding suspended

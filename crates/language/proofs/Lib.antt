@@ -4,11 +4,11 @@ pub mod Orders
 pub mod Needs
 pub mod Typing
 pub mod Figures
-pub mod Runs
+pub mod Executions
 pub mod Stores
 pub mod Safe
 pub mod Lockstep
 pub mod Noninterference
 pub mod Flows
 pub mod Theorems
-pub mod Examples
+pub mod Worked

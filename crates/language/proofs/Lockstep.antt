@@ -274,7 +274,10 @@ module _ {L : Type 0} (names : Names L) (low : ℕ → Bool) where
   -- the line that a step calls for
   line-same : (at at′ : System L) → Twins at at′ → (x : ℕ) (v : ℤ) → lineFor low at x v ≡ lineFor low at′ x v
   line-same at at′ q x v =
-      ap₂ (λ k i. cond (low x) (some (record { step = suc k; instant = i; name = x; value = v })) none) (q .steps) (q .instants)
+      ap₂
+      (λ k i. lineFor low (record { process = at .process; values = at .values; steps = k; instants = i }) x v)
+      (q .steps)
+      (q .instants)
 
   line-none : (at : System L) (x : ℕ) (v : ℤ) → low x ≡ false → lineFor low at x v ≡ none
   line-none at x v h = rw h

@@ -17,7 +17,7 @@ use Rattle.language.specs.Results.{upTo, StepsAgree, RunsAgree, LevelsAg
 use Rattle.language.proofs.Needs.{Needs, needs-hold, hold-needs}
 use Rattle.language.proofs.Typing.{derives, derived, environment-covers, environment-agrees}
 use Rattle.language.proofs.Figures.{step-is, step-only, nil-rests}
-use Rattle.language.proofs.Runs.{run-is, run-only}
+use Rattle.language.proofs.Executions.{run-is, run-only}
 use Rattle.language.proofs.Safe.{Safe}
 use Rattle.language.proofs.Lockstep.{Twins}
 use Rattle.language.proofs.Noninterference.{Agree, agree}

@@ -1,4 +1,4 @@
--- The examples, computed from the definitions.
+-- The examples of specs/Examples.antt, worked out from the definitions.
 -- Assumes nothing.
 use mathlib.Core.Path.{refl}
 use Rattle.prelude.specs.Search.{firstFrom, first, any, all}
