@@ -17,7 +17,9 @@ use Rattle.language.proofs.Figures.{step-is, step-only, nil-rests}
 
 module _ {L : Type 0} (names : Names L) (seen : ℕ → Bool) where
   -- a run that makes no step
-  at-once : (n room : ℕ) (at : System L) (e : Ending) → Ends names seen n room at e 0 0 → IsRun names seen n room at (stops names e at)
+  at-once :
+      (n room : ℕ) (at : System L) (e : Ending) → Ends names seen n room at e 0 0 →
+      IsRun names seen n room at (stops names e at)
   at-once n room at e h =
       record {
         made = 0;
@@ -68,7 +70,8 @@ module _ {L : Type 0} (names : Names L) (seen : ℕ → Bool) where
       }
 
   after-line :
-      (n room : ℕ) (at mid : System L) (o : Output) (l : Line) (r : Run) → Step names at o mid → calledFor seen at o ≡ some l →
+      (n room : ℕ) (at mid : System L) (o : Output) (l : Line) (r : Run) → Step names at o mid →
+      calledFor seen at o ≡ some l →
       mid .steps ≡ suc (at .steps) → IsRun names seen n room mid r → IsRun names seen (suc n) (suc room) at (withLine l r)
   unfolding Option·toList
   after-line n room at mid o l r d c k h =
@@ -141,7 +144,8 @@ module _ {L : Type 0} (names : Names L) (seen : ℕ → Bool) where
   earlier-line {made = made} (LOG-FULL h d c) = LOG-FULL {made = made} h d c
 
   abbrev ended : Ending → ℕ → List Line → System L → Run
-  ended e k ls last = record { ending = e; steps = k; instants = last .instants; lines = ls; values = givenBack names (last .values) }
+  ended e k ls last =
+      record { ending = e; steps = k; instants = last .instants; lines = ls; values = givenBack names (last .values) }
 
   -- a run with a step to make
   abbrev goes : Option Line → ℕ → ℕ → System L → System L → Run
@@ -158,7 +162,9 @@ module _ {L : Type 0} (names : Names L) (seen : ℕ → Bool) where
       (λ h. absurd (nil-rests names at h d))
       (λ h. sym (ap₂ (λ o′ mid′. goes (calledFor seen at o′) n room at mid′) (step-only names at d .0) (step-only names at d .1)))
 
-  only-once : (n : ℕ) {room : ℕ} {e : Ending} (at : System L) → Ends names seen n room at e 0 0 → stops names e at ≡ run names seen n room at
+  only-once :
+      (n : ℕ) {room : ℕ} {e : Ending} (at : System L) → Ends names seen n room at e 0 0 →
+      stops names e at ≡ run names seen n room at
   unfolding run logged
   only-once zero at (NIL-REACHED h) = rw h
   only-once zero at (LIMIT-REACHED h) = rw h
@@ -176,7 +182,8 @@ module _ {L : Type 0} (names : Names L) (seen : ℕ → Bool) where
       suc (at .steps) ≡ mid .steps →
       ((room : ℕ) → length ls ≤ room → Ends names seen n room last e made (length ls) →
       ended e (mid .steps + made) ls last ≡ run names seen n room mid) →
-      length (Option·toList c ++ ls) ≤ room → Ends names seen (suc n) room last e (suc made) (length (Option·toList c ++ ls)) →
+      length (Option·toList c ++ ls) ≤ room →
+      Ends names seen (suc n) room last e (suc made) (length (Option·toList c ++ ls)) →
       ended e (at .steps + suc made) (Option·toList c ++ ls) last ≡ goes c n room at mid
   unfolding Option·toList logged
   only-more none n room made at mid last ls e k f h w =
@@ -211,7 +218,14 @@ module _ {L : Type 0} (names : Names L) (seen : ℕ → Bool) where
   -- What is a run by the report's path is the function's.
   pub run-only : (n room : ℕ) (at : System L) (r : Run) → IsRun names seen n room at r → r ≡ run names seen n room at
   run-only n room at r h =
-      ap (λ k. record { ending = r .ending; steps = k; instants = r .instants; lines = r .lines; values = r .values }) (h .steps)
+      ap (λ k. record {
+        ending =
+            r .ending;
+        steps = k;
+        instants = r .instants;
+        lines = r .lines;
+        values = r .values;
+      }) (h .steps)
       ∙ ap₂
       (λ i v. record { ending = r .ending; steps = at .steps + h .made; instants = i; lines = r .lines; values = v })
       (h .instants)

@@ -63,7 +63,9 @@ module _ {L : Type 0} where
   suspended-is (watching a p) s h = WATCH-SUS (suspended-is p s h)
   suspended-is (when a p) s h = go (either-true (present s a) (suspended p s) h) (suspended-is p s)
     where
-      go : (present s a ≡ false) ⊎ (suspended p s ≡ true) → (suspended p s ≡ true → Suspended s p) → Suspended s (when a p)
+      go :
+          (present s a ≡ false) ⊎ (suspended p s ≡ true) → (suspended p s ≡ true → Suspended s p) →
+          Suspended s (when a p)
       go (inl e) ih = WHEN-SUS₁ e
       go (inr e) ih = WHEN-SUS₂ (ih e)
   suspended-is (parallel p q) s h =
@@ -200,8 +202,10 @@ module _ {L : Type 0} where
 
   change-is : {s : List ℤ} {p : Proc L} → Suspended s p → Changed s p (change p s)
   unfolding change
-  change-is {s} (WHEN-SUS₁ {a = a} {p = p} e) = by-cases (Changed s (when a p)) _ (λ h. absurd (true≢false (sym h ∙ e))) WHEN-ABSENT
-  change-is {s} (WHEN-SUS₂ {a = a} {p = p} d) = by-cases (Changed s (when a p)) _ (λ h. WHEN-PRESENT h (change-is d)) WHEN-ABSENT
+  change-is {s} (WHEN-SUS₁ {a =
+      a} {p = p} e) = by-cases (Changed s (when a p)) _ (λ h. absurd (true≢false (sym h ∙ e))) WHEN-ABSENT
+  change-is {s} (WHEN-SUS₂ {a =
+      a} {p = p} d) = by-cases (Changed s (when a p)) _ (λ h. WHEN-PRESENT h (change-is d)) WHEN-ABSENT
   change-is {s} (WATCH-SUS {a = a} {p = p} d) =
       by-cases (Changed s (watching a p)) _ WATCH-PRESENT (λ h. WATCH-ABSENT h (change-is d))
   change-is (SEQ-SUS d) = SEQ-CHANGED (change-is d)
@@ -219,7 +223,9 @@ module _ {L : Type 0} (names : Names L) (at : System L) where
   abbrev following : Bool → System L
   following b = built (outcome b .process) (outcome b .values) (cond b (suc (at .instants)) (at .instants))
 
-  known : (b : Bool) → suspended (at .process) (at .values) ≡ b → (output names at ≡ outcome b .output) × (next names at ≡ following b)
+  known :
+      (b : Bool) → suspended (at .process) (at .values) ≡ b →
+      (output names at ≡ outcome b .output) × (next names at ≡ following b)
   unfolding step
   known b h = subst (λ c. (output names at ≡ outcome c .output) × (next names at ≡ following c)) h (refl, refl)
 

@@ -72,7 +72,8 @@ module _ {L : Type 0} (𝓛 : Lattice L) (laws : Laws 𝓛) (names : Names L) (r
 
   -- what is at or below a process's write level is low, or the process is quiet
   low-or-quiet :
-      {X : Type 0} (a : L) (q : Proc L) (scope : ℕ → Bool) → Scoped names scope q → Below 𝓛 a (W q) → (Below 𝓛 a reader → X) →
+      {X : Type 0} (a : L) (q : Proc L) (scope : ℕ → Bool) → Scoped names scope q → Below 𝓛 a (W q) →
+      (Below 𝓛 a reader → X) →
       X ⊎ Quiet names low q
   low-or-quiet {X} a q scope u h f = go (𝓛 .leq (W q) reader) (via 𝓛 laws h) (quiet-of q scope u)
     where
@@ -84,7 +85,8 @@ module _ {L : Type 0} (𝓛 : Lattice L) (laws : Laws 𝓛) (names : Names L) (r
   unfolding need writeLevel
   safe-of nil scope u h = tt
   safe-of (assign x e) scope u h = λ l. reads-below 𝓛 laws names e reader (via 𝓛 laws h l)
-  safe-of (letIn x δ e p) scope u h = (λ l. reads-below 𝓛 laws names e reader (via 𝓛 laws (h .0) l), safe-of p _ (u .2) (h .1))
+  safe-of (letIn x δ e p) scope u h =
+      (λ l. reads-below 𝓛 laws names e reader (via 𝓛 laws (h .0) l), safe-of p _ (u .2) (h .1))
   safe-of (ifThenElse e p q) scope u h = (
     low-or-quiet (expLevel 𝓛 names e) (parallel p q) scope (u .1, u .2) (h .0) (reads-below 𝓛 laws names e reader),
     safe-of p scope (u .1) (h .1),

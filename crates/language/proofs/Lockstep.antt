@@ -124,11 +124,18 @@ module _ {L : Type 0} (names : Names L) (low : ℕ → Bool) where
     pub values : LowEqual low (r .values) (r′ .values)
     pub output : Alike low (r .output) (r′ .output)
 
-  same-inside : (context : Proc L → Proc L) {r r′ : Outcome L} → SameOutcome r r′ → SameOutcome (inside context r) (inside context r′)
+  same-inside :
+      (context : Proc L → Proc L) {r r′ : Outcome L} → SameOutcome r r′ →
+      SameOutcome (inside context r) (inside context r′)
   same-inside context m = record { process = ap context (m .process); values = m .values; output = m .output }
 
   silently : {p p′ : Proc L} {s t : List ℤ} → p ≡ p′ → LowEqual low s t →
-      SameOutcome (record { process = p; values = s; output = silent }) (record { process = p′; values = t; output = silent })
+      SameOutcome (record {
+        process =
+            p;
+        values = s;
+        output = silent;
+      }) (record { process = p′; values = t; output = silent })
   silently e q = record { process = e; values = q; output = the-same }
 
   assigned-alike : (x : ℕ) (v w : ℤ) → (low x ≡ true → v ≡ w) → Alike low (assigned x v) (assigned x w)
@@ -223,13 +230,15 @@ module _ {L : Type 0} (names : Names L) (low : ℕ → Bool) where
   untouched : (p : Proc L) (s : List ℤ) → Unchanged s (record { process = p; values = s; output = silent })
   untouched p s = record { hidden = no-output; registers = λ x l w i. refl }
 
-  unchanged-inside : (context : Proc L → Proc L) {s : List ℤ} {r : Outcome L} → Unchanged s r → Unchanged s (inside context r)
+  unchanged-inside :
+      (context : Proc L → Proc L) {s : List ℤ} {r : Outcome L} → Unchanged s r → Unchanged s (inside context r)
   unchanged-inside context h = record { hidden = h .hidden; registers = h .registers }
 
   move-unchanged : (p : Proc L) (s : List ℤ) → Quiet names low p → Unchanged s (move p s)
   unfolding move
   move-unchanged nil s h = untouched nil s
-  move-unchanged (assign x e) s h = record { hidden = no-assignment h; registers = λ y l w i. set-unseen low s x y _ h l }
+  move-unchanged (assign x e) s h =
+      record { hidden = no-assignment h; registers = λ y l w i. set-unseen low s x y _ h l }
   move-unchanged (letIn x δ e p) s h =
       record { hidden = no-output; registers = λ y l w i. set-unseen (names .isSession) s x y _ (h .0) w }
   move-unchanged (ifThenElse e p q) s h = untouched _ s
@@ -282,7 +291,9 @@ module _ {L : Type 0} (names : Names L) (low : ℕ → Bool) where
   line-none : (at : System L) (x : ℕ) (v : ℤ) → low x ≡ false → lineFor low at x v ≡ none
   line-none at x v h = rw h
 
-  called-same : (at at′ : System L) → Twins at at′ → {o o′ : Output} → Alike low o o′ → calledFor low at o ≡ calledFor low at′ o′
+  called-same :
+      (at at′ : System L) → Twins at at′ → {o o′ : Output} → Alike low o o′ →
+      calledFor low at o ≡ calledFor low at′ o′
   unfolding calledFor
   called-same at at′ q (the-same {o = silent}) = refl
   called-same at at′ q (the-same {o = assigned x v}) = line-same at at′ q x v

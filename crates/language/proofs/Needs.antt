@@ -24,7 +24,9 @@ module _ {L : Type 0} (𝓛 : Lattice L) (names : Names L) where
   Needs (when a p) = Own (when a p) × Needs p
   Needs (parallel p q) = Own (parallel p q) × Needs p × Needs q
 
-  one : (p q : Proc L) → (need 𝓛 names p && needs 𝓛 names q) ≡ true → (needs 𝓛 names q ≡ true → Needs q) → Own p × Needs q
+  one :
+      (p q : Proc L) → (need 𝓛 names p && needs 𝓛 names q) ≡ true → (needs 𝓛 names q ≡ true → Needs q) →
+      Own p × Needs q
   one p q h f = (and-left (need 𝓛 names p) (needs 𝓛 names q) h, f (and-right (need 𝓛 names p) (needs 𝓛 names q) h))
 
   two :

@@ -72,7 +72,8 @@ module _ {L : Type 0} (names : Names L) (low : ℕ → Bool) where
 
   -- lines after step N
   late-logged :
-      (N k : ℕ) (c : Option Line) (room : ℕ) (go : ℕ → Run) (full : Run) → N < k → Stamped names low k c → full .lines ≡ [] →
+      (N k : ℕ) (c : Option Line) (room : ℕ) (go : ℕ → Run) (full : Run) → N < k → Stamped names low k c →
+      full .lines ≡ [] →
       ((left : ℕ) → upTo N (go left .lines) ≡ []) → upTo N (logged c room go full .lines) ≡ []
   unfolding logged upTo
   late-logged N k none room go full h e f g = g room
@@ -108,11 +109,15 @@ module _ {L : Type 0} (names : Names L) (low : ℕ → Bool) where
     pub lines : r .lines ≡ upTo N (r′ .lines)
     pub registers : n ≡ m → RegistersEqual r r′
 
-  values-equal : (at at′ : System L) → Twins names low at at′ → (e : Ending) → RegistersEqual (stops names e at) (stops names e at′)
+  values-equal :
+      (at at′ : System L) → Twins names low at at′ → (e : Ending) →
+      RegistersEqual (stops names e at) (stops names e at′)
   values-equal at at′ q e x u =
       given-back-session names (at .values) x (u .1) ∙ q .values .agree x (u .0) ∙ sym (given-back-session names (at′ .values) x (u .1))
 
-  stops-agree : (N n m : ℕ) (at at′ : System L) → Twins names low at at′ → (e : Ending) → Agree N n m (stops names e at) (stops names e at′)
+  stops-agree :
+      (N n m : ℕ) (at at′ : System L) → Twins names low at at′ → (e : Ending) →
+      Agree N n m (stops names e at) (stops names e at′)
   unfolding upTo
   stops-agree N n m at at′ q e = record { lines = refl; registers = λ k. values-equal at at′ q e }
 
@@ -211,7 +216,8 @@ module _ {L : Type 0} (names : Names L) (low : ℕ → Bool) where
       (λ left. f left (r .twins)))
 
   pub agree :
-      (n m N room : ℕ) (at at′ : System L) → at .steps + n ≡ N → n ≤ m → Twins names low at at′ → Safe names low (at .process) →
+      (n m N room : ℕ) (at at′ : System L) → at .steps + n ≡ N → n ≤ m → Twins names low at at′ →
+      Safe names low (at .process) →
       Agree N n m (run names low n room at) (run names low m room at′)
   agree zero m N room at at′ k l q s = none-agree N m room at at′ (omega arith) q
   agree (suc n) zero N room at at′ k l q s = absurd (omega arith)

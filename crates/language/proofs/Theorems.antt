@@ -25,9 +25,15 @@ use Rattle.language.proofs.Flows.{safe-of}
 
 pub steps-agree : {L : Type 0} (names : Names L) (at : System L) → StepsAgree names at
 steps-agree names at =
-    record { allowed = step-is names at; only = λ o to d. step-only names at d; nil-rests = λ h o to d. nil-rests names at h d }
+    record {
+      allowed =
+          step-is names at;
+      only = λ o to d. step-only names at d;
+      nil-rests = λ h o to d. nil-rests names at h d;
+    }
 
-pub runs-agree : {L : Type 0} (names : Names L) (seen : ℕ → Bool) (n room : ℕ) (at : System L) → RunsAgree names seen n room at
+pub runs-agree :
+    {L : Type 0} (names : Names L) (seen : ℕ → Bool) (n room : ℕ) (at : System L) → RunsAgree names seen n room at
 runs-agree names seen n room at = record { path = run-is names seen n room at; only = run-only names seen n room at }
 
 module _
@@ -37,7 +43,8 @@ module _
     pub levels-agree : LevelsAgree 𝓛 names (environment names (names .isSession)) p
     levels-agree =
         record {
-          accepts = (λ h. (writeLevel 𝓛 names p, testLevel 𝓛 names p, derive h), λ d. hold-needs 𝓛 names p (read (d .2) .0));
+          accepts =
+              (λ h. (writeLevel 𝓛 names p, testLevel 𝓛 names p, derive h), λ d. hold-needs 𝓛 names p (read (d .2) .0));
           derivable = derive;
           tightest = λ θ σ d. (read d .1, read d .2);
         }

@@ -61,7 +61,8 @@ module _ {L : Type 0} (𝓛 : Lattice L) (laws : Laws 𝓛) (names : Names L) wh
   occurs-below (under o) = occurs-below o
 
   -- every register of an expression is at or below what its level is at or below
-  pub reads-below : (e : Exp) (δ : L) → Below 𝓛 (expLevel 𝓛 names e) δ → (x : ℕ) → Occurs x e → Below 𝓛 (names .level x) δ
+  pub reads-below :
+      (e : Exp) (δ : L) → Below 𝓛 (expLevel 𝓛 names e) δ → (x : ℕ) → Occurs x e → Below 𝓛 (names .level x) δ
   reads-below e δ h x o = via 𝓛 laws (occurs-below o) h
 
   level-least : (e : Exp) (δ : L) → ((x : ℕ) → Occurs x e → Below 𝓛 (names .level x) δ) → Below 𝓛 (expLevel 𝓛 names e) δ
@@ -85,7 +86,8 @@ module _ {L : Type 0} (𝓛 : Lattice L) (laws : Laws 𝓛) (names : Names L) wh
 
   -- Where the needs hold, the pair of the list is derivable.
   pub derives :
-      (p : Proc L) (Γ : Environment L) (scope : ℕ → Bool) → Covers names Γ scope → Scoped names scope p → Needs 𝓛 names p →
+      (p : Proc L) (Γ : Environment L) (scope : ℕ → Bool) → Covers names Γ scope → Scoped names scope p →
+      Needs 𝓛 names p →
       Typed 𝓛 Γ p (writeLevel 𝓛 names p) (testLevel 𝓛 names p)
   unfolding writeLevel testLevel need
   derives nil Γ scope c u h = NIL
@@ -104,7 +106,8 @@ module _ {L : Type 0} (𝓛 : Lattice L) (laws : Laws 𝓛) (names : Names L) wh
       (h .0)
   derives (while e p) Γ scope c u h =
       WHILE (has-level Γ scope e _ c (u .0) (laws .reflexive _)) (derives p Γ scope c (u .1) (h .1)) (h .0)
-  derives (sequence p q) Γ scope c u h = SEQ (derives p Γ scope c (u .0) (h .1)) (derives q Γ scope c (u .1) (h .2)) (h .0)
+  derives (sequence p q) Γ scope c u h =
+      SEQ (derives p Γ scope c (u .0) (h .1)) (derives q Γ scope c (u .1) (h .2)) (h .0)
   derives (emit a) Γ scope c u h = EMIT (c a (u .0) ∙ signal-type names a (u .1))
   derives (local a δ p) Γ scope c u h =
       let d = u .0 in
@@ -123,7 +126,8 @@ module _ {L : Type 0} (𝓛 : Lattice L) (laws : Laws 𝓛) (names : Names L) wh
 
   -- Where a pair is derivable, the needs hold, and the pair of the list is at least as tight.
   pub derived :
-      {Γ : Environment L} {p : Proc L} {θ σ : L} → Typed 𝓛 Γ p θ σ → (scope : ℕ → Bool) → Agrees names Γ → Scoped names scope p →
+      {Γ : Environment L} {p : Proc L} {θ σ : L} → Typed 𝓛 Γ p θ σ → (scope : ℕ → Bool) → Agrees names Γ →
+      Scoped names scope p →
       Needs 𝓛 names p × Below 𝓛 θ (writeLevel 𝓛 names p) × Below 𝓛 (testLevel 𝓛 names p) σ
   unfolding writeLevel testLevel need
   derived NIL scope w u = (refl, laws .below-top _, laws .above-bottom _)
