@@ -72,7 +72,8 @@ module _ {L : Type 0} (names : Names L) (seen : ℕ → Bool) where
   after-line :
       (n room : ℕ) (at mid : System L) (o : Output) (l : Line) (r : Run) → Step names at o mid →
       calledFor seen at o ≡ some l →
-      mid .steps ≡ suc (at .steps) → IsRun names seen n room mid r → IsRun names seen (suc n) (suc room) at (withLine l r)
+      mid .steps ≡ suc (at .steps) → IsRun names seen n room mid r →
+      IsRun names seen (suc n) (suc room) at (withLine l r)
   unfolding Option·toList
   after-line n room at mid o l r d c k h =
       record {
@@ -160,7 +161,9 @@ module _ {L : Type 0} (names : Names L) (seen : ℕ → Bool) where
       (λ r. goes (calledFor seen at o) n room at mid ≡ r)
       _
       (λ h. absurd (nil-rests names at h d))
-      (λ h. sym (ap₂ (λ o′ mid′. goes (calledFor seen at o′) n room at mid′) (step-only names at d .0) (step-only names at d .1)))
+      (λ h.
+      let same = step-only names at d in
+      sym (ap₂ (λ o′ mid′. goes (calledFor seen at o′) n room at mid′) (same .0) (same .1)))
 
   only-once :
       (n : ℕ) {room : ℕ} {e : Ending} (at : System L) → Ends names seen n room at e 0 0 →
@@ -190,7 +193,8 @@ module _ {L : Type 0} (names : Names L) (seen : ℕ → Bool) where
       ap (λ j. ended e j ls last) (omega (arith, k)) ∙ f room h (earlier w)
   only-more (some l) n zero made at mid last ls e k f h w = absurd (omega arith)
   only-more (some l) n (suc room) made at mid last ls e k f h w =
-      ap (λ j. ended e j (l ∷ ls) last) (omega (arith, k)) ∙ ap (withLine l) (f room (omega (arith, h)) (earlier-line (earlier w)))
+      ap (λ j. ended e j (l ∷ ls) last) (omega (arith, k))
+      ∙ ap (withLine l) (f room (omega (arith, h)) (earlier-line (earlier w)))
 
   only :
       {made : ℕ} {at last : System L} {ls : List Line} → Path names seen made at ls last → (n room : ℕ) (e : Ending) →

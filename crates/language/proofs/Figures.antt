@@ -218,7 +218,11 @@ module _ {L : Type 0} (names : Names L) (at : System L) where
 
   -- what is next, where it is known whether the process is suspended
   abbrev outcome : Bool → Outcome L
-  outcome b = cond b (leaves (change (at .process) (at .values)) (instantStart names (at .values))) (move (at .process) (at .values))
+  outcome b =
+      cond
+      b
+      (leaves (change (at .process) (at .values)) (instantStart names (at .values)))
+      (move (at .process) (at .values))
 
   abbrev following : Bool → System L
   following b = built (outcome b .process) (outcome b .values) (cond b (suc (at .instants)) (at .instants))

@@ -4,7 +4,7 @@ use Prim.Native.Nat.{ℕ}
 use mathlib.Core.Path.{_≡_, refl, sym, _∙_}
 use mathlib.Core.Bool.{Bool, true, false, true≢false}
 use mathlib.Core.Logic.{_⊎_, inl, inr}
-use Rattle.prelude.proofs.Bools.{fails, and-left, and-right}
+use Rattle.prelude.proofs.Bools.{fails}
 use Rattle.lattice.specs.Lattice.{Lattice, Laws}
 use Rattle.language.specs.Syntax.{Names, Proc, nil, assign, letIn, ifThenElse, while, sequence, emit, local, watching, when, parallel}
 use Rattle.language.specs.Scope.{Scoped}
@@ -12,7 +12,7 @@ use Rattle.language.specs.Levels.{expLevel, writeLevel, testLevel, need}
 use Rattle.language.specs.Calls.{readable}
 use Rattle.language.specs.Typing.{Below}
 use Rattle.language.proofs.Orders.{via}
-use Rattle.language.proofs.Needs.{Needs}
+use Rattle.language.proofs.Needs.{Needs, parallel-needs}
 use Rattle.language.proofs.Typing.{reads-below}
 use Rattle.language.proofs.Safe.{LowTests, Quiet, Safe}
 
@@ -30,6 +30,12 @@ module _ {L : Type 0} (𝓛 : Lattice L) (laws : Laws 𝓛) (names : Names L) (r
   above : {a b : L} → Below 𝓛 a b → 𝓛 .leq a reader ≡ false → 𝓛 .leq b reader ≡ false
   above {a} {b} h n = fails (𝓛 .leq b reader) (λ e. true≢false (sym (via 𝓛 laws h e) ∙ n))
 
+  above-left : {a b : L} → 𝓛 .leq (𝓛 .meet a b) reader ≡ false → 𝓛 .leq a reader ≡ false
+  above-left h = above (laws .meet-left _ _) h
+
+  above-right : {a b : L} → 𝓛 .leq (𝓛 .meet a b) reader ≡ false → 𝓛 .leq b reader ≡ false
+  above-right h = above (laws .meet-right _ _) h
+
   -- a process whose write level is not at or below the reader's is quiet
   quiet-of : (p : Proc L) (scope : ℕ → Bool) → Scoped names scope p → 𝓛 .leq (W p) reader ≡ false → Quiet names low p
   unfolding writeLevel
@@ -37,16 +43,16 @@ module _ {L : Type 0} (𝓛 : Lattice L) (laws : Laws 𝓛) (names : Names L) (r
   quiet-of (assign x e) scope u h = h
   quiet-of (letIn x δ e p) scope u h = (u .0 .owned, quiet-of p _ (u .2) h)
   quiet-of (ifThenElse e p q) scope u h =
-      (λ x o. tt, quiet-of p scope (u .1) (above (laws .meet-left _ _) h), quiet-of q scope (u .2) (above (laws .meet-right _ _) h))
+      (λ x o. tt, quiet-of p scope (u .1) (above-left h), quiet-of q scope (u .2) (above-right h))
   quiet-of (while e p) scope u h = (λ x o. tt, quiet-of p scope (u .1) h)
   quiet-of (sequence p q) scope u h =
-      (quiet-of p scope (u .0) (above (laws .meet-left _ _) h), quiet-of q scope (u .1) (above (laws .meet-right _ _) h))
+      (quiet-of p scope (u .0) (above-left h), quiet-of q scope (u .1) (above-right h))
   quiet-of (emit a) scope u h = h
   quiet-of (local a δ p) scope u h = (u .0 .owned, quiet-of p _ (u .1) h)
   quiet-of (watching a p) scope u h = (tt, quiet-of p scope (u .1) h)
   quiet-of (when a p) scope u h = (tt, quiet-of p scope (u .1) h)
   quiet-of (parallel p q) scope u h =
-      (quiet-of p scope (u .0) (above (laws .meet-left _ _) h), quiet-of q scope (u .1) (above (laws .meet-right _ _) h))
+      (quiet-of p scope (u .0) (above-left h), quiet-of q scope (u .1) (above-right h))
 
   left-of : {a b c : L} → Below 𝓛 (𝓛 .join a b) c → Below 𝓛 a c
   left-of h = via 𝓛 laws (laws .join-left _ _) h
@@ -61,7 +67,8 @@ module _ {L : Type 0} (𝓛 : Lattice L) (laws : Laws 𝓛) (names : Names L) (r
   tests-of (assign x e) h = tt
   tests-of (letIn x δ e p) h = (tt, tests-of p h)
   tests-of (ifThenElse e p q) h =
-      (reads-below 𝓛 laws names e reader (left-of h), tests-of p (left-of (right-of h)), tests-of q (right-of (right-of h)))
+      let parts = right-of h in
+      (reads-below 𝓛 laws names e reader (left-of h), tests-of p (left-of parts), tests-of q (right-of parts))
   tests-of (while e p) h = (reads-below 𝓛 laws names e reader (left-of h), tests-of p (right-of h))
   tests-of (sequence p q) h = (tests-of p (left-of h), tests-of q (right-of h))
   tests-of (emit a) h = tt
@@ -111,8 +118,8 @@ module _ {L : Type 0} (𝓛 : Lattice L) (laws : Laws 𝓛) (names : Names L) (r
   safe-of (when a p) scope u h =
       (low-or-quiet (names .level a) p scope (u .1) (h .0) (λ l. l), safe-of p scope (u .1) (h .1))
   safe-of (parallel p q) scope u h = (
-    low-or-quiet _ q scope (u .1) (and-left (𝓛 .leq (T p) (W q)) (𝓛 .leq (T q) (W p)) (h .0)) (tests-of p),
-    low-or-quiet _ p scope (u .0) (and-right (𝓛 .leq (T p) (W q)) (𝓛 .leq (T q) (W p)) (h .0)) (tests-of q),
+    low-or-quiet _ q scope (u .1) (parallel-needs 𝓛 names p q (h .0) .0) (tests-of p),
+    low-or-quiet _ p scope (u .0) (parallel-needs 𝓛 names p q (h .0) .1) (tests-of q),
     safe-of p scope (u .0) (h .1),
     safe-of q scope (u .1) (h .2),
   )

@@ -84,7 +84,10 @@ module _ {L : Type 0} (names : Names L) (low : ℕ → Bool) where
   suspended-same (when a p) s t q h k =
       ap₂ (λ b c. not b || c) (present-same q (test-part tt (h .0) k)) (suspended-same p s t q (h .1) (body-part tt k))
   suspended-same (parallel p p′) s t q h k =
-      ap₂ _&&_ (suspended-same p s t q (h .2) (first-part (h .0) k)) (suspended-same p′ s t q (h .3) (second-part (h .1) k))
+      ap₂
+      _&&_
+      (suspended-same p s t q (h .2) (first-part (h .0) k))
+      (suspended-same p′ s t q (h .3) (second-part (h .1) k))
 
   abbrev Equal : Proc L → Proc L → Type 0
   Equal p q = p ≡ q
@@ -116,7 +119,10 @@ module _ {L : Type 0} (names : Names L) (low : ℕ → Bool) where
       (λ u. ap (when a) (change-same p s t q (h .1) (body-part tt k)))
       (λ u. refl)
   change-same (parallel p p′) s t q h k =
-      ap₂ parallel (change-same p s t q (h .2) (first-part (h .0) k)) (change-same p′ s t q (h .3) (second-part (h .1) k))
+      ap₂
+      parallel
+      (change-same p s t q (h .2) (first-part (h .0) k))
+      (change-same p′ s t q (h .3) (second-part (h .1) k))
 
   -- outcomes that differ in nothing low
   pub record SameOutcome (r r′ : Outcome L) : Type 0 where
@@ -244,14 +250,26 @@ module _ {L : Type 0} (names : Names L) (low : ℕ → Bool) where
   move-unchanged (ifThenElse e p q) s h = untouched _ s
   move-unchanged (while e p) s h = untouched _ s
   move-unchanged (sequence p q) s h =
-      by-cases (Unchanged s) (isNil p) (λ u. untouched q s) (λ u. unchanged-inside (λ z. sequence z q) (move-unchanged p s (h .0)))
+      by-cases
+      (Unchanged s)
+      (isNil p)
+      (λ u. untouched q s)
+      (λ u. unchanged-inside (λ z. sequence z q) (move-unchanged p s (h .0)))
   move-unchanged (emit a) s h = record { hidden = no-emission h; registers = λ y l w i. set-unseen low s a y _ h l }
   move-unchanged (local a δ p) s h =
       record { hidden = no-output; registers = λ y l w i. set-unseen (names .isSession) s a y _ (h .0) w }
   move-unchanged (watching a p) s h =
-      by-cases (Unchanged s) (isNil p) (λ u. untouched nil s) (λ u. unchanged-inside (watching a) (move-unchanged p s (h .1)))
+      by-cases
+      (Unchanged s)
+      (isNil p)
+      (λ u. untouched nil s)
+      (λ u. unchanged-inside (watching a) (move-unchanged p s (h .1)))
   move-unchanged (when a p) s h =
-      by-cases (Unchanged s) (isNil p) (λ u. untouched nil s) (λ u. unchanged-inside (when a) (move-unchanged p s (h .1)))
+      by-cases
+      (Unchanged s)
+      (isNil p)
+      (λ u. untouched nil s)
+      (λ u. unchanged-inside (when a) (move-unchanged p s (h .1)))
   move-unchanged (parallel p q) s h =
       by-cases
       (Unchanged s)

@@ -5,7 +5,7 @@ use mathlib.Core.Bool.{true, _&&_}
 use Rattle.prelude.proofs.Bools.{and-intro, and-left, and-right}
 use Rattle.lattice.specs.Lattice.{Lattice}
 use Rattle.language.specs.Syntax.{Names, Proc, nil, assign, letIn, ifThenElse, while, sequence, emit, local, watching, when, parallel}
-use Rattle.language.specs.Levels.{need, needs}
+use Rattle.language.specs.Levels.{writeLevel, testLevel, need, needs}
 
 module _ {L : Type 0} (𝓛 : Lattice L) (names : Names L) where
   abbrev Own : Proc L → Type 0
@@ -52,6 +52,16 @@ module _ {L : Type 0} (𝓛 : Lattice L) (names : Names L) where
   needs-hold (watching a p) h = one (watching a p) p h (needs-hold p)
   needs-hold (when a p) h = one (when a p) p h (needs-hold p)
   needs-hold (parallel p q) h = two (parallel p q) p q h (needs-hold p) (needs-hold q)
+
+  -- the two needs of a parallel
+  pub parallel-needs :
+      (p q : Proc L) → Own (parallel p q) →
+      (𝓛 .leq (testLevel 𝓛 names p) (writeLevel 𝓛 names q) ≡ true) × (𝓛 .leq (testLevel 𝓛 names q) (writeLevel 𝓛 names p) ≡ true)
+  unfolding need
+  parallel-needs p q h =
+      let first = 𝓛 .leq (testLevel 𝓛 names p) (writeLevel 𝓛 names q) in
+      let second = 𝓛 .leq (testLevel 𝓛 names q) (writeLevel 𝓛 names p) in
+      (and-left first second h, and-right first second h)
 
   pub hold-needs : (p : Proc L) → Needs p → needs 𝓛 names p ≡ true
   unfolding needs

@@ -113,7 +113,9 @@ module _ {L : Type 0} (names : Names L) (low : ℕ → Bool) where
       (at at′ : System L) → Twins names low at at′ → (e : Ending) →
       RegistersEqual (stops names e at) (stops names e at′)
   values-equal at at′ q e x u =
-      given-back-session names (at .values) x (u .1) ∙ q .values .agree x (u .0) ∙ sym (given-back-session names (at′ .values) x (u .1))
+      given-back-session names (at .values) x (u .1)
+      ∙ q .values .agree x (u .0)
+      ∙ sym (given-back-session names (at′ .values) x (u .1))
 
   stops-agree :
       (N n m : ℕ) (at at′ : System L) → Twins names low at at′ → (e : Ending) →
@@ -222,7 +224,11 @@ module _ {L : Type 0} (names : Names L) (low : ℕ → Bool) where
   agree zero m N room at at′ k l q s = none-agree N m room at at′ (omega arith) q
   agree (suc n) zero N room at at′ k l q s = absurd (omega arith)
   agree (suc n) (suc m) N room at at′ k l q s =
-      go (quiet? (at .process)) (λ left t. agree n m N left (next names at) (next names at′) (omega (arith, k)) (omega arith) t (step-safe names low (at .process) (at .values) s))
+      go
+      (quiet? (at .process))
+      (λ left t.
+      let after = step-safe names low (at .process) (at .values) s in
+      agree n m N left (next names at) (next names at′) (omega (arith, k)) (omega arith) t after)
     where
       go :
           Quiet names low (at .process) ⊎ (Quiet names low (at .process) → ⊥) →

@@ -118,9 +118,17 @@ module _ {L : Type 0} (names : Names L) (low : ℕ → Bool) where
   change-safe (emit a) s h = h
   change-safe (local a δ p) s h = h
   change-safe (watching a p) s h =
-      by-cases (Safe names low) (present s a) (λ t. tt) (λ f. (either same (change-quiet p s) (h .0), change-safe p s (h .1)))
+      by-cases
+      (Safe names low)
+      (present s a)
+      (λ t. tt)
+      (λ f. (either same (change-quiet p s) (h .0), change-safe p s (h .1)))
   change-safe (when a p) s h =
-      by-cases (Safe names low) (present s a) (λ t. (either same (change-quiet p s) (h .0), change-safe p s (h .1))) (λ f. h)
+      by-cases
+      (Safe names low)
+      (present s a)
+      (λ t. (either same (change-quiet p s) (h .0), change-safe p s (h .1)))
+      (λ f. h)
   change-safe (parallel p q) s h = (
     either (change-tests p s) (change-quiet q s) (h .0),
     either (change-tests q s) (change-quiet p s) (h .1),

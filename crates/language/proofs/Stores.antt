@@ -35,7 +35,9 @@ module _ (low : ℕ → Bool) (s t : List ℤ) (q : LowEqual low s t) where
         agree =
             λ y l.
             elim (ℕ-discrete y x) [
-              | yes e ↦ ap (held (set s x v)) e ∙ stored (h (ap low (sym e) ∙ l)) (ap low (sym e) ∙ l) ∙ ap (held (set t x w)) (sym e)
+              | yes e ↦ ap (held (set s x v)) e
+                  ∙ stored (h (ap low (sym e) ∙ l)) (ap low (sym e) ∙ l)
+                  ∙ ap (held (set t x w)) (sym e)
               | no n ↦ getD-set-other s x y v (pos 0) n ∙ q .agree y l ∙ sym (getD-set-other t x y w (pos 0) n)
             ];
       }
@@ -57,7 +59,8 @@ mapped f s x h =
     elim (decLt x (length s)) [
       | yes i ↦ table-at f (length s) x (pos 0) i
       | no o ↦
-          List·getD-eq-default (table f (length s)) (pos 0) (omega (arith, length-table f (length s))) ∙ sym (h (omega arith))
+          List·getD-eq-default (table f (length s)) (pos 0) (omega (arith, length-table f (length s)))
+          ∙ sym (h (omega arith))
     ]
 
 module _ {L : Type 0} (names : Names L) (s : List ℤ) where
@@ -96,5 +99,7 @@ instant-low names low s t q =
     record {
       lengths = instant-length names s ∙ q .lengths ∙ sym (instant-length names t);
       agree =
-          λ x l. instant-at names s x ∙ ap (cond (names .isSignal x) (pos 0)) (q .agree x l) ∙ sym (instant-at names t x);
+          λ x l. instant-at names s x
+          ∙ ap (cond (names .isSignal x) (pos 0)) (q .agree x l)
+          ∙ sym (instant-at names t x);
     }

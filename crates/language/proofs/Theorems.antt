@@ -53,7 +53,16 @@ module _
             needs 𝓛 names p ≡ true →
             Typed 𝓛 (environment names (names .isSession)) p (writeLevel 𝓛 names p) (testLevel 𝓛 names p)
         derive h =
-            derives 𝓛 laws names p _ (names .isSession) (environment-covers names (names .isSession)) scoped (needs-hold 𝓛 names p h)
+            derives
+            𝓛
+            laws
+            names
+            p
+            _
+            (names .isSession)
+            (environment-covers names (names .isSession))
+            scoped
+            (needs-hold 𝓛 names p h)
 
         read :
             {θ σ : L} → Typed 𝓛 (environment names (names .isSession)) p θ σ →
@@ -98,4 +107,17 @@ module _
         self = record { lengths = refl; session = λ x w u. refl; owned = λ x w. (q .owned x w .1, q .owned x w .1) }
 
         alone : Agree names low m m m (run names low m room (starts p t)) (run names low m room (starts p t))
-        alone = agree names low m m m room (starts p t) (starts p t) (zero-add m) (le-refl m) (starts-twins reader t t self) safe
+        alone =
+            agree
+            names
+            low
+            m
+            m
+            m
+            room
+            (starts p t)
+            (starts p t)
+            (zero-add m)
+            (le-refl m)
+            (starts-twins reader t t self)
+            safe

@@ -4,14 +4,14 @@ use Prim.Native.Nat.{ℕ}
 use mathlib.Core.Path.{_≡_, refl, sym, ap, subst, _∙_}
 use mathlib.Core.Bool.{Bool, true, false, _||_}
 use lib.Dec.{T, eqb, eqb→eq}
-use Rattle.prelude.proofs.Bools.{by-cases, and-intro, and-left, and-right, or-second}
+use Rattle.prelude.proofs.Bools.{by-cases, and-intro, or-second}
 use Rattle.lattice.specs.Lattice.{Lattice, Laws}
 use Rattle.language.specs.Syntax.{Names, Exp, constant, register, binary, negated, Occurs, here, left, right, under, Proc, nil, assign, letIn, ifThenElse, while, sequence, emit, local, watching, when, parallel}
 use Rattle.language.specs.Scope.{withName, ReadsIn, Scoped}
 use Rattle.language.specs.Levels.{expLevel, writeLevel, testLevel, need}
 use Rattle.language.specs.Typing.{NameType, undefined, var, sig, Environment, extended, typeOf, environment, Below, HasLevel, EXPR, Typed, NIL, ASSIGN, LET, SEQ, COND, WHILE, EMIT, LOCAL, WATCH, WHEN, PAR, SUB}
 use Rattle.language.proofs.Orders.{via, joins, meets}
-use Rattle.language.proofs.Needs.{Needs}
+use Rattle.language.proofs.Needs.{Needs, parallel-needs}
 
 module _ {L : Type 0} (names : Names L) where
   -- Γ gives every name in the scope its kind and level
@@ -82,7 +82,10 @@ module _ {L : Type 0} (𝓛 : Lattice L) (laws : Laws 𝓛) (names : Names L) wh
 
   level-of : (Γ : Environment L) (e : Exp) (δ : L) → Agrees names Γ → HasLevel 𝓛 Γ e δ → Below 𝓛 (expLevel 𝓛 names e) δ
   level-of Γ e δ w (EXPR f) =
-      level-least e δ (λ x o. subst (λ θ. Below 𝓛 θ δ) (subst (Gives names (names .level x)) (f x o .1) (w x)) (f x o .2))
+      level-least
+      e
+      δ
+      (λ x o. subst (λ θ. Below 𝓛 θ δ) (subst (Gives names (names .level x)) (f x o .1) (w x)) (f x o .2))
 
   -- Where the needs hold, the pair of the list is derivable.
   pub derives :
@@ -95,9 +98,10 @@ module _ {L : Type 0} (𝓛 : Lattice L) (laws : Laws 𝓛) (names : Names L) wh
       ASSIGN (has-level Γ scope e _ c (u .1) h) (c x (u .0 .0) ∙ register-type names x (u .0 .1))
   derives (letIn x δ e p) Γ scope c u h =
       let d = u .0 in
+      let t = ap var (d .carried) ∙ sym (register-type names x (d .kinded)) in
       LET
       (has-level Γ scope e δ c (u .1) (subst (Below 𝓛 _) (sym (d .carried)) (h .0)))
-      (derives p _ _ (covers-extended names Γ scope x (var δ) (ap var (d .carried) ∙ sym (register-type names x (d .kinded))) c) (u .2) (h .1))
+      (derives p _ _ (covers-extended names Γ scope x (var δ) t c) (u .2) (h .1))
   derives (ifThenElse e p q) Γ scope c u h =
       COND
       (has-level Γ scope e _ c (u .0) (laws .reflexive _))
@@ -111,8 +115,8 @@ module _ {L : Type 0} (𝓛 : Lattice L) (laws : Laws 𝓛) (names : Names L) wh
   derives (emit a) Γ scope c u h = EMIT (c a (u .0) ∙ signal-type names a (u .1))
   derives (local a δ p) Γ scope c u h =
       let d = u .0 in
-      LOCAL
-      (derives p _ _ (covers-extended names Γ scope a (sig δ) (ap sig (d .carried) ∙ sym (signal-type names a (d .kinded))) c) (u .1) (h .1))
+      let t = ap sig (d .carried) ∙ sym (signal-type names a (d .kinded)) in
+      LOCAL (derives p _ _ (covers-extended names Γ scope a (sig δ) t c) (u .1) (h .1))
   derives (watching a p) Γ scope c u h =
       WATCH (c a (u .0 .0) ∙ signal-type names a (u .0 .1)) (derives p Γ scope c (u .1) (h .1)) (h .0)
   derives (when a p) Γ scope c u h =
@@ -121,8 +125,8 @@ module _ {L : Type 0} (𝓛 : Lattice L) (laws : Laws 𝓛) (names : Names L) wh
       PAR
       (derives p Γ scope c (u .0) (h .1))
       (derives q Γ scope c (u .1) (h .2))
-      (and-left (𝓛 .leq (testLevel 𝓛 names p) (writeLevel 𝓛 names q)) (𝓛 .leq (testLevel 𝓛 names q) (writeLevel 𝓛 names p)) (h .0))
-      (and-right (𝓛 .leq (testLevel 𝓛 names p) (writeLevel 𝓛 names q)) (𝓛 .leq (testLevel 𝓛 names q) (writeLevel 𝓛 names p)) (h .0))
+      (parallel-needs 𝓛 names p q (h .0) .0)
+      (parallel-needs 𝓛 names p q (h .0) .1)
 
   -- Where a pair is derivable, the needs hold, and the pair of the list is at least as tight.
   pub derived :
@@ -177,7 +181,11 @@ module _ {L : Type 0} (𝓛 : Lattice L) (laws : Laws 𝓛) (names : Names L) wh
   derived (PAR d d′ h h′) scope w u =
       let c = derived d scope w (u .0) in
       let c′ = derived d′ scope w (u .1) in (
-        (and-intro _ _ (via 𝓛 laws (c .2) (via 𝓛 laws h (c′ .1))) (via 𝓛 laws (c′ .2) (via 𝓛 laws h′ (c .1))), c .0, c′ .0),
+        (
+          and-intro _ _ (via 𝓛 laws (c .2) (via 𝓛 laws h (c′ .1))) (via 𝓛 laws (c′ .2) (via 𝓛 laws h′ (c .1))),
+          c .0,
+          c′ .0,
+        ),
         meets 𝓛 laws (c .1) (c′ .1),
         joins 𝓛 laws (c .2) (c′ .2),
       )
