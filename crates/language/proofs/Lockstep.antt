@@ -1,5 +1,5 @@
--- Two systems that agree on the low names take the same step while something low may yet be written; after that, nothing low
--- changes in either.
+-- Two systems that agree on the low names take the same step while something low may yet be written; after that,
+-- nothing low changes in either.
 -- Assumes nothing.
 use Prim.Native.Nat.{ℕ, suc}
 use mathlib.Core.Path.{_≡_, refl, ap, ap₂, sym, subst, _∙_}
@@ -307,7 +307,8 @@ module _ {L : Type 0} (names : Names L) (low : ℕ → Bool) where
       (q .instants)
 
   line-none : (at : System L) (x : ℕ) (v : ℤ) → low x ≡ false → lineFor low at x v ≡ none
-  line-none at x v h = rw h
+  line-none at x v h =
+      ap (λ b. cond b (some (record { step = suc (at .steps); instant = at .instants; name = x; value = v })) none) h
 
   called-same :
       (at at′ : System L) → Twins at at′ → {o o′ : Output} → Alike low o o′ →

@@ -5,6 +5,7 @@ use mathlib.Core.Bool.{true, _&&_}
 use Rattle.prelude.proofs.Bools.{and-intro, and-left, and-right}
 use Rattle.lattice.specs.Lattice.{Lattice}
 use Rattle.language.specs.Syntax.{Names, Proc, nil, assign, letIn, ifThenElse, while, sequence, emit, local, watching, when, parallel}
+use Rattle.language.specs.Typing.{Below}
 use Rattle.language.specs.Levels.{writeLevel, testLevel, need, needs}
 
 module _ {L : Type 0} (𝓛 : Lattice L) (names : Names L) where
@@ -56,7 +57,7 @@ module _ {L : Type 0} (𝓛 : Lattice L) (names : Names L) where
   -- the two needs of a parallel
   pub parallel-needs :
       (p q : Proc L) → Own (parallel p q) →
-      (𝓛 .leq (testLevel 𝓛 names p) (writeLevel 𝓛 names q) ≡ true) × (𝓛 .leq (testLevel 𝓛 names q) (writeLevel 𝓛 names p) ≡ true)
+      Below 𝓛 (testLevel 𝓛 names p) (writeLevel 𝓛 names q) × Below 𝓛 (testLevel 𝓛 names q) (writeLevel 𝓛 names p)
   unfolding need
   parallel-needs p q h =
       let first = 𝓛 .leq (testLevel 𝓛 names p) (writeLevel 𝓛 names q) in

@@ -84,13 +84,7 @@ module _ {L : Type 0} (names : Names L) (s : List ℤ) where
   -- a run gives back what its session names hold
   pub given-back-session : (x : ℕ) → names .isSession x ≡ true → held (givenBack names s) x ≡ held s x
   unfolding givenBack
-  given-back-session x h =
-      mapped
-      _
-      s
-      x
-      (λ o. by-cases (λ z. z ≡ pos 0) (names .isSession x) (λ k. List·getD-eq-default s (pos 0) o) (λ k. refl))
-      ∙ rw h
+  given-back-session x h = mapped _ s x (λ o. rw h (List·getD-eq-default s (pos 0) o)) ∙ rw h
 
 pub instant-low :
     {L : Type 0} (names : Names L) (low : ℕ → Bool) (s t : List ℤ) → LowEqual low s t →

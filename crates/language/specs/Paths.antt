@@ -19,8 +19,8 @@ module _ {L : Type 0} (names : Names L) (seen : ℕ → Bool) where
         Step names at o mid → Path n mid ls end → Path (suc n) at (Option·toList (calledFor seen at o) ++ ls) end
 
   -- Why a run ends at a system, after so many of at most n steps and with so many lines of at most `room`: 'finished if
-  -- the script is nil; else spent if the limit is reached; else log full if this step needs a line and no four words are
-  -- left'.
+  -- the script is nil; else spent if the limit is reached; else log full if this step needs a line and no four words
+  -- are left'.
   pub data Ends (n room : ℕ) (at : System L) : Ending → ℕ → ℕ → Type 0 where
     NIL-REACHED : {made lines : ℕ} → isNil (at .process) ≡ true → Ends n room at finished made lines
     LIMIT-REACHED : {lines : ℕ} → isNil (at .process) ≡ false → Ends n room at spent n lines

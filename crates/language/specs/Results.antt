@@ -47,8 +47,8 @@ module _ {L : Type 0} (𝓛 : Lattice L) (names : Names L) (reader : L) where
     pub session : (x : ℕ) → names .isSession x ≡ true → readable 𝓛 names reader x ≡ true → held s x ≡ held t x
     pub owned : (x : ℕ) → names .isSession x ≡ false → (held s x ≡ pos 0) × (held t x ≡ pos 0)
 
-  -- 'the first record is exactly those lines of the second that are stamped n or less, word for word, in the same order.
-  -- With n = m the records are equal and the session registers at or below that level end equal.'
+  -- 'the first record is exactly those lines of the second that are stamped n or less, word for word, in the same
+  -- order. With n = m the records are equal and the session registers at or below that level end equal.'
   pub record RecordsAgree (n m : ℕ) (first second : Run) : Type 0 where
     pub shorter : first .lines ≡ upTo n (second .lines)
     pub equal : n ≡ m → first .lines ≡ second .lines
