@@ -3,7 +3,7 @@
 -- Assumes nothing.
 use Prim.Native.Nat.{ℕ, suc}
 use mathlib.Core.Path.{_≡_, refl, ap, ap₂, sym, subst, _∙_}
-use mathlib.Core.Bool.{Bool, true, false, cond, not, _&&_, _||_}
+use mathlib.Core.Bool.{Bool, true, false, cond, not, _&&_, _||_, true≢false}
 use mathlib.Core.Option.{Option, none, some}
 use mathlib.Core.List.{List}
 use mathlib.Core.Logic.{_⊎_, inl, inr}
@@ -307,8 +307,7 @@ module _ {L : Type 0} (names : Names L) (low : ℕ → Bool) where
       (q .instants)
 
   line-none : (at : System L) (x : ℕ) (v : ℤ) → low x ≡ false → lineFor low at x v ≡ none
-  line-none at x v h =
-      ap (λ b. cond b (some (record { step = suc (at .steps); instant = at .instants; name = x; value = v })) none) h
+  line-none at x v h = by-cases (λ c. c ≡ none) (low x) (λ l. absurd (true≢false (sym l ∙ h))) (λ l. refl)
 
   called-same :
       (at at′ : System L) → Twins at at′ → {o o′ : Output} → Alike low o o′ →
