@@ -48,48 +48,38 @@ module _ {L : Type 0} (names : Names L) (seen : ℕ → Bool) where
   later-line (LIMIT-REACHED h) = LIMIT-REACHED h
   later-line (LOG-FULL {made = made} h d c) = LOG-FULL {made = made} h d c
 
-  after-silent :
-      (n room : ℕ) (at mid : System L) (o : Output) (r : Run) → Step names at o mid → calledFor seen at o ≡ none →
-      mid .steps ≡ suc (at .steps) → IsRun names seen n room mid r → IsRun names seen (suc n) room at r
-  unfolding Option·toList
-  after-silent n room at mid o r d c k h =
+  -- a step before a run, with the line that it calls for, if any
+  abbrev recorded : Option Line → Run → Run
+  recorded c r =
       record {
-        made = suc (h .made);
-        last = h .last;
-        path =
-            subst
-            (λ (l : Option Line). Path names seen (suc (h .made)) at (Option·toList l ++ r .lines) (h .last))
-            c
-            (more d (h .path));
-        steps = omega (arith, h .steps, k);
-        instants = h .instants;
-        values = h .values;
-        inLimit = omega (arith, h .inLimit);
-        inRoom = h .inRoom;
-        why = later (h .why);
+        ending = r .ending;
+        steps = r .steps;
+        instants = r .instants;
+        lines = Option·toList c ++ r .lines;
+        values = r .values;
       }
 
-  after-line :
-      (n room : ℕ) (at mid : System L) (o : Output) (l : Line) (r : Run) → Step names at o mid →
-      calledFor seen at o ≡ some l →
-      mid .steps ≡ suc (at .steps) → IsRun names seen n room mid r →
-      IsRun names seen (suc n) (suc room) at (withLine l r)
-  unfolding Option·toList
-  after-line n room at mid o l r d c k h =
+  before :
+      (c : Option Line) (n room left : ℕ) (at mid : System L) (o : Output) (r : Run) → calledFor seen at o ≡ c →
+      Step names at o mid → mid .steps ≡ suc (at .steps) → (h : IsRun names seen n left mid r) →
+      length (Option·toList c ++ r .lines) ≤ room →
+      Ends names seen (suc n) room (h .last) (r .ending) (suc (h .made)) (length (Option·toList c ++ r .lines)) →
+      IsRun names seen (suc n) room at (recorded c r)
+  before c n room left at mid o r e d k h l w =
       record {
         made = suc (h .made);
         last = h .last;
         path =
             subst
-            (λ (l : Option Line). Path names seen (suc (h .made)) at (Option·toList l ++ r .lines) (h .last))
-            c
+            (λ (z : Option Line). Path names seen (suc (h .made)) at (Option·toList z ++ r .lines) (h .last))
+            e
             (more d (h .path));
         steps = omega (arith, h .steps, k);
         instants = h .instants;
         values = h .values;
         inLimit = omega (arith, h .inLimit);
-        inRoom = omega (arith, h .inRoom);
-        why = later-line (later (h .why));
+        inRoom = l;
+        why = w;
       }
 
   after :
@@ -97,10 +87,13 @@ module _ {L : Type 0} (names : Names L) (seen : ℕ → Bool) where
       calledFor seen at o ≡ c → Step names at o mid → mid .steps ≡ suc (at .steps) →
       ((left : ℕ) → IsRun names seen n left mid (go left)) →
       IsRun names seen (suc n) room at (logged c room go (stops names logFull at))
-  unfolding logged
-  after none n room at mid o go c d k f = after-silent n room at mid o (go room) d c k (f room)
+  unfolding logged Option·toList
+  after none n room at mid o go c d k f =
+      let h = f room in before none n room room at mid o (go room) c d k h (h .inRoom) (later (h .why))
   after (some l) n zero at mid o go c d k f = at-once (suc n) zero at logFull (LOG-FULL {made = 0} (omega arith) d c)
-  after (some l) n (suc room) at mid o go c d k f = after-line n room at mid o l (go room) d c k (f room)
+  after (some l) n (suc room) at mid o go c d k f =
+      let h = f room in
+      before (some l) n (suc room) room at mid o (go room) c d k h (omega (arith, h .inRoom)) (later-line (later (h .why)))
 
   pub run-is : (n room : ℕ) (at : System L) → IsRun names seen n room at (run names seen n room at)
   unfolding run

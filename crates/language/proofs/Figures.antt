@@ -2,7 +2,7 @@
 -- Assumes nothing.
 use Prim.Native.Nat.{ℕ, suc}
 use mathlib.Core.Path.{_≡_, refl, ap, ap₂, sym, subst, _∙_}
-use mathlib.Core.Bool.{Bool, true, false, cond, not, _||_, true≢false, false≢true}
+use mathlib.Core.Bool.{Bool, true, false, cond, not, _||_, or-true, Bool·not-not, true≢false, false≢true}
 use mathlib.Core.List.{List}
 use mathlib.Core.Logic.{_⊎_, inl, inr}
 use lib.IntN.{ℤ}
@@ -14,17 +14,9 @@ use Rattle.language.specs.Suspension.{Suspended, WHEN-SUS₁, WHEN-SUS�
 use Rattle.language.specs.Moves.{Move, ASSIGN-OP, SEQ-OP₁, SEQ-OP₂, LET-OP, COND-OP₁, COND-OP₂, WHILE-OP₁, WHILE-OP₂, EMIT-OP, LOCAL-OP, WATCH-OP₁, WATCH-OP₂, WHEN-OP₁, WHEN-OP₂, PAR-OP₁, PAR-OP₂, PAR-OP₃}
 use Rattle.language.specs.Instants.{Changed, WATCH-PRESENT, WATCH-ABSENT, WHEN-PRESENT, WHEN-ABSENT, SEQ-CHANGED, PAR-CHANGED, Step, MOVE, INSTANT-OP}
 
-not-true : (b : Bool) → not b ≡ false → b ≡ true
-not-true true h = refl
-not-true false h = absurd (true≢false h)
-
 either-true : (a b : Bool) → (not a || b) ≡ true → (a ≡ false) ⊎ (b ≡ true)
 either-true true b h = inr h
 either-true false b h = inl refl
-
-or-late : (a b : Bool) → b ≡ true → (a || b) ≡ true
-or-late true b h = refl
-or-late false b h = h
 
 module _ {L : Type 0} where
   nil-of : (p : Proc L) → isNil p ≡ true → p ≡ nil
@@ -45,7 +37,7 @@ module _ {L : Type 0} where
   pub suspended-of : {s : List ℤ} {p : Proc L} → Suspended s p → suspended p s ≡ true
   unfolding suspended
   suspended-of (WHEN-SUS₁ h) = rw h
-  suspended-of {s} (WHEN-SUS₂ {a = a} {p = p} d) = or-late (not (present s a)) (suspended p s) (suspended-of d)
+  suspended-of {s} (WHEN-SUS₂ {a = a} d) = rw (suspended-of d) (or-true (not (present s a)))
   suspended-of (WATCH-SUS d) = suspended-of d
   suspended-of (SEQ-SUS d) = suspended-of d
   suspended-of (PAR-SUS d d′) = rw (suspended-of d, suspended-of d′)
@@ -175,7 +167,7 @@ module _ {L : Type 0} where
   move-is (watching a p) s n h =
       by-cases (Allowed s (watching a p)) _ (λ e. rw (nil-of p e) WATCH-OP₁) (λ e. WATCH-OP₂ (move-is p s e h))
   move-is (when a p) s n h =
-      let here = not-true (present s a) (or-left (not (present s a)) (suspended p s) h) in
+      let here = sym (Bool·not-not (present s a)) ∙ ap not (or-left (not (present s a)) (suspended p s) h) in
       let free = or-right (not (present s a)) (suspended p s) h in
       by-cases (Allowed s (when a p)) _ (λ e. rw (nil-of p e) (WHEN-OP₁ here)) (λ e. WHEN-OP₂ here (move-is p s e free))
   move-is (parallel p q) s n h =

@@ -6,7 +6,7 @@ use mathlib.Core.Path.{_≡_, refl, ap, ap₂, sym, subst, _∙_}
 use mathlib.Core.Bool.{Bool, true, false, cond, not, _&&_, _||_, true≢false}
 use mathlib.Core.Option.{Option, none, some}
 use mathlib.Core.List.{List}
-use mathlib.Core.Logic.{_⊎_, inl, inr}
+use mathlib.Core.Logic.{_⊎_, inl, inr, ⊎-map}
 use lib.IntN.{ℤ}
 use Rattle.prelude.proofs.Bools.{by-cases, by-both}
 use Rattle.language.specs.Values.{holds, negation}
@@ -14,7 +14,7 @@ use Rattle.language.specs.Syntax.{Names, Exp, constant, register, binary
 use Rattle.language.specs.Steps.{held, present, apply, value, test, Output, silent, assigned, emitted, Outcome, inside, suspended, move, change, step}
 use Rattle.language.specs.Calls.{Line, System, lineFor, calledFor, output, next}
 use Rattle.language.proofs.Stores.{set-unseen, LowEqual, set-low, instant-low, instant-register}
-use Rattle.language.proofs.Safe.{LowReads, LowTests, Quiet, Safe, either, same, step-uses}
+use Rattle.language.proofs.Safe.{LowReads, LowTests, Quiet, Safe, step-uses}
 
 -- what remains of two disjunctions
 pick : {X Q : Type 0} → X ⊎ Q → X ⊎ (Q → ⊥) → X
@@ -34,10 +34,10 @@ second-part (inr q) (inr n) = inr (λ r. n (q, r))
 
 -- of the body of a construct with a test of its own
 body-part : {X Y P R : Type 0} → P → (X × Y) ⊎ ((P × R) → ⊥) → Y ⊎ (R → ⊥)
-body-part p k = either (λ u. u .1) (λ n r. n (p, r)) k
+body-part p k = ⊎-map (λ u. u .1) (λ n r. n (p, r)) k
 
 test-part : {X Y P R : Type 0} → P → X ⊎ R → (X × Y) ⊎ ((P × R) → ⊥) → X
-test-part p h k = pick h (either (λ u. u .0) (λ n r. n (p, r)) k)
+test-part p h k = pick h (⊎-map (λ u. u .0) (λ n r. n (p, r)) k)
 
 pub value-same : (e : Exp) (s t : List ℤ) → ((x : ℕ) → Occurs x e → held s x ≡ held t x) → value e s ≡ value e t
 unfolding value
@@ -165,10 +165,10 @@ module _ {L : Type 0} (names : Names L) (low : ℕ → Bool) where
   move-same (letIn x δ e p) s t q h k =
       silently refl (set-low low s t q x _ _ (λ l. value-same e s t (λ z o. q .agree z (h .0 l z o))))
   move-same (ifThenElse e p p′) s t q h k =
-      let l : LowReads names low e = pick (h .0) (either (λ u. u .0) (λ n u. n (λ x o. tt, u .0, u .1)) k) in
+      let l : LowReads names low e = pick (h .0) (⊎-map (λ u. u .0) (λ n u. n (λ x o. tt, u .0, u .1)) k) in
       silently (by-both Equal (test e s) (test e t) (test-same e q l) (λ u. refl) (λ u. refl)) q
   move-same (while e p) s t q h k =
-      let l : LowReads names low e = pick (h .0) (either same (λ n u. n (λ x o. tt, u)) k) .0 in
+      let l : LowReads names low e = pick (h .0) (⊎-map (λ u. u) (λ n u. n (λ x o. tt, u)) k) .0 in
       silently (by-both Equal (test e s) (test e t) (test-same e q l) (λ u. refl) (λ u. refl)) q
   move-same (sequence p p′) s t q h k =
       by-both

@@ -3,8 +3,8 @@
 use Prim.Native.Nat.{ℕ, zero, suc, _+_, _≤_, _<_}
 use native.Mathlib.Omega.{arith}
 use mathlib.Core.Path.{_≡_, refl, ap, sym, _∙_, subst}
-use mathlib.Core.Bool.{Bool, true, false, true≢false}
-use mathlib.Core.Logic.{_⊎_, inl, inr}
+use mathlib.Core.Bool.{Bool, true, false, Bool-discrete}
+use mathlib.Core.Logic.{inr, Dec·and, Dec·of-iff}
 use mathlib.Core.Option.{Option, none, some}
 use mathlib.Core.List.{[], _∷_}
 use borrow.Author.Tests.{le-leb, lt-leb}
@@ -14,33 +14,24 @@ use Rattle.language.specs.Steps.{held}
 use Rattle.language.specs.Calls.{Line, Ending, finished, spent, logFull, System, Run, calledFor, output, next, stops, withLine, logged, run}
 use Rattle.language.specs.Results.{upTo}
 use Rattle.language.proofs.Stores.{given-back-session}
-use Rattle.language.proofs.Safe.{Quiet, Safe, either, step-safe}
+use Rattle.language.proofs.Safe.{Quiet, Safe, step-safe}
 use Rattle.language.proofs.Lockstep.{Twins, Stamped, called-stamped, steps-alike, steps-quietly}
 
--- whether a process writes nothing low is decided
-decided-pair : {X Y : Type 0} → X ⊎ (X → ⊥) → Y ⊎ (Y → ⊥) → (X × Y) ⊎ ((X × Y) → ⊥)
-decided-pair (inl x) (inl y) = inl (x, y)
-decided-pair (inl x) (inr n) = inr (λ u. n (u .1))
-decided-pair (inr n) d = inr (λ u. n (u .0))
-
-decided-false : (b : Bool) → (b ≡ false) ⊎ (b ≡ false → ⊥)
-decided-false true = inr (λ e. true≢false e)
-decided-false false = inl refl
-
 module _ {L : Type 0} (names : Names L) (low : ℕ → Bool) where
-  quiet? : (p : Proc L) → Quiet names low p ⊎ (Quiet names low p → ⊥)
-  quiet? nil = inl tt
-  quiet? (assign x e) = decided-false (low x)
-  quiet? (letIn x δ e p) = decided-pair (decided-false (names .isSession x)) (quiet? p)
+  -- whether a process writes nothing low
+  quiet? : (p : Proc L) → Dec (Quiet names low p)
+  quiet? nil = yes tt
+  quiet? (assign x e) = Bool-discrete (low x) false
+  quiet? (letIn x δ e p) = Dec·and (Bool-discrete (names .isSession x) false) (quiet? p)
   quiet? (ifThenElse e p q) =
-      either (λ u. (λ x o. tt, u .0, u .1)) (λ n u. n (u .1, u .2)) (decided-pair (quiet? p) (quiet? q))
-  quiet? (while e p) = decided-pair (inl (λ x o. tt)) (quiet? p)
-  quiet? (sequence p q) = decided-pair (quiet? p) (quiet? q)
-  quiet? (emit a) = decided-false (low a)
-  quiet? (local a δ p) = decided-pair (decided-false (names .isSession a)) (quiet? p)
-  quiet? (watching a p) = decided-pair (inl tt) (quiet? p)
-  quiet? (when a p) = decided-pair (inl tt) (quiet? p)
-  quiet? (parallel p q) = decided-pair (quiet? p) (quiet? q)
+      Dec·of-iff (λ u. (λ x o. tt, u .0, u .1), λ u. (u .1, u .2)) (Dec·and (quiet? p) (quiet? q))
+  quiet? (while e p) = Dec·and (yes (λ x o. tt)) (quiet? p)
+  quiet? (sequence p q) = Dec·and (quiet? p) (quiet? q)
+  quiet? (emit a) = Bool-discrete (low a) false
+  quiet? (local a δ p) = Dec·and (Bool-discrete (names .isSession a) false) (quiet? p)
+  quiet? (watching a p) = Dec·and (yes tt) (quiet? p)
+  quiet? (when a p) = Dec·and (yes tt) (quiet? p)
+  quiet? (parallel p q) = Dec·and (quiet? p) (quiet? q)
 
   -- the session's low registers
   abbrev pub Register : ℕ → Type 0
@@ -231,9 +222,9 @@ module _ {L : Type 0} (names : Names L) (low : ℕ → Bool) where
       agree n m N left (next names at) (next names at′) (omega (arith, k)) (omega arith) t after)
     where
       go :
-          Quiet names low (at .process) ⊎ (Quiet names low (at .process) → ⊥) →
+          Dec (Quiet names low (at .process)) →
           ((left : ℕ) → Twins names low (next names at) (next names at′) →
           Agree N n m (run names low n left (next names at)) (run names low m left (next names at′))) →
           Agree N (suc n) (suc m) (run names low (suc n) room at) (run names low (suc m) room at′)
-      go (inl h) f = quiet-agree N (suc n) (suc m) room at at′ q h
-      go (inr z) f = lockstep-agree N n m room at at′ (omega (arith, k)) q s z f
+      go (yes h) f = quiet-agree N (suc n) (suc m) room at at′ q h
+      go (no z) f = lockstep-agree N n m room at at′ (omega (arith, k)) q s z f

@@ -4,7 +4,7 @@ use Prim.Native.Nat.{ℕ}
 use mathlib.Core.Path.{_≡_}
 use mathlib.Core.Bool.{Bool, true, false}
 use mathlib.Core.List.{List}
-use mathlib.Core.Logic.{_⊎_, inl, inr}
+use mathlib.Core.Logic.{_⊎_, ⊎-map}
 use lib.IntN.{ℤ}
 use Rattle.prelude.proofs.Bools.{by-cases}
 use Rattle.language.specs.Syntax.{Names, Exp, Occurs, Proc, nil, assign, letIn, ifThenElse, while, sequence, emit, local, watching, when, parallel, isNil}
@@ -92,14 +92,6 @@ module _ {L : Type 0} (names : Names L) (low : ℕ → Bool) where
   Safe (when a p) = ((low a ≡ true) ⊎ Quiet p) × Safe p
   Safe (parallel p q) = (LowTests p ⊎ Quiet q) × (LowTests q ⊎ Quiet p) × Safe p × Safe q
 
--- either part of a disjunction taken further
-pub either : {A B C D : Type 0} → (A → C) → (B → D) → A ⊎ B → C ⊎ D
-either f g (inl a) = inl (f a)
-either f g (inr b) = inr (g b)
-
-pub same : {A : Type 0} → A → A
-same a = a
-
 module _ {L : Type 0} (names : Names L) (low : ℕ → Bool) where
   change-tests : (p : Proc L) (s : List ℤ) → LowTests names low p → LowTests names low (change p s)
   change-tests = change-uses _ _ _
@@ -114,7 +106,7 @@ module _ {L : Type 0} (names : Names L) (low : ℕ → Bool) where
   change-safe (letIn x δ e p) s h = h
   change-safe (ifThenElse e p q) s h = h
   change-safe (while e p) s h = h
-  change-safe (sequence p q) s h = (either (change-tests p s) same (h .0), change-safe p s (h .1), h .2)
+  change-safe (sequence p q) s h = (⊎-map (change-tests p s) (λ u. u) (h .0), change-safe p s (h .1), h .2)
   change-safe (emit a) s h = h
   change-safe (local a δ p) s h = h
   change-safe (watching a p) s h =
@@ -122,16 +114,16 @@ module _ {L : Type 0} (names : Names L) (low : ℕ → Bool) where
       (Safe names low)
       (present s a)
       (λ t. tt)
-      (λ f. (either same (change-quiet p s) (h .0), change-safe p s (h .1)))
+      (λ f. (⊎-map (λ u. u) (change-quiet p s) (h .0), change-safe p s (h .1)))
   change-safe (when a p) s h =
       by-cases
       (Safe names low)
       (present s a)
-      (λ t. (either same (change-quiet p s) (h .0), change-safe p s (h .1)))
+      (λ t. (⊎-map (λ u. u) (change-quiet p s) (h .0), change-safe p s (h .1)))
       (λ f. h)
   change-safe (parallel p q) s h = (
-    either (change-tests p s) (change-quiet q s) (h .0),
-    either (change-tests q s) (change-quiet p s) (h .1),
+    ⊎-map (change-tests p s) (change-quiet q s) (h .0),
+    ⊎-map (change-tests q s) (change-quiet p s) (h .1),
     change-safe p s (h .2),
     change-safe q s (h .3),
   )
@@ -152,15 +144,15 @@ module _ {L : Type 0} (names : Names L) (low : ℕ → Bool) where
   move-safe (letIn x δ e p) s h = h .1
   move-safe (ifThenElse e p q) s h = by-cases (Safe names low) (test e s) (λ t. h .1) (λ f. h .2)
   move-safe (while e p) s h =
-      by-cases (Safe names low) (test e s) (λ t. (either (λ u. u .1) (λ u. (λ x o. tt, u)) (h .0), h .1, h)) (λ f. tt)
+      by-cases (Safe names low) (test e s) (λ t. (⊎-map (λ u. u .1) (λ u. (λ x o. tt, u)) (h .0), h .1, h)) (λ f. tt)
   move-safe (sequence p q) s h =
-      by-cases SafeAfter (isNil p) (λ t. h .2) (λ f. (either (move-tests p s) same (h .0), move-safe p s (h .1), h .2))
+      by-cases SafeAfter (isNil p) (λ t. h .2) (λ f. (⊎-map (move-tests p s) (λ u. u) (h .0), move-safe p s (h .1), h .2))
   move-safe (emit a) s h = tt
   move-safe (local a δ p) s h = h
   move-safe (watching a p) s h =
-      by-cases SafeAfter (isNil p) (λ t. tt) (λ f. (either same (move-quiet p s) (h .0), move-safe p s (h .1)))
+      by-cases SafeAfter (isNil p) (λ t. tt) (λ f. (⊎-map (λ u. u) (move-quiet p s) (h .0), move-safe p s (h .1)))
   move-safe (when a p) s h =
-      by-cases SafeAfter (isNil p) (λ t. tt) (λ f. (either same (move-quiet p s) (h .0), move-safe p s (h .1)))
+      by-cases SafeAfter (isNil p) (λ t. tt) (λ f. (⊎-map (λ u. u) (move-quiet p s) (h .0), move-safe p s (h .1)))
   move-safe (parallel p q) s h =
       by-cases
       SafeAfter
@@ -171,7 +163,7 @@ module _ {L : Type 0} (names : Names L) (low : ℕ → Bool) where
       SafeAfter
       (suspended p s)
       (λ t. (h .1, h .0, h .3, h .2))
-      (λ g. (either (move-tests p s) same (h .0), either same (move-quiet p s) (h .1), move-safe p s (h .2), h .3)))
+      (λ g. (⊎-map (move-tests p s) (λ u. u) (h .0), ⊎-map (λ u. u) (move-quiet p s) (h .1), move-safe p s (h .2), h .3)))
 
   pub step-safe : (p : Proc L) (s : List ℤ) → Safe names low p → SafeAfter (step names p s)
   unfolding step
