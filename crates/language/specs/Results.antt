@@ -27,7 +27,7 @@ pub record RunsAgree {L : Type 0} (names : Names L) (seen : ℕ → Bool) (n roo
   pub path : IsRun names seen n room at (run names seen n room at)
   pub only : (r : Run) → IsRun names seen n room at r → r ≡ run names seen n room at
 
--- Demand 2, the checker: the needs hold exactly when the rules give some pair; then (W, T) is such a pair, the tightest.
+-- Demand 2, the checker: the needs hold exactly when the rules give some pair; then (W, T) is one, and the tightest.
 pub record LevelsAgree {L : Type 0} (𝓛 : Lattice L) (names : Names L) (Γ : Environment L) (p : Proc L) : Type 0 where
   pub accepts : (needs 𝓛 names p ≡ true) ↔ ((θ : L) × (σ : L) × Typed 𝓛 Γ p θ σ)
   pub derivable : needs 𝓛 names p ≡ true → Typed 𝓛 Γ p (writeLevel 𝓛 names p) (testLevel 𝓛 names p)
