@@ -20,3 +20,8 @@ any f n = ltb (first f n) n
 -- the test holds at every number below n
 unfoldable pub all : (ℕ → Bool) → ℕ → Bool
 all f n = not (any (λ k. not (f k)) n)
+
+-- at how many numbers below n the test holds
+unfoldable pub count : (ℕ → Bool) → ℕ → ℕ
+count f zero = 0
+count f (suc n) = cond (f n) (suc (count f n)) (count f n)

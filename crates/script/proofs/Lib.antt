@@ -1,0 +1,1 @@
+-- Laws that the proofs of several functions use, and the theorems of the crate.

@@ -1,0 +1,60 @@
+-- 01, 'Script file': names, and the parts, which are the expressions and then the nodes.
+use mathlib.Core.Bool.{Bool, cond}
+use mathlib.Core.List.{List}
+use Prim.Native.Nat.{ℕ, _+_, _*_}
+use lib.Dec.{eqb, ltb}
+use lib.ListN.{getD}
+use Rattle.script.specs.declared.entries.Name.{Name}
+use Rattle.script.specs.declared.entries.Part.{Part}
+use Rattle.script.specs.declared.entries.Field.{Field}
+use Rattle.script.specs.Layout.{wordAt, expressionsAt, expressionCount}
+use Rattle.script.specs.Roles.{expressionRows, nodeRows, roleIn}
+
+-- 'Name, 4 bytes: kind (0 register, 1 signal), level, owner.'
+abbrev pub nameOf : List ℕ → ℕ → Name
+nameOf s x =
+    record { kind = getD s (4 * x) 0; level = getD s (4 * x + 1) 0; owner = wordAt s (4 * x + 2) }
+
+-- 'Owner 65535 makes it a session name; otherwise it is the node that declares it.'
+abbrev pub session : ℕ
+session = 65535
+
+abbrev pub isSession : List ℕ → ℕ → Bool
+isSession s x = eqb (nameOf s x .owner) session
+
+-- 'Expression, 8 bytes: kind, zero byte, a, then 4 bytes.' 'Node, 8 bytes: kind, zero byte, fields a, b, c.'
+-- Part q is expression q, or node q - (number of expressions): the lists touch.
+abbrev pub partOf : List ℕ → ℕ → Part
+partOf s q =
+    let at : ℕ = expressionsAt s + 8 * q in
+    record {
+      kind = getD s at 0;
+      zero = getD s (at + 1) 0;
+      a = wordAt s (at + 2);
+      b = wordAt s (at + 4);
+      c = wordAt s (at + 6);
+    }
+
+abbrev pub isExpression : List ℕ → ℕ → Bool
+isExpression s q = ltb q (expressionCount s)
+
+abbrev pub node : List ℕ → ℕ → ℕ
+node s k = expressionCount s + k
+
+-- a, b and c: field 0 is a, 1 is b, 2 is c
+abbrev pub fieldCount : ℕ
+fieldCount = 3
+
+abbrev pub valueOf : Part → ℕ → ℕ
+valueOf p f = cond (eqb f 0) (p .a) (cond (eqb f 1) (p .b) (p .c))
+
+-- what field f of part q is for, where there are so many expressions
+abbrev pub roleOf : ℕ → ℕ → Part → ℕ → ℕ
+roleOf expressions q p f = cond (ltb q expressions) (roleIn expressionRows (p .kind) f) (roleIn nodeRows (p .kind) f)
+
+abbrev pub fieldIn : ℕ → ℕ → Part → ℕ → Field
+fieldIn expressions q p f = record { role = roleOf expressions q p f; value = valueOf p f }
+
+-- field f of part q
+abbrev pub fieldOf : List ℕ → ℕ → ℕ → Field
+fieldOf s q f = fieldIn (expressionCount s) q (partOf s q) f

@@ -1,0 +1,109 @@
+// The script file: any bytes in; out comes a checked script, or a refusal.
+pub mod layout; // layout.rt: where the lists stand, refusals 4 and 5
+pub mod roles; // roles.rt: what the fields of each kind hold
+pub mod entries; // entries.rt: names, and the parts: expressions and nodes
+mod faults; // faults.rt: refusals 6, 7 and 8
+mod uses; // uses.rt: refusal 9
+mod reach; // reach.rt: refusal 10
+
+use crate::layout::Script;
+use prelude::Refusal;
+ghost use mathlib.Core.Path.{_≡_};
+ghost use Prim.Native.Nat.{_≤_};
+ghost use Rattle.prelude.specs.Refusals.{refusedBy};
+ghost use Rattle.script.specs.Layout.{Laid, mostParts};
+ghost use Rattle.script.specs.Refusals.{Sound, joinRefusal, refusal};
+ghost use Rattle.script.specs.Load.{loaded};
+
+// What the bytes of a script give: the refusal, and beside it the layout of the checked file, all 0 where it is refused.
+pub struct Loaded {
+    pub refusal: Refusal,
+    pub script: Script,
+}
+
+fn refused(number: u32, place: usize) -> Refusal
+    requires { ⌜ place ≤ mostParts ⌝ }
+    ensures { λ r. ⌜ r ≡ refusedBy number place ⌝ }
+{
+    Refusal {
+        number,
+        place: place as u32,
+    }
+}
+
+// The faults of parts that are right by themselves.
+fn join_refusal(s: &[u8], c: Script) -> Refusal
+    requires { ⌜ Laid (now s) c × Sound (now s) ⌝ }
+    ensures { λ r. ⌜ r ≡ joinRefusal (now (s .entry)) ⌝ }
+{
+    let e = c.expressions;
+    let n = c.nodes;
+    let times = uses::count_uses(s, c);
+    let loose = uses::first_loose(&times, 0, e);
+    if loose < e {
+        return refused(9, loose);
+    }
+    let loose_node = uses::first_loose(&times, e, n - 1);
+    if loose_node < n - 1 {
+        return refused(9, Script::MAX_EXPRESSIONS + loose_node);
+    }
+    let sets = reach::find_reach(s, c);
+    let outside = reach::first_out_of_reach(s, c, &sets, 0, e);
+    if outside < e {
+        return refused(10, outside);
+    }
+    let outside_node = reach::first_out_of_reach(s, c, &sets, e, n);
+    if outside_node < n {
+        return refused(10, Script::MAX_EXPRESSIONS + outside_node);
+    }
+    refused(0, 0)
+}
+
+fn refusal(s: &[u8], levels: usize) -> Refusal
+    ensures { λ r. ⌜ r ≡ refusal (now (s .entry)) levels ⌝ }
+{
+    if !layout::tail_is_right(s) {
+        return refused(4, 0);
+    }
+    let c = layout::layout_of(s);
+    if !layout::counts_are_right(c) {
+        return refused(5, 0);
+    }
+    let e = c.expressions;
+    let n = c.nodes;
+    let name = faults::first_wrong_name(s, c, levels);
+    if name < c.names {
+        return refused(6, name);
+    }
+    let expression = faults::first_wrong_part(s, c, 0, e);
+    if expression < e {
+        return refused(7, expression);
+    }
+    let node = faults::first_wrong_part(s, c, e, n);
+    if node < n {
+        return refused(8, node);
+    }
+    join_refusal(s, c)
+}
+
+// Checks a script file of any bytes, for a book of so many levels.
+pub fn load(s: &[u8], levels: usize) -> Loaded
+    ensures { λ r. ⌜ r ≡ loaded (now (s .entry)) levels ⌝ }
+{
+    let refusal = refusal(s, levels);
+    if refusal.number != 0 {
+        return Loaded {
+            refusal,
+            script: Script {
+                names: 0,
+                expressions: 0,
+                nodes: 0,
+                offset: 0,
+            },
+        };
+    }
+    Loaded {
+        refusal,
+        script: layout::layout_of(s),
+    }
+}
