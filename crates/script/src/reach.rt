@@ -15,7 +15,7 @@ ghost use Rattle.prelude.specs.Search.{first};
 ghost use Rattle.script.specs.Layout.{Laid, mostNames};
 ghost use Rattle.script.specs.Entries.{isSession, fieldCount};
 ghost use Rattle.script.specs.Reach.{isUse, missesName, isOutOfReach, opens, has, IsSet, KeepsReach};
-ghost use Rattle.script.specs.Refusals.{Joined};
+ghost use Rattle.script.specs.Refusals.{Sound, Joined};
 
 // Name x is in the set: bit x.
 fn has(set: u64, x: usize) -> bool
@@ -54,7 +54,7 @@ fn session_names(s: &[u8], c: Script) -> u64
 // The names in reach in the part that field i uses, where `set` is in reach in the part that has the field:
 // in the body of a declaration the declared name is, too.
 fn entered(s: &[u8], c: Script, i: usize, set: u64) -> u64
-    requires { ⌜ Laid (now s) c × (Joined (now s) × (i < fieldCount * (c .expressions + c .nodes))) ⌝ }
+    requires { ⌜ Laid (now s) c × (Sound (now s) × (i < fieldCount * (c .expressions + c .nodes))) ⌝ }
     ensures { λ r. ⌜ IsSet (c .names) (λ x. opens (now (s .entry)) i x || has set x) r ⌝ }
 {
     let q = i / Part::FIELDS;
@@ -99,7 +99,7 @@ fn is_use(role: u8) -> bool
 
 // Field f of part q uses a name that is not in reach.
 fn misses_name(s: &[u8], c: Script, sets: &[u64; Script::MAX_PARTS], q: usize, f: usize) -> bool
-    requires { ⌜ Laid (now s) c × (Joined (now s) × (KeepsReach (now s) (now sets) × ((q < c .expressions + c .nodes) × (f < fieldCount)))) ⌝ }
+    requires { ⌜ Laid (now s) c × (Sound (now s) × (KeepsReach (now s) (now sets) × ((q < c .expressions + c .nodes) × (f < fieldCount)))) ⌝ }
     ensures { λ r. ⌜ r ≡ missesName (now (s .entry)) q f ⌝ }
 {
     let field = field_at(s, c, q, f);
@@ -110,7 +110,7 @@ fn misses_name(s: &[u8], c: Script, sets: &[u64; Script::MAX_PARTS], q: usize, f
 }
 
 fn is_out_of_reach(s: &[u8], c: Script, sets: &[u64; Script::MAX_PARTS], q: usize) -> bool
-    requires { ⌜ Laid (now s) c × (Joined (now s) × (KeepsReach (now s) (now sets) × (q < c .expressions + c .nodes))) ⌝ }
+    requires { ⌜ Laid (now s) c × (Sound (now s) × (KeepsReach (now s) (now sets) × (q < c .expressions + c .nodes))) ⌝ }
     ensures { λ r. ⌜ r ≡ isOutOfReach (now (s .entry)) q ⌝ }
 {
     let mut f: usize = 0;
@@ -125,7 +125,7 @@ fn is_out_of_reach(s: &[u8], c: Script, sets: &[u64; Script::MAX_PARTS], q: usiz
 
 // Of the n parts from part `from` on, the smallest that uses a name out of reach by its number among them, or n.
 pub fn first_out_of_reach(s: &[u8], c: Script, sets: &[u64; Script::MAX_PARTS], from: usize, n: usize) -> usize
-    requires { ⌜ Laid (now s) c × (Joined (now s) × (KeepsReach (now s) (now sets) × (from + n ≤ c .expressions + c .nodes))) ⌝ }
+    requires { ⌜ Laid (now s) c × (Sound (now s) × (KeepsReach (now s) (now sets) × (from + n ≤ c .expressions + c .nodes))) ⌝ }
     ensures { λ r. ⌜ r ≡ first (λ k. isOutOfReach (now (s .entry)) (from + k)) n ⌝ }
 {
     let mut k: usize = 0;

@@ -1,0 +1,27 @@
+use Rattle.script.proofs.layout.offsets_are_right.Statement.{statement}
+use Rattle.script.proofs.layout.offsets_are_right.Tie as tie
+use Rattle.script.proofs.layout.offsets_are_right.Reads as reads
+use Rattle.script.proofs.layout.offsets_are_right.Lts as lts
+
+-- src/layout.rt:37:9
+returns : tie.Need-returns
+returns c = ?
+
+-- src/layout.rt:40:9
+returns-2 : tie.Need-returns-2
+returns-2 c = ?
+
+-- src/layout.rt:43:9
+returns-3 : tie.Need-returns-3
+returns-3 c = ?
+
+-- src/layout.rt:46:9
+returns-4 : tie.Need-returns-4
+returns-4 c = ?
+
+-- src/layout.rt:33:1
+returns-5 : tie.Need-returns-5
+returns-5 c = ?
+
+pub offsets-are-right-spec : {M : Type 1} → statement M
+offsets-are-right-spec = tie.close (tie.spec returns returns-2 returns-3 returns-4 returns-5)
