@@ -1,19 +1,16 @@
+-- `value_of`: each way out decides one test of the definition.
+use borrow.Author.Tests.{eq-eqb, ne-eqb}
 use Rattle.script.proofs.entries.value_of.Statement.{statement}
 use Rattle.script.proofs.entries.value_of.Tie as tie
-use Rattle.script.proofs.entries.value_of.Reads as reads
-use Rattle.script.proofs.entries.value_of.Lts as lts
 
--- src/entries.rt:70:9
 returns : tie.Need-returns
-returns c = ?
+returns c = simp (eq-eqb _ _ (c .if1 .taken))
 
--- src/entries.rt:73:9
 returns-2 : tie.Need-returns-2
-returns-2 c = ?
+returns-2 c = simp (ne-eqb _ _ (c .before .if1 .left), eq-eqb _ _ (c .if2 .taken))
 
--- src/entries.rt:66:1
 returns-3 : tie.Need-returns-3
-returns-3 c = ?
+returns-3 c = simp (ne-eqb _ _ (c .before .if1 .left), ne-eqb _ _ (c .if2 .left))
 
 pub value-of-spec : {M : Type 1} → statement M
 value-of-spec = tie.close (tie.spec returns returns-2 returns-3)

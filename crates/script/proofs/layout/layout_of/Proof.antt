@@ -1,37 +1,33 @@
+-- `layout_of`: the file has a tail, whose offsets ascend.
+use native.Mathlib.Omega.{arith}
+use Rattle.script.proofs.Layouts.{Tail, tail-is}
 use borrow.Author.Needs.{needs}
 use Rattle.script.proofs.layout.layout_of.Statement.{statement}
 use Rattle.script.proofs.layout.layout_of.Tie as tie
-use Rattle.script.proofs.layout.layout_of.Reads as reads
-use Rattle.script.proofs.layout.layout_of.Lts as lts
-use Rattle.script.proofs.layout.word_at.Reads as word-at-reads
 
--- src/layout.rt:73:16
+tailed : (c : tie.After-shared-slice-known) → Tail (c .before .args .s .now)
+tailed c = tail-is (c .before .args .s .now) (c .before .pre)
+
 sub-tail : tie.Need-sub-tail
-sub-tail c = ?
+sub-tail c = omega (arith, tailed c)
 
--- src/layout.rt:74:9
 word-at-requires : tie.Need-word-at-requires
-word-at-requires c κs = ?
+word-at-requires c κs = omega (arith, tailed c)
 
--- src/layout.rt:75:28
 add-word-at : tie.Need-add-word-at
 add-word-at c = search needs
 
--- src/layout.rt:75:9
 word-at-requires-2 : tie.Need-word-at-requires-2
-word-at-requires-2 c κs = ?
+word-at-requires-2 c κs = omega (arith, tailed (c .before))
 
--- src/layout.rt:78:23
 sub-t6 : tie.Need-sub-t6
-sub-t6 c = ?
+sub-t6 c = omega (arith, tailed (c .before .before), c .before .word-at .ensures, c .word-at2 .ensures)
 
--- src/layout.rt:79:17
 sub-t8 : tie.Need-sub-t8
-sub-t8 c = ?
+sub-t8 c = omega (arith, tailed (c .before .before), c .word-at2 .ensures)
 
--- src/layout.rt:69:1
 returns : tie.Need-returns
-returns c = ?
+returns c = simp (c .before .word-at .ensures, c .word-at2 .ensures)
 
 pub layout-of-spec : {M : Type 1} → statement M
 layout-of-spec =

@@ -1,27 +1,39 @@
+-- `offsets_are_right`: each way out decides one test of the definition.
+use borrow.Author.Tests.{le-leb, lt-leb, eq-eqb, ne-eqb}
 use Rattle.script.proofs.layout.offsets_are_right.Statement.{statement}
 use Rattle.script.proofs.layout.offsets_are_right.Tie as tie
-use Rattle.script.proofs.layout.offsets_are_right.Reads as reads
-use Rattle.script.proofs.layout.offsets_are_right.Lts as lts
 
--- src/layout.rt:37:9
 returns : tie.Need-returns
-returns c = ?
+returns c = simp (lt-leb _ _ (c .if1 .taken))
 
--- src/layout.rt:40:9
 returns-2 : tie.Need-returns-2
-returns-2 c = ?
+returns-2 c = simp (le-leb _ _ (c .before .if1 .left), lt-leb _ _ (c .if2 .taken))
 
--- src/layout.rt:43:9
 returns-3 : tie.Need-returns-3
-returns-3 c = ?
+returns-3 c =
+    simp (
+      le-leb _ _ (c .before .before .if1 .left),
+      le-leb _ _ (c .before .if2 .left),
+      ne-eqb _ _ (c .if3 .taken),
+    )
 
--- src/layout.rt:46:9
 returns-4 : tie.Need-returns-4
-returns-4 c = ?
+returns-4 c =
+    simp (
+      le-leb _ _ (c .before .before .before .if1 .left),
+      le-leb _ _ (c .before .before .if2 .left),
+      eq-eqb _ _ (c .before .if3 .left),
+      ne-eqb _ _ (c .if4 .taken),
+    )
 
--- src/layout.rt:33:1
 returns-5 : tie.Need-returns-5
-returns-5 c = ?
+returns-5 c =
+    simp (
+      le-leb _ _ (c .before .before .before .if1 .left),
+      le-leb _ _ (c .before .before .if2 .left),
+      eq-eqb _ _ (c .before .if3 .left),
+      eq-eqb _ _ (c .if4 .left),
+    )
 
 pub offsets-are-right-spec : {M : Type 1} → statement M
 offsets-are-right-spec = tie.close (tie.spec returns returns-2 returns-3 returns-4 returns-5)

@@ -1,58 +1,60 @@
+-- `tail_is_right`: each way out decides one test of the definition.
+use mathlib.Core.Path.{sym, _∙_}
+use borrow.Author.Tests.{le-leb, lt-leb, eq-eqb, ne-eqb}
 use borrow.Author.Needs.{needs}
 use Rattle.script.proofs.layout.tail_is_right.Statement.{statement}
 use Rattle.script.proofs.layout.tail_is_right.Tie as tie
-use Rattle.script.proofs.layout.tail_is_right.Reads as reads
-use Rattle.script.proofs.layout.tail_is_right.Lts as lts
-use Rattle.script.proofs.layout.offsets_are_right.Reads as offsets-are-right-reads
-use Rattle.script.proofs.layout.word_at.Reads as word-at-reads
 
--- src/layout.rt:57:9
 returns : tie.Need-returns
-returns c = ?
+returns c = simp (lt-leb _ _ (c .if1 .taken))
 
--- src/layout.rt:60:19
 add-word-at : tie.Need-add-word-at
 add-word-at c = search needs
 
--- src/layout.rt:60:8
 word-at-requires : tie.Need-word-at-requires
 word-at-requires c κs = search needs
 
--- src/layout.rt:61:9
 returns-2 : tie.Need-returns-2
-returns-2 c = ?
+returns-2 c =
+    simp (le-leb _ _ (c .before .before .if1 .left), ne-eqb _ _ (λ e. c .if2 .taken (c .before .word-at .ensures ∙ e)))
 
--- src/layout.rt:63:19
 add-word-at-2 : tie.Need-add-word-at-2
 add-word-at-2 c = search needs
 
--- src/layout.rt:63:8
 word-at-requires-2 : tie.Need-word-at-requires-2
 word-at-requires-2 c κs = search needs
 
--- src/layout.rt:64:9
 returns-3 : tie.Need-returns-3
-returns-3 c = ?
+returns-3 c =
+    simp (
+      le-leb _ _ (c .before .before .before .before .if1 .left),
+      eq-eqb _ _ (sym (c .before .before .before .word-at .ensures) ∙ c .before .before .if2 .left),
+      ne-eqb _ _ (λ e. c .if3 .taken (c .before .word-at2 .ensures ∙ e)),
+    )
 
--- src/layout.rt:66:23
 word-at-requires-3 : tie.Need-word-at-requires-3
 word-at-requires-3 c κs = search needs
 
--- src/layout.rt:66:52
 add-word-at-3 : tie.Need-add-word-at-3
 add-word-at-3 c = search needs
 
--- src/layout.rt:66:41
 word-at-requires-4 : tie.Need-word-at-requires-4
 word-at-requires-4 c κs = search needs
 
--- src/layout.rt:66:5
 offsets-are-right-requires : tie.Need-offsets-are-right-requires
 offsets-are-right-requires c κs = search needs
 
--- src/layout.rt:52:1
 returns-4 : tie.Need-returns-4
-returns-4 c = ?
+returns-4 c =
+    simp (
+      le-leb _ _ (c .before .before .before .before .before .before .before .if1 .left),
+      eq-eqb _ _ (sym (c .before .before .before .before .before .before .word-at .ensures)
+          ∙ c .before .before .before .before .before .if2 .left),
+      eq-eqb _ _ (sym (c .before .before .before .before .word-at2 .ensures) ∙ c .before .before .before .if3 .left),
+      sym (c .before .before .word-at3 .ensures),
+      sym (c .before .word-at4 .ensures),
+    )
+    (c .offsets-are-right .ensures)
 
 pub tail-is-right-spec : {M : Type 1} → statement M
 tail-is-right-spec =
