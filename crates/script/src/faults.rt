@@ -117,7 +117,7 @@ fn holds_name(s: &[u8], c: Script, q: usize, field: Field) -> bool
 
 // A field of part q holds what its role asks for.
 fn holds(s: &[u8], c: Script, q: usize, field: Field) -> bool
-    requires { ⌜ Laid (now s) c ⌝ }
+    requires { ⌜ Laid (now s) c × (field .value < 65536) ⌝ }
     ensures { λ r. ⌜ r ≡ holds (now (s .entry)) q field ⌝ }
 {
     let role = field.role;

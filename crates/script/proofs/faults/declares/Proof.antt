@@ -1,34 +1,54 @@
+-- `declares`: each way out decides one test of the definition.
+use mathlib.Core.Path.{_≡_, ap, _∙_}
+use Prim.Native.Nat.{_+_}
+use borrow.Author.Tests.{lt-ltb, le-ltb, eq-eqb, ne-eqb}
+use Rattle.script.specs.Entries.{node, fieldOf}
 use borrow.Author.Needs.{needs}
 use Rattle.script.proofs.faults.declares.Statement.{statement}
 use Rattle.script.proofs.faults.declares.Tie as tie
-use Rattle.script.proofs.faults.declares.Reads as reads
-use Rattle.script.proofs.faults.declares.Lts as lts
-use Rattle.script.proofs.entries.field_at.Reads as field-at-reads
-use Rattle.script.proofs.faults.new_of.Reads as new-of-reads
 
--- src/faults.rt:35:9
+-- the field that was read is the one that the definition names
+read :
+    (c : tie.After-field-at) →
+    let start = c .before .before .before .before .before in
+    c .field-at .result ≡ fieldOf (start .args .s .now) (node (start .args .s .now) (start .args .k)) 0
+read c =
+    let start = c .before .before .before .before .before in
+    c .field-at .ensures
+    ∙ ap (λ z. fieldOf (start .args .s .now) (z .expressions + start .args .k) 0) (start .pre .same)
+
 returns : tie.Need-returns
-returns c = ?
+returns c = rw (← ap (λ z. z .nodes) (c .before .before .before .pre .same), le-ltb _ _ (c .if1 .taken))
 
--- src/faults.rt:37:32
 add-field-at : tie.Need-add-field-at
 add-field-at c = search needs
 
--- src/faults.rt:37:9
 field-at-requires : tie.Need-field-at-requires
 field-at-requires c κs = search needs
 
--- src/faults.rt:38:22
 new-of-requires : tie.Need-new-of-requires
 new-of-requires c κs = search needs
 
--- src/faults.rt:39:9
 returns-2 : tie.Need-returns-2
-returns-2 c = ?
+returns-2 c =
+    rw (
+      ← ap (λ z. z .nodes) (c .before .before .before .before .before .before .before .before .pre .same),
+      lt-ltb _ _ (c .before .before .before .before .before .if1 .left),
+      ← ap (λ z. z .role) (read (c .before .before .before)),
+      ← c .before .before .new-of .ensures,
+      ne-eqb _ _ (c .if2 .taken),
+    )
 
--- src/faults.rt:30:1
 returns-3 : tie.Need-returns-3
-returns-3 c = ?
+returns-3 c =
+    rw (
+      ← ap (λ z. z .nodes) (c .before .before .before .before .before .before .before .before .before .pre .same),
+      lt-ltb _ _ (c .before .before .before .before .before .before .if1 .left),
+      ← ap (λ z. z .role) (read (c .before .before .before .before)),
+      ← c .before .before .before .new-of .ensures,
+      eq-eqb _ _ (c .before .if2 .left),
+      ← ap (λ z. z .value) (read (c .before .before .before .before)),
+    )
 
 pub declares-spec : {M : Type 1} → statement M
 declares-spec =

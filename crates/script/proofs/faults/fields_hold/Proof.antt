@@ -1,47 +1,67 @@
+-- `fields_hold`: the fields below f hold what they should. A number in a field has two bytes.
+use mathlib.Core.Path.{_≡_, sym, ap, _∙_}
+use Prim.Native.Nat.{_-_, _≤_}
+use borrow.Author.Tests.{not-true, not-false}
+use native.Mathlib.Omega.{arith}
+use borrow.Author.Count.{below-none, below-more}
+use Rattle.prelude.proofs.Searches.{AllBelow, all-intro, all-fails}
+use Rattle.script.specs.Entries.{fieldCount, fieldOf}
+use Rattle.script.specs.Refusals.{holds}
+use Rattle.script.proofs.Values.{value-fits}
+use borrow.Author.Needs.{needs}
 use Rattle.script.proofs.faults.fields_hold.Statement.{statement}
 use Rattle.script.proofs.faults.fields_hold.Tie as tie
-use Rattle.script.proofs.faults.fields_hold.Reads as reads
-use Rattle.script.proofs.faults.fields_hold.Lts as lts
-use Rattle.script.proofs.entries.field_at.Reads as field-at-reads
-use Rattle.script.proofs.faults.holds.Reads as holds-reads
 
 abbrev Inv-loop : tie.InvT-loop
-Inv-loop s c q f₀ f = ?
+Inv-loop s c q f₀ f = (f ≤ fieldCount) × AllBelow (λ g. holds s q (fieldOf s q g)) f
 
 abbrev μ-loop : tie.MeasureT-loop
-μ-loop s c q f₀ f = ?
+μ-loop s c q f₀ f = fieldCount - f
 
--- src/faults.rt:154:5
+-- what was found out about the field at hand
+held :
+    (c : tie.After-holds Inv-loop μ-loop) →
+    let args = c .before .before .before .before .before .args in
+    c .holds .result ≡ holds (args .s .now) (args .q) (fieldOf (args .s .now) (args .q) (c .before .before .before .loop .f))
+held c = c .holds .ensures ∙ ap (holds _ _) (c .before .field-at .ensures)
+
 loop-holds : tie.Need-loop-holds Inv-loop μ-loop
-loop-holds c = ?
+loop-holds c = (search needs, below-none _)
 
--- src/faults.rt:155:28
 field-at-requires : tie.Need-field-at-requires Inv-loop μ-loop
-field-at-requires c κs = ?
+field-at-requires c κs = search needs
 
--- src/faults.rt:155:13
 holds-requires : tie.Need-holds-requires Inv-loop μ-loop
-holds-requires c κs = ?
+holds-requires c κs =
+    let start = c .before .before .before .before in
+    (
+      start .pre .0,
+      rw (c .field-at .ensures)
+      (value-fits (start .args .s .now) (c .before .before .before .shared-slice-known .given) (start .args .q)
+      (c .before .before .loop .f)),
+    )
 
--- src/faults.rt:156:13
 returns : tie.Need-returns Inv-loop μ-loop
-returns c = ?
+returns c =
+    sym
+    (all-fails _ _ _ (c .before .before .before .loop-test .taken)
+    (sym (held (c .before)) ∙ not-true _ (c .if1 .taken)))
 
--- src/faults.rt:158:9
 add-f : tie.Need-add-f Inv-loop μ-loop
-add-f c = ?
+add-f c = search needs
 
--- src/faults.rt:154:5
 loop-less : tie.Need-loop-less Inv-loop μ-loop
-loop-less c = ?
+loop-less c = search needs
 
--- src/faults.rt:154:5
 loop-again : tie.Need-loop-again Inv-loop μ-loop
-loop-again c = ?
+loop-again c = (
+  search needs,
+  below-more _ _ (c .before .before .before .before .loop .inv .1)
+  (sym (held (c .before)) ∙ not-false _ (c .if1 .left)),
+)
 
--- src/faults.rt:149:1
 returns-2 : tie.Need-returns-2 Inv-loop μ-loop
-returns-2 c = ?
+returns-2 c = sym (all-intro _ _ (λ k l. c .before .loop .inv .1 k (omega (arith, c .loop-test .left))))
 
 pub fields-hold-spec : {M : Type 1} → statement M
 fields-hold-spec =

@@ -1,42 +1,52 @@
+-- `first_wrong_name`: the names below x are right.
+use mathlib.Core.Path.{sym, ap, _∙_}
+use mathlib.Core.Bool.{not}
+use Prim.Native.Nat.{_-_, _≤_}
+use native.Mathlib.Nat.{le-antisymm}
+use borrow.Author.Count.{below-none, below-more}
+use Rattle.prelude.proofs.Searches.{NoneBelow, past, first-is, first-none}
+use Rattle.script.specs.Refusals.{nameIsRight}
+use borrow.Author.Needs.{needs}
 use Rattle.script.proofs.faults.first_wrong_name.Statement.{statement}
 use Rattle.script.proofs.faults.first_wrong_name.Tie as tie
-use Rattle.script.proofs.faults.first_wrong_name.Reads as reads
-use Rattle.script.proofs.faults.first_wrong_name.Lts as lts
-use Rattle.script.proofs.faults.name_is_right.Reads as name-is-right-reads
 
 abbrev Inv-loop : tie.InvT-loop
-Inv-loop s c levels n x₀ x = ?
+Inv-loop s c levels n x₀ x = (x ≤ n) × NoneBelow (λ y. not (nameIsRight s levels y)) x
 
 abbrev μ-loop : tie.MeasureT-loop
-μ-loop s c levels n x₀ x = ?
+μ-loop s c levels n x₀ x = n - x
 
--- src/faults.rt:68:5
 loop-holds : tie.Need-loop-holds Inv-loop μ-loop
-loop-holds c = ?
+loop-holds c = (search needs, below-none _)
 
--- src/faults.rt:69:13
 name-is-right-requires : tie.Need-name-is-right-requires Inv-loop μ-loop
-name-is-right-requires c κs = ?
+name-is-right-requires c κs = search needs
 
--- src/faults.rt:70:13
 returns : tie.Need-returns Inv-loop μ-loop
-returns c = ?
+returns c =
+    sym
+    (first-is _ _ _ (c .before .before .loop-test .taken)
+    (ap not (sym (c .before .name-is-right .ensures)) ∙ c .if1 .taken)
+    (c .before .before .before .loop .inv .1))
 
--- src/faults.rt:72:9
 add-x : tie.Need-add-x Inv-loop μ-loop
-add-x c = ?
+add-x c = search needs
 
--- src/faults.rt:68:5
 loop-less : tie.Need-loop-less Inv-loop μ-loop
-loop-less c = ?
+loop-less c = search needs
 
--- src/faults.rt:68:5
 loop-again : tie.Need-loop-again Inv-loop μ-loop
-loop-again c = ?
+loop-again c = (
+  search needs,
+  below-more _ _ (c .before .before .before .loop .inv .1)
+  (ap not (sym (c .before .name-is-right .ensures)) ∙ c .if1 .left),
+)
 
--- src/faults.rt:62:1
 returns-2 : tie.Need-returns-2 Inv-loop μ-loop
-returns-2 c = ?
+returns-2 c =
+    sym
+    (first-none _ _ (past (c .loop-test .left) (c .before .loop .inv .1))
+    ∙ le-antisymm (c .loop-test .left) (c .before .loop .inv .0))
 
 pub first-wrong-name-spec : {M : Type 1} → statement M
 first-wrong-name-spec =

@@ -1,41 +1,71 @@
+-- `holds`: each way out decides one test of the definition.
+use mathlib.Core.Path.{ap}
+use native.Mathlib.Omega.{arith}
+use borrow.Author.Tests.{lt-ltb, le-ltb, eq-eqb, ne-eqb}
+use Rattle.script.specs.Refusals.{holds}
+use Rattle.script.proofs.Layouts.{few-bounds}
 use borrow.Author.Needs.{needs}
 use Rattle.script.proofs.faults.holds.Statement.{statement}
 use Rattle.script.proofs.faults.holds.Tie as tie
-use Rattle.script.proofs.faults.holds.Reads as reads
-use Rattle.script.proofs.faults.holds.Lts as lts
-use Rattle.script.proofs.faults.holds_name.Reads as holds-name-reads
 
--- src/faults.rt:126:9
 returns : tie.Need-returns
-returns c = ?
+unfolding holds
+returns c = rw (eq-eqb _ _ (c .if1 .taken))
 
--- src/faults.rt:129:9
 returns-2 : tie.Need-returns-2
-returns-2 c = ?
+unfolding holds
+returns-2 c = rw (ne-eqb _ _ (c .before .if1 .left), eq-eqb _ _ (c .if2 .taken))
 
--- src/faults.rt:132:9
 returns-3 : tie.Need-returns-3
-returns-3 c = ?
+unfolding holds
+returns-3 c =
+    rw (
+      ne-eqb _ _ (c .before .before .before .before .if1 .left),
+      ne-eqb _ _ (c .before .before .before .if2 .left),
+      eq-eqb _ _ (c .before .before .if3 .taken),
+      ← ap (λ z. z .expressions) (c .before .before .before .before .before .before .pre .0 .same),
+      lt-ltb _ _ (c .if4 .taken),
+    )
 
--- src/faults.rt:132:9
 returns-4 : tie.Need-returns-4
-returns-4 c = ?
+unfolding holds
+returns-4 c =
+    rw (
+      ne-eqb _ _ (c .before .before .before .before .if1 .left),
+      ne-eqb _ _ (c .before .before .before .if2 .left),
+      eq-eqb _ _ (c .before .before .if3 .taken),
+      ← ap (λ z. z .expressions) (c .before .before .before .before .before .before .pre .0 .same),
+      le-ltb _ _ (c .if4 .left),
+    )
 
--- src/faults.rt:135:16
 add-result : tie.Need-add-result
-add-result c = ?
+add-result c =
+    let start = c .before .before .before .before .before .before in
+    omega (arith, start .pre .1, few-bounds (start .args .c) (start .pre .0 .few) .1 .0)
 
--- src/faults.rt:135:9
 returns-5 : tie.Need-returns-5
-returns-5 c = ?
+unfolding holds
+returns-5 c =
+    rw (
+      ne-eqb _ _ (c .before .before .before .before .if1 .left),
+      ne-eqb _ _ (c .before .before .before .if2 .left),
+      ne-eqb _ _ (c .before .before .if3 .left),
+      eq-eqb _ _ (c .before .if5 .taken),
+      ← ap (λ z. z .expressions) (c .before .before .before .before .before .before .pre .0 .same),
+    )
 
--- src/faults.rt:137:5
 holds-name-requires : tie.Need-holds-name-requires
 holds-name-requires c κs = search needs
 
--- src/faults.rt:119:1
 returns-6 : tie.Need-returns-6
-returns-6 c = ?
+unfolding holds
+returns-6 c =
+    rw (
+      ne-eqb _ _ (c .before .before .before .before .if1 .left),
+      ne-eqb _ _ (c .before .before .before .if2 .left),
+      ne-eqb _ _ (c .before .before .if3 .left),
+      ne-eqb _ _ (c .before .if5 .left),
+    ) (c .holds-name .ensures)
 
 pub holds-spec : {M : Type 1} → statement M
 holds-spec =

@@ -1,43 +1,74 @@
+-- `holds_name`: each way out decides one test of the definition. An owner has two bytes, so that the sum fits.
+use mathlib.Core.Path.{ap}
+use Prim.Native.Nat.{_+_, _*_}
+use native.Mathlib.Omega.{arith}
+use borrow.Author.Tests.{lt-ltb, le-ltb, eq-eqb, ne-eqb}
+use Rattle.script.proofs.Layouts.{few-bounds}
+use Rattle.script.proofs.Values.{word-fits}
 use borrow.Author.Needs.{needs}
 use Rattle.script.proofs.faults.holds_name.Statement.{statement}
 use Rattle.script.proofs.faults.holds_name.Tie as tie
-use Rattle.script.proofs.faults.holds_name.Reads as reads
-use Rattle.script.proofs.faults.holds_name.Lts as lts
-use Rattle.script.proofs.entries.name_at.Reads as name-at-reads
-use Rattle.script.proofs.faults.is_new.Reads as is-new-reads
-use Rattle.script.proofs.faults.kind_for.Reads as kind-for-reads
 
--- src/faults.rt:106:9
 returns : tie.Need-returns
-returns c = ?
+returns c = rw (← ap (λ z. z .names) (c .before .before .before .pre .same), le-ltb _ _ (c .if1 .taken))
 
--- src/faults.rt:108:9
 name-at-requires : tie.Need-name-at-requires
 name-at-requires c κs = search needs
 
--- src/faults.rt:109:21
 kind-for-requires : tie.Need-kind-for-requires
 kind-for-requires c κs = search needs
 
--- src/faults.rt:110:9
 returns-2 : tie.Need-returns-2
-returns-2 c = ?
+returns-2 c =
+    rw (
+      ← ap (λ z. z .names) (c .before .before .before .before .before .before .before .pre .same),
+      lt-ltb _ _ (c .before .before .before .before .if1 .left),
+      ← ap (λ z. z .kind) (c .before .before .before .name-at .ensures),
+      ← c .before .before .kind-for .ensures,
+      ne-eqb _ _ (c .if2 .taken),
+    )
 
--- src/faults.rt:112:8
 is-new-requires : tie.Need-is-new-requires
 is-new-requires c κs = search needs
 
--- src/faults.rt:113:16
 add-result : tie.Need-add-result
-add-result c = ?
+add-result c =
+    let start = c .before .before .before .before .before .before .before .before .before .before .before in
+    let bytes = c .before .before .before .before .before .before .before .before .before .before .shared-slice-known .given in
+    omega (
+      arith,
+      few-bounds (start .args .c) (start .pre .few) .1 .0,
+      word-fits (start .args .s .now) bytes (4 * start .args .field .value + 2),
+      ap (λ z. z .owner) (c .before .before .before .before .before .before .before .name-at .ensures),
+    )
 
--- src/faults.rt:113:9
 returns-3 : tie.Need-returns-3
-returns-3 c = ?
+returns-3 c =
+    let start = c .before .before .before .before .before .before .before .before .before .before .before in
+    rw (
+      ← ap (λ z. z .names) (start .pre .same),
+      lt-ltb _ _ (c .before .before .before .before .before .before .before .before .if1 .left),
+      ← ap (λ z. z .kind) (c .before .before .before .before .before .before .before .name-at .ensures),
+      ← c .before .before .before .before .before .before .kind-for .ensures,
+      eq-eqb _ _ (c .before .before .before .before .if2 .left),
+      ← c .before .before .before .is-new .ensures,
+      c .before .before .if3 .taken,
+      ← ap (λ z. z .expressions) (start .pre .same),
+      ← ap (λ z. z .owner) (c .before .before .before .before .before .before .before .name-at .ensures),
+    )
 
--- src/faults.rt:100:1
 returns-4 : tie.Need-returns-4
-returns-4 c = ?
+returns-4 c =
+    let start = c .before .before .before .before .before .before .before .before .before in
+    rw (
+      ← ap (λ z. z .names) (start .pre .same),
+      lt-ltb _ _ (c .before .before .before .before .before .before .if1 .left),
+      ← ap (λ z. z .kind) (c .before .before .before .before .before .name-at .ensures),
+      ← c .before .before .before .before .kind-for .ensures,
+      eq-eqb _ _ (c .before .before .if2 .left),
+      ← c .before .is-new .ensures,
+      c .if3 .left,
+    )
 
 pub holds-name-spec : {M : Type 1} → statement M
 holds-name-spec =

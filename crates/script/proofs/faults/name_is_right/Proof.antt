@@ -1,34 +1,53 @@
+-- `name_is_right`: each way out decides one test of the definition.
+use mathlib.Core.Path.{ap}
+use borrow.Author.Tests.{lt-ltb, le-ltb, le-leb, lt-leb, eq-eqb, ne-eqb}
 use borrow.Author.Needs.{needs}
 use Rattle.script.proofs.faults.name_is_right.Statement.{statement}
 use Rattle.script.proofs.faults.name_is_right.Tie as tie
-use Rattle.script.proofs.faults.name_is_right.Reads as reads
-use Rattle.script.proofs.faults.name_is_right.Lts as lts
-use Rattle.script.proofs.entries.name_at.Reads as name-at-reads
-use Rattle.script.proofs.faults.declares.Reads as declares-reads
 
--- src/faults.rt:48:9
 name-at-requires : tie.Need-name-at-requires
 name-at-requires c κs = search needs
 
--- src/faults.rt:50:9
 returns : tie.Need-returns
-returns c = ?
+returns c = let name = c .before .before .name-at .ensures in rw (← ap (λ z. z .kind) name, lt-leb _ _ (c .if1 .taken))
 
--- src/faults.rt:53:9
 returns-2 : tie.Need-returns-2
-returns-2 c = ?
+returns-2 c =
+    let name = c .before .before .before .before .name-at .ensures in
+    rw (
+      ← ap (λ z. z .kind) name,
+      le-leb _ _ (c .before .before .if1 .left),
+      ← ap (λ z. z .level) name,
+      le-ltb _ _ (c .if2 .taken),
+    )
 
--- src/faults.rt:56:9
 returns-3 : tie.Need-returns-3
-returns-3 c = ?
+returns-3 c =
+    let name = c .before .before .before .before .before .before .name-at .ensures in
+    rw (
+      ← ap (λ z. z .kind) name,
+      le-leb _ _ (c .before .before .before .before .if1 .left),
+      ← ap (λ z. z .level) name,
+      lt-ltb _ _ (c .before .before .if2 .left),
+      ← ap (λ z. z .owner) name,
+      eq-eqb _ _ (c .if3 .taken),
+    )
 
--- src/faults.rt:58:5
 declares-requires : tie.Need-declares-requires
 declares-requires c κs = search needs
 
--- src/faults.rt:44:1
 returns-4 : tie.Need-returns-4
-returns-4 c = ?
+returns-4 c =
+    let name = c .before .before .before .before .before .before .before .name-at .ensures in
+    rw (
+      ← ap (λ z. z .kind) name,
+      le-leb _ _ (c .before .before .before .before .before .if1 .left),
+      ← ap (λ z. z .level) name,
+      lt-ltb _ _ (c .before .before .before .if2 .left),
+      ← ap (λ z. z .owner) name,
+      ne-eqb _ _ (c .before .if3 .left),
+    )
+    (c .declares .ensures)
 
 pub name-is-right-spec : {M : Type 1} → statement M
 name-is-right-spec =

@@ -1,15 +1,13 @@
+-- `new_of`: each way out decides one test of the definition.
+use borrow.Author.Tests.{eq-eqb, ne-eqb}
 use Rattle.script.proofs.faults.new_of.Statement.{statement}
 use Rattle.script.proofs.faults.new_of.Tie as tie
-use Rattle.script.proofs.faults.new_of.Reads as reads
-use Rattle.script.proofs.faults.new_of.Lts as lts
 
--- src/faults.rt:24:9
 returns : tie.Need-returns
-returns c = ?
+returns c = simp (eq-eqb _ _ (c .if1 .taken))
 
--- src/faults.rt:20:1
 returns-2 : tie.Need-returns-2
-returns-2 c = ?
+returns-2 c = simp (ne-eqb _ _ (c .if1 .left))
 
 pub new-of-spec : {M : Type 1} → statement M
 new-of-spec = tie.close (tie.spec returns returns-2)
