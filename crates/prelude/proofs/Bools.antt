@@ -1,6 +1,6 @@
 -- Tests: by cases, and through the connectives.
 -- Assumes nothing.
-use mathlib.Core.Path.{_≡_, refl}
+use mathlib.Core.Path.{_≡_, refl, sym}
 use mathlib.Core.Bool.{Bool, true, false, cond, _&&_, _||_, true≢false, false≢true}
 
 -- what would make a false test true does not hold
@@ -19,6 +19,11 @@ and-left false b h = h
 pub and-right : (a b : Bool) → (a && b) ≡ true → b ≡ true
 and-right true b h = h
 and-right false b h = absurd (false≢true h)
+
+-- a conjunction, by its first test
+pub and-second : (a b : Bool) → a ≡ true → (a && b) ≡ b
+and-second true b h = refl
+and-second false b h = absurd (false≢true h)
 
 pub or-left : (a b : Bool) → (a || b) ≡ false → a ≡ false
 or-left true b h = h
@@ -49,6 +54,21 @@ and-swap true true c = refl
 and-swap true false c = refl
 and-swap false true c = refl
 and-swap false false c = refl
+
+-- two tests, each of which makes the other true
+pub same-truth : (a b : Bool) → (a ≡ true → b ≡ true) → (b ≡ true → a ≡ true) → a ≡ b
+same-truth true b f g = sym (f refl)
+same-truth false true f g = g refl
+same-truth false false f g = refl
+
+-- a disjunction, by its two cases
+pub or-cases : {M : Type 0} (a b : Bool) → (a || b) ≡ true → (a ≡ true → M) → (b ≡ true → M) → M
+or-cases true b h f g = f refl
+or-cases false b h f g = g h
+
+pub or-true : (a b : Bool) → b ≡ true → (a || b) ≡ true
+or-true true b h = refl
+or-true false b h = h
 
 -- a conditional, by its two cases
 pub by-cases {ℓ} : {A : Type ℓ} (M : A → Type 0) (b : Bool) {x y : A} → (b ≡ true → M x) → (b ≡ false → M y) → M (cond b x y)

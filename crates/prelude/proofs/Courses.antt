@@ -3,10 +3,10 @@
 use mathlib.Core.Path.{_≡_, refl, sym, ap, _∙_}
 use mathlib.Core.Logic.{⊎-elim}
 use mathlib.Core.List.{List, [], _∷_}
-use Prim.Native.Nat.{ℕ, zero, suc, _<_}
+use Prim.Native.Nat.{ℕ, zero, suc, _≤_, _<_}
 use native.Mathlib.Nat.{le-of-suc-le-suc, not-suc-le-zero, eq-or-lt-of-le}
 use native.Mathlib.Omega.{arith}
-use lib.ListN.{getD, length, length-append, List·getD-append}
+use lib.ListN.{getD, length, length-append, List·getD-append, List·getD-eq-default}
 use lib.Seq.{getD-at}
 use Rattle.prelude.specs.Course.{course, entry}
 
@@ -24,3 +24,6 @@ module _ {ℓ} {A : Type ℓ} (f : ℕ → List A → A) (d : A) where
       (λ e. getD-at (course f n) (f n (course f n)) [] d k (length-course n ∙ sym e) ∙ ap (λ m. f m (course f m)) (sym e))
       (λ l. List·getD-append (course f n) (f n (course f n) ∷ []) d k (omega (arith, length-course n)) ∙ earlier n k l)
       (eq-or-lt-of-le (le-of-suc-le-suc h))
+
+  pub not-earlier : (n k : ℕ) → n ≤ k → getD (course f n) k d ≡ d
+  not-earlier n k h = List·getD-eq-default (course f n) d (omega (arith, length-course n))

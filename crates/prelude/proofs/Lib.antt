@@ -3,3 +3,4 @@ pub mod Bools
 pub mod Searches
 pub mod Tables
 pub mod Courses
+pub mod Each

@@ -6,7 +6,7 @@ use Prim.Native.Nat.{ℕ, zero, suc, _+_, _≤_, _<_}
 use native.Mathlib.Omega.{arith}
 use native.Mathlib.Decide.{decLt}
 use lib.Dec.{ltb, leb}
-use borrow.Author.Tests.{lt-ltb, le-ltb, ltb-false, leb-true, leb-false, not-true, not-false}
+use borrow.Author.Tests.{lt-ltb, le-ltb, ltb-true, ltb-false, leb-true, leb-false, not-true, not-false}
 use Rattle.prelude.proofs.Bools.{or-swap, by-cases}
 use Rattle.prelude.specs.Search.{firstFrom, first, any, all}
 
@@ -105,6 +105,10 @@ module _ (f : ℕ → Bool) (n : ℕ) where
   pub none-of-any : any f n ≡ false → NoneBelow f n
   unfolding any
   none-of-any e = first-at-end (omega (arith, first-within, ltb-false (first f n) n e))
+
+  pub some-of-any : any f n ≡ true → (i : ℕ) × (i < n) × (f i ≡ true)
+  unfolding any
+  some-of-any e = let h : first f n < n = ltb-true (first f n) n e in (first f n, h, first-holds h)
 
 -- the test holds at every number below n
 abbrev pub AllBelow : (ℕ → Bool) → ℕ → Type 0

@@ -1,3 +1,8 @@
 -- Laws that the proofs of several functions use, and the theorems of the crate.
 pub mod Layouts
 pub mod Values
+pub mod Counted
+pub mod Fields
+pub mod Reaching
+pub mod Views
+pub mod Scoping

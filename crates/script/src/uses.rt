@@ -16,7 +16,7 @@ ghost use Rattle.script.specs.Uses.{usedBy, used, KeepsTimes};
 
 // The part that a field uses, or MAX_PARTS.
 fn used_by(c: Script, field: Field) -> usize
-    requires { ⌜ c .expressions ≤ mostParts ⌝ }
+    requires { ⌜ (c .expressions ≤ mostParts) × (field .value < 65536) ⌝ }
     ensures { λ r. ⌜ r ≡ usedBy (c .expressions) field ⌝ }
 {
     if field.role == roles::EXPRESSION {

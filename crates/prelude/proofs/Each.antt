@@ -1,0 +1,16 @@
+-- Numbers below n, one by one: for a table of n rows.
+-- Assumes nothing.
+use mathlib.Core.Path.{sym, subst}
+use mathlib.Core.Logic.{⊎-elim}
+use Prim.Native.Nat.{ℕ, zero, suc, _<_}
+use native.Mathlib.Nat.{le-of-suc-le-suc, not-suc-le-zero, eq-or-lt-of-le}
+
+-- P 0, .., P (n - 1), as pairs nested to the left
+abbrev pub Each : (ℕ → Type 0) → ℕ → Type 0
+Each P zero = Unit {0}
+Each P (suc n) = Each P n × P n
+
+pub each : (P : ℕ → Type 0) (n : ℕ) → Each P n → (k : ℕ) → k < n → P k
+each P zero t k h = absurd (not-suc-le-zero h)
+each P (suc n) t k h =
+    ⊎-elim (λ e. subst P (sym e) (t .1)) (λ l. each P n (t .0) k l) (eq-or-lt-of-le (le-of-suc-le-suc h))
