@@ -1,6 +1,7 @@
 -- Laws that the proofs of every layer use.
 pub mod Bools
 pub mod Searches
+pub mod Counts
 pub mod Tables
 pub mod Courses
 pub mod Each

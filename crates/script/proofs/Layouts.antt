@@ -1,16 +1,16 @@
 -- What the tests of the tail and of the counts tell: a file that passes both is laid out as its counts say.
 -- Assumes nothing.
-use mathlib.Core.Path.{_≡_, refl}
+use mathlib.Core.Path.{_≡_, refl, ap}
 use mathlib.Core.Bool.{true}
 use mathlib.Core.List.{List}
-use Prim.Native.Nat.{ℕ, _-_, _%_, _≤_}
+use Prim.Native.Nat.{ℕ, _+_, _-_, _%_, _≤_}
 use native.Mathlib.Omega.{arith}
 use lib.Dec.{leb, eqb}
 use lib.ListN.{length}
 use borrow.Author.Tests.{leb-true, eqb-true}
 use Rattle.prelude.proofs.Bools.{and-left, and-right}
 use Rattle.script.specs.declared.layout.Script.{Script}
-use Rattle.script.specs.Layout.{mostNames, mostExpressions, mostNodes, mark, pointedTail, tailAt, expressionsAt, nodesAt, tailIsRight, countsAreRight, layoutOf, Laid}
+use Rattle.script.specs.Layout.{mostNames, mostExpressions, mostNodes, mostParts, mark, pointedTail, tailAt, expressionsAt, nodesAt, nameCount, partCount, tailIsRight, countsAreRight, layoutOf, Laid}
 
 pub few-bounds :
     (c : Script) → countsAreRight c ≡ true →
@@ -56,3 +56,14 @@ pub laid : (s : List ℕ) → tailIsRight s ≡ true → countsAreRight (layoutO
 laid s h few =
     let t = tail-is s h in
     record { same = refl; few = few; touching = omega arith; whole = omega arith }
+
+-- the counts of a file that is laid out
+module _ {s : List ℕ} {c : Script} (laid : Laid s c) where
+  pub names-are : c .names ≡ nameCount s
+  names-are = ap (λ z. z .names) (laid .same)
+
+  pub parts-are : c .expressions + c .nodes ≡ partCount s
+  parts-are = ap (λ z. z .expressions + z .nodes) (laid .same)
+
+  pub few-parts : partCount s ≤ mostParts
+  few-parts = omega (arith, parts-are, few-bounds c (laid .few))

@@ -4,5 +4,8 @@ pub mod Values
 pub mod Counted
 pub mod Fields
 pub mod Reaching
+pub mod Sets
+pub mod Entering
+pub mod ReachTables
 pub mod Views
 pub mod Scoping

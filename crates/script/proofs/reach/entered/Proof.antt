@@ -1,39 +1,62 @@
+-- `entered`: each way out decides one test of the definition.
+use mathlib.Core.Path.{_≡_, sym, ap, _∙_}
+use mathlib.Core.Bool.{true}
+use Prim.Native.Nat.{_/_}
+use native.Mathlib.Omega.{arith}
+use borrow.Author.Tests.{eq-eqb, ne-eqb, not-true, not-false}
+use Rattle.script.specs.Entries.{fieldCount}
+use Rattle.script.specs.Reach.{isNew}
+use Rattle.script.proofs.Layouts.{few-bounds, names-are, parts-are}
+use Rattle.script.proofs.Reaching.{named-new}
+use Rattle.script.proofs.Entering.{opens-none, opens-no-name, opens-name}
 use borrow.Author.Needs.{needs}
 use Rattle.script.proofs.reach.entered.Statement.{statement}
 use Rattle.script.proofs.reach.entered.Tie as tie
-use Rattle.script.proofs.reach.entered.Reads as reads
-use Rattle.script.proofs.reach.entered.Lts as lts
-use Rattle.script.proofs.entries.field_at.Reads as field-at-reads
-use Rattle.script.proofs.faults.is_new.Reads as is-new-reads
-use Rattle.script.proofs.reach.with_name.Reads as with-name-reads
 
--- src/reach.rt:61:9
 field-at-requires : tie.Need-field-at-requires
 field-at-requires c κs = search needs
 
--- src/reach.rt:63:9
 returns : tie.Need-returns
-returns c = ?
+returns c =
+    let start = (c .before .before .before .before) in
+    λ x h. opens-none (start .args .s .now) (start .args .i) x _ _ (c .before .before .field-at .ensures) (ne-eqb _ _ (c .if1 .taken))
 
--- src/reach.rt:65:9
 field-at-requires-2 : tie.Need-field-at-requires-2
 field-at-requires-2 c κs = search needs
 
--- src/reach.rt:66:9
 is-new-requires : tie.Need-is-new-requires
 is-new-requires c κs = search needs
 
--- src/reach.rt:67:9
 returns-2 : tie.Need-returns-2
-returns-2 c = ?
+returns-2 c =
+    let start = (c .before .before .before .before .before .before .before) in
+    λ x h.
+    opens-no-name (start .args .s .now) (start .args .i) x _ _ (c .before .before .before .before .before .field-at .ensures) _ (c .before .before .field-at2 .ensures)
+    (eq-eqb _ _ (c .before .before .before .if1 .left))
+    (sym (c .before .is-new .ensures) ∙ not-true _ (c .if2 .taken))
 
--- src/reach.rt:69:5
+-- past both tests the field declares a name
+new : (c : tie.Else2) → isNew (c .before .before .field-at2 .result .role) ≡ true
+new c = sym (c .before .is-new .ensures) ∙ not-false _ (c .if2 .left)
+
 with-name-requires : tie.Need-with-name-requires
-with-name-requires c κs = ?
+with-name-requires c κs =
+    let start = (c .before .before .before .before .before .before .before) in
+    let laid = start .pre .0 in
+    let field = c .before .before .field-at2 .ensures in
+    let name =
+        named-new (start .args .s .now) (start .pre .1 .0) (start .args .i / fieldCount) 0 (omega (arith, parts-are laid)) (omega arith)
+        (ap (λ f. isNew (f .role)) (sym field) ∙ new c) in
+    omega (arith, ap (λ f. f .value) field, name .known, names-are laid, few-bounds (start .args .c) (laid .few))
 
--- src/reach.rt:56:1
 returns-3 : tie.Need-returns-3
-returns-3 c = ?
+returns-3 c =
+    let start = (c .before .before .before .before .before .before .before .before) in
+    λ x h.
+    c .with-name .ensures x (omega (arith, few-bounds (start .args .c) (start .pre .0 .few)))
+    ∙ opens-name (start .args .s .now) (start .args .i) x _ _ (c .before .before .before .before .before .before .field-at .ensures) _ (c .before .before .before .field-at2 .ensures)
+    (eq-eqb _ _ (c .before .before .before .before .if1 .left))
+    (new (c .before))
 
 pub entered-spec : {M : Type 1} → statement M
 entered-spec =

@@ -1,42 +1,44 @@
+-- `is_out_of_reach`: the fields passed miss no name.
+use mathlib.Core.Path.{sym, _∙_}
+use Prim.Native.Nat.{_-_, _≤_}
+use borrow.Author.Count.{below-none, below-more}
+use Rattle.prelude.proofs.Searches.{NoneBelow, past, any-some, any-none}
+use Rattle.script.specs.Entries.{fieldCount}
+use Rattle.script.specs.Reach.{missesName, isOutOfReach}
+use borrow.Author.Needs.{needs}
 use Rattle.script.proofs.reach.is_out_of_reach.Statement.{statement}
 use Rattle.script.proofs.reach.is_out_of_reach.Tie as tie
-use Rattle.script.proofs.reach.is_out_of_reach.Reads as reads
-use Rattle.script.proofs.reach.is_out_of_reach.Lts as lts
-use Rattle.script.proofs.reach.misses_name.Reads as misses-name-reads
 
 abbrev Inv-loop : tie.InvT-loop
-Inv-loop s c sets q f₀ f = ?
+Inv-loop s c sets q f₀ f = (f ≤ fieldCount) × NoneBelow (missesName s q) f
 
 abbrev μ-loop : tie.MeasureT-loop
-μ-loop s c sets q f₀ f = ?
+μ-loop s c sets q f₀ f = fieldCount - f
 
--- src/reach.rt:117:5
 loop-holds : tie.Need-loop-holds Inv-loop μ-loop
-loop-holds c = ?
+loop-holds c = (search needs, below-none _)
 
--- src/reach.rt:118:12
 misses-name-requires : tie.Need-misses-name-requires Inv-loop μ-loop
-misses-name-requires c κs = ?
+misses-name-requires c κs =
+    (c .before .before .before .pre .0, (c .before .before .before .pre .1 .0, (c .before .before .before .pre .1 .1 .0, (c .before .before .before .pre .1 .1 .1, c .loop-test .taken))))
 
--- src/reach.rt:119:13
 returns : tie.Need-returns Inv-loop μ-loop
-returns c = ?
+unfolding isOutOfReach
+returns c =
+    sym (any-some _ _ _ (c .before .before .loop-test .taken) (sym (c .before .misses-name .ensures) ∙ c .if1 .taken))
 
--- src/reach.rt:121:9
 add-f : tie.Need-add-f Inv-loop μ-loop
-add-f c = ?
+add-f c = search needs
 
--- src/reach.rt:117:5
 loop-less : tie.Need-loop-less Inv-loop μ-loop
-loop-less c = ?
+loop-less c = search needs
 
--- src/reach.rt:117:5
 loop-again : tie.Need-loop-again Inv-loop μ-loop
-loop-again c = ?
+loop-again c = (search needs, below-more _ _ (c .before .before .before .loop .inv .1) (sym (c .before .misses-name .ensures) ∙ c .if1 .left))
 
--- src/reach.rt:112:1
 returns-2 : tie.Need-returns-2 Inv-loop μ-loop
-returns-2 c = ?
+unfolding isOutOfReach
+returns-2 c = sym (any-none _ _ (past (c .loop-test .left) (c .before .loop .inv .1)))
 
 pub is-out-of-reach-spec : {M : Type 1} → statement M
 is-out-of-reach-spec =

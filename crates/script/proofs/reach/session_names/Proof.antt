@@ -1,43 +1,55 @@
+-- `session_names`: of the names below x the set has those of the session, and no other name.
+use mathlib.Core.Path.{sym, ap, _∙_}
+use mathlib.Core.Logic.{⊎-elim}
+use Prim.Native.Nat.{_-_, _≤_}
+use native.Mathlib.Omega.{arith}
+use borrow.Author.Tests.{eq-eqb, ne-eqb}
+use lib.Dec.{eqb}
+use Rattle.script.specs.declared.entries.Name.{Name}
+use Rattle.script.specs.Layout.{mostNames}
+use Rattle.script.specs.Entries.{session, isSession}
+use Rattle.script.specs.Reach.{IsSet}
+use Rattle.script.proofs.Layouts.{few-bounds}
+use Rattle.script.proofs.Sets.{upTo, collect-none, collect-with, collect-without, collect-all}
+use borrow.Author.Needs.{needs}
 use Rattle.script.proofs.reach.session_names.Statement.{statement}
 use Rattle.script.proofs.reach.session_names.Tie as tie
-use Rattle.script.proofs.reach.session_names.Reads as reads
-use Rattle.script.proofs.reach.session_names.Lts as lts
-use Rattle.script.proofs.entries.name_at.Reads as name-at-reads
-use Rattle.script.proofs.reach.with_name.Reads as with-name-reads
 
 abbrev Inv-loop : tie.InvT-loop
-Inv-loop s c n set₀ x₀ set x = ?
+Inv-loop s c n set₀ x₀ set x = (x ≤ n) × IsSet mostNames (upTo x (isSession s)) set
 
 abbrev μ-loop : tie.MeasureT-loop
-μ-loop s c n set₀ x₀ set x = ?
+μ-loop s c n set₀ x₀ set x = n - x
 
--- src/reach.rt:44:5
 loop-holds : tie.Need-loop-holds Inv-loop μ-loop
-loop-holds c = ?
+loop-holds c = (search needs, collect-none _ _)
 
--- src/reach.rt:45:13
 name-at-requires : tie.Need-name-at-requires Inv-loop μ-loop
-name-at-requires c κs = ?
+name-at-requires c κs = search needs
 
--- src/reach.rt:47:13
 with-name-requires : tie.Need-with-name-requires Inv-loop μ-loop
-with-name-requires c κs = ?
+with-name-requires c κs = omega (arith, few-bounds (c .before .before .before .before .before .before .args .c) (c .before .before .before .before .before .before .pre .few))
 
--- src/reach.rt:49:9
 add-x : tie.Need-add-x Inv-loop μ-loop
-add-x c = ?
+add-x c = search needs
 
--- src/reach.rt:44:5
 loop-less : tie.Need-loop-less Inv-loop μ-loop
-loop-less c = ?
+loop-less c = search needs
 
--- src/reach.rt:44:5
 loop-again : tie.Need-loop-again Inv-loop μ-loop
-loop-again c = ?
+loop-again c =
+    let owner = ap (λ (n : Name). eqb (n .owner) session) (sym (c .before .before .name-at .ensures)) in
+    (
+      search needs,
+      ⊎-elim
+      (λ w. rw (w .2) (collect-with _ _ _ _ _ (owner ∙ eq-eqb _ _ (w .0 .taken)) (w .1 .ensures) (c .before .before .before .before .loop .inv .1)))
+      (λ w. rw (w .1) (collect-without _ _ _ _ (owner ∙ ne-eqb _ _ (w .0 .left)) (c .before .before .before .before .loop .inv .1)))
+      (c .if1 .came),
+    )
 
--- src/reach.rt:37:1
 returns : tie.Need-returns Inv-loop μ-loop
-returns c = ?
+returns c =
+    collect-all _ _ _ _ (c .loop-test .left) mostNames (few-bounds (c .before .before .before .args .c) (c .before .before .before .pre .few) .0) (c .before .loop .inv .1)
 
 pub session-names-spec : {M : Type 1} → statement M
 session-names-spec =

@@ -1,66 +1,79 @@
+-- `count_uses`: the table has how often the fields below i use each part.
+use mathlib.Core.Path.{_≡_, refl, ap, _∙_}
+use mathlib.Core.Logic.{⊎-elim}
+use Prim.Native.Nat.{_-_, _≤_}
+use native.Mathlib.Omega.{arith}
+use lib.Dec.{eqb}
+use lib.ListN.{length, length-set}
+use Rattle.prelude.specs.Search.{count}
+use Rattle.prelude.proofs.Counts.{Tally, count-within, tally-none, tally-hit, tally-miss}
+use Rattle.script.specs.Layout.{mostParts}
+use Rattle.script.specs.Uses.{used, timesUsed}
+use Rattle.script.proofs.Layouts.{few-bounds, parts-are}
+use borrow.Author.Needs.{needs}
 use Rattle.script.proofs.uses.count_uses.Statement.{statement}
 use Rattle.script.proofs.uses.count_uses.Tie as tie
-use Rattle.script.proofs.uses.count_uses.Reads as reads
-use Rattle.script.proofs.uses.count_uses.Lts as lts
-use Rattle.script.proofs.uses.used_at.Reads as used-at-reads
 
 abbrev Inv-loop : tie.InvT-loop
-Inv-loop s c times₀ n i₀ times i = ?
+Inv-loop s c times₀ n i₀ times i = (i ≤ n) × ((length times ≡ mostParts) × Tally (used s) mostParts i times)
 
 abbrev μ-loop : tie.MeasureT-loop
-μ-loop s c times₀ n i₀ times i = ?
+μ-loop s c times₀ n i₀ times i = n - i
 
--- src/uses.rt:45:29
 add-n : tie.Need-add-n Inv-loop μ-loop
-add-n c = ?
+add-n c = omega (arith, few-bounds (c .before .before .args .c) (c .before .before .pre .few))
 
--- src/uses.rt:45:13
 mul-n : tie.Need-mul-n Inv-loop μ-loop
-mul-n c = ?
+mul-n c = omega (arith, few-bounds (c .before .before .args .c) (c .before .before .pre .few))
 
--- src/uses.rt:47:5
 loop-holds : tie.Need-loop-holds Inv-loop μ-loop
-loop-holds c = ?
+loop-holds c = (search needs, (refl, tally-none _ mostParts))
 
--- src/uses.rt:48:13
 used-at-requires : tie.Need-used-at-requires Inv-loop μ-loop
-used-at-requires c κs = ?
+used-at-requires c κs = search needs
 
--- src/uses.rt:50:24
 mul-times : tie.Need-mul-times Inv-loop μ-loop
-mul-times c = ?
+mul-times c = search needs
 
--- src/uses.rt:50:24
 array-read-times : tie.Need-array-read-times Inv-loop μ-loop
-array-read-times c = ?
+array-read-times c = search needs
 
--- src/uses.rt:50:24
 add-times : tie.Need-add-times Inv-loop μ-loop
-add-times c = ?
+add-times c =
+    omega (
+      arith,
+      few-bounds (c .before .before .before .before .before .before .args .c) (c .before .before .before .before .before .before .pre .few),
+      c .before .before .before .loop .inv .1 .1 _ (c .if1 .taken),
+      count-within (λ k. eqb (used (c .before .before .before .before .before .before .args .s .now) k) (c .before .used-at .result)) (c .before .before .before .loop .i),
+    )
 
--- src/uses.rt:50:13
 mul-times-2 : tie.Need-mul-times-2 Inv-loop μ-loop
-mul-times-2 c = ?
+mul-times-2 c = search needs
 
--- src/uses.rt:50:13
 array-write-times : tie.Need-array-write-times Inv-loop μ-loop
-array-write-times c = ?
+array-write-times c = search needs
 
--- src/uses.rt:52:9
 add-i : tie.Need-add-i Inv-loop μ-loop
-add-i c = ?
+add-i c = search needs
 
--- src/uses.rt:47:5
 loop-less : tie.Need-loop-less Inv-loop μ-loop
-loop-less c = ?
+loop-less c = search needs
 
--- src/uses.rt:47:5
 loop-again : tie.Need-loop-again Inv-loop μ-loop
-loop-again c = ?
+loop-again c =
+    let inv = c .before .before .before .loop .inv .1 in
+    let part = c .before .used-at .ensures in
+    (
+      search needs,
+      ⊎-elim
+      (λ w. rw (w .1) (simp length-set (inv .0), tally-hit _ _ (c .before .before .before .loop .times) _ _ (inv .0) (w .0 .taken) part (inv .1)))
+      (λ w. rw (w .1) (inv .0, tally-miss _ _ (c .before .before .before .loop .times) _ (rw part at (w .0 .left)) (inv .1)))
+      (c .if1 .came),
+    )
 
--- src/uses.rt:40:1
 returns : tie.Need-returns Inv-loop μ-loop
-returns c = ?
+unfolding timesUsed
+returns c = λ q h. c .before .loop .inv .1 .1 q h ∙ ap (count _) (omega (arith, parts-are (c .before .before .before .before .pre)))
 
 pub count-uses-spec : {M : Type 1} → statement M
 count-uses-spec =

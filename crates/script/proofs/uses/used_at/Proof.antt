@@ -1,22 +1,31 @@
+-- `used_at`: the calls give the definition.
+use mathlib.Core.Path.{ap, _∙_}
+use Prim.Native.Nat.{_/_, _%_}
+use native.Mathlib.Omega.{arith}
+use Rattle.script.specs.Entries.{fieldCount}
+use Rattle.script.specs.Uses.{used}
+use Rattle.script.proofs.Layouts.{few-bounds}
+use Rattle.script.proofs.Values.{value-fits}
 use borrow.Author.Needs.{needs}
 use Rattle.script.proofs.uses.used_at.Statement.{statement}
 use Rattle.script.proofs.uses.used_at.Tie as tie
-use Rattle.script.proofs.uses.used_at.Reads as reads
-use Rattle.script.proofs.uses.used_at.Lts as lts
-use Rattle.script.proofs.entries.field_at.Reads as field-at-reads
-use Rattle.script.proofs.uses.used_by.Reads as used-by-reads
 
--- src/uses.rt:36:16
 field-at-requires : tie.Need-field-at-requires
 field-at-requires c κs = search needs
 
--- src/uses.rt:36:5
 used-by-requires : tie.Need-used-by-requires
-used-by-requires c κs = ?
+used-by-requires c κs =
+    let start = (c .before .before) in
+    let bytes = c .before .shared-slice-known .given in
+    (
+      omega (arith, few-bounds (start .args .c) (start .pre .0 .few)),
+      rw (c .field-at .ensures)
+      (value-fits (start .args .s .now) bytes (start .args .i / fieldCount) (start .args .i % fieldCount)),
+    )
 
--- src/uses.rt:32:1
 returns : tie.Need-returns
-returns c = ?
+unfolding used
+returns c = c .used-by .ensures ∙ rw (c .before .field-at .ensures, ap (λ z. z .expressions) (c .before .before .before .pre .0 .same))
 
 pub used-at-spec : {M : Type 1} → statement M
 used-at-spec = tie.close (tie.spec field-at-requires used-by-requires returns)

@@ -1,23 +1,21 @@
+-- `used_by`: each way out decides one test of the definition.
+use mathlib.Core.Path.{sym}
+use borrow.Author.Tests.{eq-eqb, ne-eqb}
+use borrow.Author.Needs.{needs}
 use Rattle.script.proofs.uses.used_by.Statement.{statement}
 use Rattle.script.proofs.uses.used_by.Tie as tie
-use Rattle.script.proofs.uses.used_by.Reads as reads
-use Rattle.script.proofs.uses.used_by.Lts as lts
 
--- src/uses.rt:23:9
 returns : tie.Need-returns
-returns c = ?
+returns c = simp (eq-eqb _ _ (c .if1 .taken))
 
--- src/uses.rt:26:16
 add-result : tie.Need-add-result
-add-result c = ?
+add-result c = search needs
 
--- src/uses.rt:26:9
 returns-2 : tie.Need-returns-2
-returns-2 c = ?
+returns-2 c = simp (ne-eqb _ _ (c .before .before .before .before .if1 .left), eq-eqb _ _ (c .before .before .if2 .taken))
 
--- src/uses.rt:18:1
 returns-3 : tie.Need-returns-3
-returns-3 c = ?
+returns-3 c = simp (ne-eqb _ _ (c .before .before .if1 .left), ne-eqb _ _ (c .if2 .left))
 
 pub used-by-spec : {M : Type 1} → statement M
 used-by-spec = tie.close (tie.spec returns add-result returns-2 returns-3)

@@ -1,0 +1,60 @@
+-- What a field opens, and whether it misses the name that it uses: by one test after the other.
+-- Assumes nothing.
+use mathlib.Core.Path.{_≡_, sym, ap, ap₂, _∙_}
+use mathlib.Core.Bool.{Bool, true, false, not, _&&_, _||_}
+use mathlib.Core.List.{List}
+use Prim.Native.Nat.{ℕ, _/_, _%_, _<_}
+use lib.Dec.{eqb}
+use borrow.Author.Tests.{eqb-true}
+use Rattle.prelude.proofs.Bools.{or-cases}
+use Rattle.script.specs.declared.entries.Field.{Field}
+use Rattle.script.specs.Layout.{partCount}
+use Rattle.script.specs.Roles.{register, child}
+use Rattle.script.specs.Entries.{fieldCount, fieldOf}
+use Rattle.script.specs.Reach.{isUse, isNew, inReach, missesName, opens}
+use Rattle.script.specs.Refusals.{Sound}
+use Rattle.script.proofs.Fields.{holds-register, holds-signal}
+use Rattle.script.proofs.Reaching.{Named, named}
+
+-- the names of a set and those that field i opens
+module _ (s : List ℕ) (i x : ℕ) (inSet : Bool) (field : Field) (is : field ≡ fieldOf s (i / fieldCount) (i % fieldCount)) where
+  tests : Bool → Field → Bool
+  tests t d = (t && (isNew (d .role) && eqb (d .value) x)) || inSet
+
+  pub opens-none : eqb (field .role) child ≡ false → inSet ≡ (opens s i x || inSet)
+  unfolding tests
+  opens-none e =
+      let d : Field = fieldOf s (i / fieldCount) 0 in
+      ap (λ t. tests t d) (sym e) ∙ ap (λ (f : Field). tests (eqb (f .role) child) d) is
+
+  module _ (declared : Field) (first : declared ≡ fieldOf s (i / fieldCount) 0) (e : eqb (field .role) child ≡ true) where
+    opens-declared : ((isNew (declared .role) && eqb (declared .value) x) || inSet) ≡ (opens s i x || inSet)
+    unfolding tests
+    opens-declared =
+        ap (λ t. tests t declared) (sym e) ∙ ap₂ (λ (f d : Field). tests (eqb (f .role) child) d) is first
+
+    pub opens-no-name : isNew (declared .role) ≡ false → inSet ≡ (opens s i x || inSet)
+    opens-no-name n = ap (λ t. (t && eqb (declared .value) x) || inSet) (sym n) ∙ opens-declared
+
+    pub opens-name : isNew (declared .role) ≡ true → (eqb (declared .value) x || inSet) ≡ (opens s i x || inSet)
+    opens-name n = ap (λ t. (t && eqb (declared .value) x) || inSet) (sym n) ∙ opens-declared
+
+module _ (s : List ℕ) (q f : ℕ) (field : Field) (is : field ≡ fieldOf s q f) where
+  test : missesName s q f ≡ (isUse (field .role) && not (inReach s (field .value) q))
+  test = ap (λ (x : Field). isUse (x .role) && not (inReach s (x .value) q)) (sym is)
+
+  pub misses-none : isUse (field .role) ≡ false → missesName s q f ≡ false
+  misses-none e = test ∙ ap (λ b. b && not (inReach s (field .value) q)) e
+
+  pub misses-name : isUse (field .role) ≡ true → missesName s q f ≡ not (inReach s (field .value) q)
+  misses-name e = test ∙ ap (λ b. b && not (inReach s (field .value) q)) e
+
+-- a right field that uses a name
+pub named-use :
+    (s : List ℕ) (sound : Sound s) (q f : ℕ) → q < partCount s → f < fieldCount → isUse (fieldOf s q f .role) ≡ true →
+    Named s sound q f
+named-use s sound q f h l n =
+    named s sound q f h l
+    (or-cases (eqb (fieldOf s q f .role) register) _ n
+    (λ e. holds-register s q (fieldOf s q f) (eqb-true _ _ e))
+    (λ e. holds-signal s q (fieldOf s q f) (eqb-true _ _ e)))
