@@ -40,7 +40,8 @@ module _ (u : ℕ → ℕ) (m : ℕ) where
   tally-none v h = getD-replicate m v 0 0 h
 
   pub tally-hit :
-      (t : List ℕ) (i v : ℕ) → length t ≡ m → v < m → v ≡ u i → Tally u m i t → Tally u m (i + 1) (set t v (getD t v 0 + 1))
+      (t : List ℕ) (i v : ℕ) → length t ≡ m → v < m → v ≡ u i → Tally u m i t →
+      Tally u m (i + 1) (set t v (getD t v 0 + 1))
   tally-hit t i v n l e keeps w h =
       elim (ℕ-discrete w v) [
         | yes same ↦

@@ -17,7 +17,9 @@ use Rattle.script.proofs.Fields.{holds-register, holds-signal}
 use Rattle.script.proofs.Reaching.{Named, named}
 
 -- the names of a set and those that field i opens
-module _ (s : List ℕ) (i x : ℕ) (inSet : Bool) (field : Field) (is : field ≡ fieldOf s (i / fieldCount) (i % fieldCount)) where
+module _
+    (s : List ℕ) (i x : ℕ) (inSet : Bool)
+    (field : Field) (is : field ≡ fieldOf s (i / fieldCount) (i % fieldCount)) where
   tests : Bool → Field → Bool
   tests t d = (t && (isNew (d .role) && eqb (d .value) x)) || inSet
 
@@ -27,7 +29,9 @@ module _ (s : List ℕ) (i x : ℕ) (inSet : Bool) (field : Field) (is : field �
       let d : Field = fieldOf s (i / fieldCount) 0 in
       ap (λ t. tests t d) (sym e) ∙ ap (λ (f : Field). tests (eqb (f .role) child) d) is
 
-  module _ (declared : Field) (first : declared ≡ fieldOf s (i / fieldCount) 0) (e : eqb (field .role) child ≡ true) where
+  module _
+      (declared : Field) (first : declared ≡ fieldOf s (i / fieldCount) 0)
+      (e : eqb (field .role) child ≡ true) where
     opens-declared : ((isNew (declared .role) && eqb (declared .value) x) || inSet) ≡ (opens s i x || inSet)
     unfolding tests
     opens-declared =

@@ -30,7 +30,8 @@ module _ (s : List ℕ) (j : Joined s) (few : partCount s ≤ mostParts) where
   -- then so are those of all parts that only these fields can use
   pub right-from :
       (i : ℕ) (sets : List ℕ) → Filled s i sets →
-      (q : ℕ) → q < partCount s → i ≤ fieldCount * q + fieldCount → IsSet (nameCount s) (λ x. inReach s x q) (getD sets q 0)
+      (q : ℕ) → q < partCount s → i ≤ fieldCount * q + fieldCount →
+      IsSet (nameCount s) (λ x. inReach s x q) (getD sets q 0)
   right-from i sets h q l u =
       elim (decLt (suc q) (partCount s)) [
         | yes more ↦
@@ -90,16 +91,17 @@ module _ (s : List ℕ) (j : Joined s) (few : partCount s ≤ mostParts) where
             λ m low high part.
             elim (ℕ-discrete k m) [
               | yes same ↦
-                  subst (λ m. IsSet (nameCount s) (λ x. inReach s x (used s m)) (getD (set sets v more) (used s m) 0)) same
-                  (subst (λ p. IsSet (nameCount s) (λ x. inReach s x p) (getD (set sets v more) p 0)) e
+                  subst (λ p. IsSet (nameCount s) (λ x. inReach s x p) (getD (set sets v more) p 0)) (e ∙ ap (used s) same)
                   (λ x named.
                   ap (λ n. has n x) (getD-set-same sets v more 0 (omega (arith, h .long)))
                   ∙ new x named
                   ∙ ap (λ b. opens s k x || b) (right-from i sets h (k / fieldCount) (omega arith) (omega arith) x named)
                   ∙ sym (reach-used s j k x l uses named)
-                  ∙ ap (inReach s x) (sym e)))
+                  ∙ ap (inReach s x) (sym e))
               | no differ ↦
-                  rw (getD-set-other sets v (used s m) more 0 (λ same. differ (used-once s j k m l high uses (sym (same ∙ e)))))
+                  rw
+                  (getD-set-other sets v (used s m) more 0
+                  (λ same. differ (used-once s j k m l high uses (sym (same ∙ e)))))
                   (h .passed m (omega (arith, past k m low differ)) high part)
             ];
       }

@@ -19,7 +19,9 @@ field-at-requires c κs = search needs
 returns : tie.Need-returns
 returns c =
     let start = (c .before .before .before .before) in
-    λ x h. opens-none (start .args .s .now) (start .args .i) x _ _ (c .before .before .field-at .ensures) (ne-eqb _ _ (c .if1 .taken))
+    λ x h.
+    opens-none (start .args .s .now) (start .args .i) x _ _ (c .before .before .field-at .ensures)
+    (ne-eqb _ _ (c .if1 .taken))
 
 field-at-requires-2 : tie.Need-field-at-requires-2
 field-at-requires-2 c κs = search needs
@@ -31,7 +33,8 @@ returns-2 : tie.Need-returns-2
 returns-2 c =
     let start = (c .before .before .before .before .before .before .before) in
     λ x h.
-    opens-no-name (start .args .s .now) (start .args .i) x _ _ (c .before .before .before .before .before .field-at .ensures) _ (c .before .before .field-at2 .ensures)
+    opens-no-name (start .args .s .now) (start .args .i) x _ _
+    (c .before .before .before .before .before .field-at .ensures) _ (c .before .before .field-at2 .ensures)
     (eq-eqb _ _ (c .before .before .before .if1 .left))
     (sym (c .before .is-new .ensures) ∙ not-true _ (c .if2 .taken))
 
@@ -45,7 +48,9 @@ with-name-requires c κs =
     let laid = start .pre .0 in
     let field = c .before .before .field-at2 .ensures in
     let name =
-        named-new (start .args .s .now) (start .pre .1 .0) (start .args .i / fieldCount) 0 (omega (arith, parts-are laid)) (omega arith)
+        named-new (start .args .s .now) (start .pre .1 .0) (start .args .i / fieldCount) 0
+        (omega (arith, parts-are laid))
+        (omega arith)
         (ap (λ f. isNew (f .role)) (sym field) ∙ new c) in
     omega (arith, ap (λ f. f .value) field, name .known, names-are laid, few-bounds (start .args .c) (laid .few))
 
@@ -54,7 +59,8 @@ returns-3 c =
     let start = (c .before .before .before .before .before .before .before .before) in
     λ x h.
     c .with-name .ensures x (omega (arith, few-bounds (start .args .c) (start .pre .0 .few)))
-    ∙ opens-name (start .args .s .now) (start .args .i) x _ _ (c .before .before .before .before .before .before .field-at .ensures) _ (c .before .before .before .field-at2 .ensures)
+    ∙ opens-name (start .args .s .now) (start .args .i) x _ _
+    (c .before .before .before .before .before .before .field-at .ensures) _ (c .before .before .before .field-at2 .ensures)
     (eq-eqb _ _ (c .before .before .before .before .if1 .left))
     (new (c .before))
 

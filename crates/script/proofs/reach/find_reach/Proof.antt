@@ -20,49 +20,60 @@ abbrev μ-loop : tie.MeasureT-loop
 μ-loop s c sets₀ n i₀ sets i = i
 
 add-n : tie.Need-add-n Inv-loop μ-loop
-add-n c = omega (arith, few-bounds (c .before .before .args .c) (c .before .before .pre .0 .few))
+add-n c =
+    let start = (c .before .before) in omega (arith, few-bounds (start .args .c) (start .pre .0 .few))
 
 session-names-requires : tie.Need-session-names-requires Inv-loop μ-loop
 session-names-requires c κs = search needs
 
 sub-sets : tie.Need-sub-sets Inv-loop μ-loop
-sub-sets c = omega (arith, few-bounds (c .before .before .before .args .c) (c .before .before .before .pre .0 .few))
+sub-sets c =
+    let start = (c .before .before .before) in omega (arith, few-bounds (start .args .c) (start .pre .0 .few))
 
 mul-sets : tie.Need-mul-sets Inv-loop μ-loop
-mul-sets c = omega (arith, few-bounds (c .before .before .before .args .c) (c .before .before .before .pre .0 .few))
+mul-sets c =
+    let start = (c .before .before .before) in omega (arith, few-bounds (start .args .c) (start .pre .0 .few))
 
 array-write-sets : tie.Need-array-write-sets Inv-loop μ-loop
-array-write-sets c = omega (arith, few-bounds (c .before .before .before .args .c) (c .before .before .before .pre .0 .few))
+array-write-sets c =
+    let start = (c .before .before .before) in omega (arith, few-bounds (start .args .c) (start .pre .0 .few))
 
 mul-i : tie.Need-mul-i Inv-loop μ-loop
-mul-i c = omega (arith, few-bounds (c .before .before .before .args .c) (c .before .before .before .pre .0 .few))
+mul-i c =
+    let start = (c .before .before .before) in omega (arith, few-bounds (start .args .c) (start .pre .0 .few))
 
 loop-holds : tie.Need-loop-holds Inv-loop μ-loop
 loop-holds c =
-    let n = c .before .before .before .args .c .expressions + c .before .before .before .args .c .nodes in
-    let laid = c .before .before .before .pre .0 in
+    let start = (c .before .before .before) in
+    let laid = start .pre .0 in
+    let names = c .session-names in
     (
       search needs,
-      fill-last _ (c .before .before .before .pre .1) (few-parts laid) _ (n - 1) _ (replicate mostParts 0) refl
+      fill-last _ (start .pre .1) (few-parts laid) _ (start .args .c .expressions + start .args .c .nodes - 1) _
+      (replicate mostParts 0) refl
       (omega (arith, parts-are laid))
-      (omega (arith, parts-are laid, few-bounds (c .before .before .before .args .c) (laid .few)))
-      (subst (λ n. IsSet n (isSession (c .before .before .before .args .s .now)) (c .session-names .result)) (names-are laid) (c .session-names .ensures)),
+      (omega (arith, parts-are laid, few-bounds (start .args .c) (laid .few)))
+      (subst (λ n. IsSet n (isSession (start .args .s .now)) (names .result)) (names-are laid) (names .ensures)),
     )
 
 sub-i : tie.Need-sub-i Inv-loop μ-loop
 sub-i c = search needs
 
 used-at-requires : tie.Need-used-at-requires Inv-loop μ-loop
-used-at-requires c κs = (c .before .before .before .before .before .pre .0, omega arith)
+used-at-requires c κs = search needs
 
 mul-entered : tie.Need-mul-entered Inv-loop μ-loop
-mul-entered c = omega (arith, few-bounds (c .before .before .before .before .before .before .before .args .c) (c .before .before .before .before .before .before .before .pre .0 .few))
+mul-entered c =
+    let start = (c .before .before .before .before .before .before .before) in omega (arith, few-bounds (start .args .c) (start .pre .0 .few))
 
 array-read-entered : tie.Need-array-read-entered Inv-loop μ-loop
-array-read-entered c = omega (arith, few-bounds (c .before .before .before .before .before .before .before .args .c) (c .before .before .before .before .before .before .before .pre .0 .few))
+array-read-entered c =
+    let start = (c .before .before .before .before .before .before .before) in omega (arith, few-bounds (start .args .c) (start .pre .0 .few))
 
 entered-requires : tie.Need-entered-requires Inv-loop μ-loop
-entered-requires c κs = (c .before .before .before .before .before .before .before .pre .0, (c .before .before .before .before .before .before .before .pre .1 .sound, omega arith))
+entered-requires c κs =
+    let pre = c .before .before .before .before .before .before .before .pre in
+    (pre .0, (pre .1 .sound, omega arith))
 
 mul-sets-2 : tie.Need-mul-sets-2 Inv-loop μ-loop
 mul-sets-2 c = search needs
@@ -75,36 +86,41 @@ loop-less c = search needs
 
 loop-again : tie.Need-loop-again Inv-loop μ-loop
 loop-again c =
-    let s = c .before .before .before .before .before .before .before .before .args .s .now in
-    let laid = c .before .before .before .before .before .before .before .before .pre .0 in
-    let k = c .before .before .before .before .loop .i - 1 in
-    let sets = c .before .before .before .before .loop .sets in
+    let start = (c .before .before .before .before .before .before .before .before) in
+    let loop = c .before .before .before .before .loop in
+    let laid = start .pre .0 in
+    let k = loop .i - 1 in
+    let own = getD (loop .sets) (k / fieldCount) 0 in
     (
       search needs,
-      fill-more _ (c .before .before .before .before .before .before .before .before .pre .1) (few-parts laid) (c .before .before .before .before .loop .i) k _ _ sets (omega arith)
+      fill-more _ (start .pre .1) (few-parts laid) (loop .i) k _ _ (loop .sets) (omega arith)
       (omega (arith, parts-are laid))
       (c .before .before .used-at .ensures)
       (c .before .if1 .taken)
-      (subst (λ n. IsSet n (λ x. opens s k x || has (getD sets (k / fieldCount) 0) x) (c .entered .result)) (names-are laid)
+      (subst (λ n. IsSet n (λ x. opens (start .args .s .now) k x || has own x) (c .entered .result)) (names-are laid)
       (c .entered .ensures))
-      (c .before .before .before .before .loop .inv .1),
+      (loop .inv .1),
     )
 
 loop-less-2 : tie.Need-loop-less-2 Inv-loop μ-loop
 loop-less-2 c = search needs
 
 loop-again-2 : tie.Need-loop-again-2 Inv-loop μ-loop
-loop-again-2 c = (
-  search needs,
-  fill-skip _ (c .before .before .before .before .before .before .before .pre .1) (few-parts (c .before .before .before .before .before .before .before .pre .0)) (c .before .before .before .loop .i) _ (c .before .before .before .loop .sets) (omega arith)
-  (rw (c .before .used-at .ensures) at (c .if1 .left))
-  (c .before .before .before .loop .inv .1),
-)
+loop-again-2 c =
+    let pre = c .before .before .before .before .before .before .before .pre in
+    let loop = c .before .before .before .loop in
+    (
+      search needs,
+      fill-skip _ (pre .1) (few-parts (pre .0)) (loop .i) _ (loop .sets) (omega arith)
+      (rw (c .before .used-at .ensures) at (c .if1 .left))
+      (loop .inv .1),
+    )
 
 returns : tie.Need-returns Inv-loop μ-loop
 returns c =
+    let pre = c .before .before .before .before .before .pre in
     let none : c .before .loop .i ≡ 0 = omega arith in
-    right-all _ (c .before .before .before .before .before .pre .1) (few-parts (c .before .before .before .before .before .pre .0)) _ (rw none at (c .before .loop .inv .1))
+    right-all _ (pre .1) (few-parts (pre .0)) _ (rw none at (c .before .loop .inv .1))
 
 pub find-reach-spec : {M : Type 1} → statement M
 find-reach-spec =

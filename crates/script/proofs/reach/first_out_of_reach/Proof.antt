@@ -23,12 +23,16 @@ add-is-out-of-reach : tie.Need-add-is-out-of-reach Inv-loop μ-loop
 add-is-out-of-reach c = search needs
 
 is-out-of-reach-requires : tie.Need-is-out-of-reach-requires Inv-loop μ-loop
-is-out-of-reach-requires c κs = (c .before .before .before .pre .0, (c .before .before .before .pre .1 .0, (c .before .before .before .pre .1 .1 .0, omega arith)))
+is-out-of-reach-requires c κs =
+    let pre = c .before .before .before .pre in
+    (pre .0, (pre .1 .0, (pre .1 .1 .0, omega arith)))
 
 returns : tie.Need-returns Inv-loop μ-loop
 returns c =
     sym
-    (first-is _ _ _ (c .before .before .loop-test .taken) (sym (c .before .is-out-of-reach .ensures) ∙ c .if1 .taken) (c .before .before .before .loop .inv .1))
+    (first-is _ _ _ (c .before .before .loop-test .taken)
+    (sym (c .before .is-out-of-reach .ensures) ∙ c .if1 .taken)
+    (c .before .before .before .loop .inv .1))
 
 add-k : tie.Need-add-k Inv-loop μ-loop
 add-k c = search needs
@@ -37,7 +41,10 @@ loop-less : tie.Need-loop-less Inv-loop μ-loop
 loop-less c = search needs
 
 loop-again : tie.Need-loop-again Inv-loop μ-loop
-loop-again c = (search needs, below-more _ _ (c .before .before .before .loop .inv .1) (sym (c .before .is-out-of-reach .ensures) ∙ c .if1 .left))
+loop-again c = (
+  search needs,
+  below-more _ _ (c .before .before .before .loop .inv .1) (sym (c .before .is-out-of-reach .ensures) ∙ c .if1 .left),
+)
 
 returns-2 : tie.Need-returns-2 Inv-loop μ-loop
 returns-2 c =

@@ -20,7 +20,8 @@ loop-holds c = (search needs, below-none _)
 
 misses-name-requires : tie.Need-misses-name-requires Inv-loop μ-loop
 misses-name-requires c κs =
-    (c .before .before .before .pre .0, (c .before .before .before .pre .1 .0, (c .before .before .before .pre .1 .1 .0, (c .before .before .before .pre .1 .1 .1, c .loop-test .taken))))
+    let pre = c .before .before .before .pre in
+    (pre .0, (pre .1 .0, (pre .1 .1 .0, (pre .1 .1 .1, c .loop-test .taken))))
 
 returns : tie.Need-returns Inv-loop μ-loop
 unfolding isOutOfReach
@@ -34,7 +35,10 @@ loop-less : tie.Need-loop-less Inv-loop μ-loop
 loop-less c = search needs
 
 loop-again : tie.Need-loop-again Inv-loop μ-loop
-loop-again c = (search needs, below-more _ _ (c .before .before .before .loop .inv .1) (sym (c .before .misses-name .ensures) ∙ c .if1 .left))
+loop-again c = (
+  search needs,
+  below-more _ _ (c .before .before .before .loop .inv .1) (sym (c .before .misses-name .ensures) ∙ c .if1 .left),
+)
 
 returns-2 : tie.Need-returns-2 Inv-loop μ-loop
 unfolding isOutOfReach

@@ -29,7 +29,8 @@ mul-has : tie.Need-mul-has
 mul-has c = search needs
 
 element-copy-out-has : tie.Need-element-copy-out-has
-element-copy-out-has c = let start = (c .before .before .before .before) in omega (arith, few-bounds (start .args .c) (start .pre .0 .few))
+element-copy-out-has c =
+    let start = (c .before .before .before .before) in omega (arith, few-bounds (start .args .c) (start .pre .0 .few))
 
 -- past the test the field uses a name
 uses : (c : tie.Else1) → isUse (c .before .before .field-at .result .role) ≡ true
@@ -54,11 +55,11 @@ has-requires c κs =
 returns-2 : tie.Need-returns-2
 returns-2 c =
     let start = (c .before .before .before .before .before .before) in
+    let else = c .before .before in
     ap not
     (c .has .ensures
-    ∙ start .pre .1 .1 .0 (start .args .q) (omega (arith, parts-are (start .pre .0))) _ (known (c .before .before)))
-    ∙ sym
-    (misses-name (start .args .s .now) (start .args .q) (start .args .f) _ (c .before .before .before .before .field-at .ensures) (uses (c .before .before)))
+    ∙ start .pre .1 .1 .0 (start .args .q) (omega (arith, parts-are (start .pre .0))) _ (known else))
+    ∙ sym (misses-name (start .args .s .now) (start .args .q) (start .args .f) _ (c .before .before .before .before .field-at .ensures) (uses else))
 
 pub misses-name-spec : {M : Type 1} → statement M
 misses-name-spec =

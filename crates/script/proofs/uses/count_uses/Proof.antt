@@ -21,10 +21,10 @@ abbrev μ-loop : tie.MeasureT-loop
 μ-loop s c times₀ n i₀ times i = n - i
 
 add-n : tie.Need-add-n Inv-loop μ-loop
-add-n c = omega (arith, few-bounds (c .before .before .args .c) (c .before .before .pre .few))
+add-n c = let start = (c .before .before) in omega (arith, few-bounds (start .args .c) (start .pre .few))
 
 mul-n : tie.Need-mul-n Inv-loop μ-loop
-mul-n c = omega (arith, few-bounds (c .before .before .args .c) (c .before .before .pre .few))
+mul-n c = let start = (c .before .before) in omega (arith, few-bounds (start .args .c) (start .pre .few))
 
 loop-holds : tie.Need-loop-holds Inv-loop μ-loop
 loop-holds c = (search needs, (refl, tally-none _ mostParts))
@@ -40,11 +40,13 @@ array-read-times c = search needs
 
 add-times : tie.Need-add-times Inv-loop μ-loop
 add-times c =
+    let start = (c .before .before .before .before .before .before) in
+    let loop = c .before .before .before .loop in
     omega (
       arith,
-      few-bounds (c .before .before .before .before .before .before .args .c) (c .before .before .before .before .before .before .pre .few),
-      c .before .before .before .loop .inv .1 .1 _ (c .if1 .taken),
-      count-within (λ k. eqb (used (c .before .before .before .before .before .before .args .s .now) k) (c .before .used-at .result)) (c .before .before .before .loop .i),
+      few-bounds (start .args .c) (start .pre .few),
+      loop .inv .1 .1 _ (c .if1 .taken),
+      count-within (λ k. eqb (used (start .args .s .now) k) (c .before .used-at .result)) (loop .i),
     )
 
 mul-times-2 : tie.Need-mul-times-2 Inv-loop μ-loop
@@ -61,19 +63,23 @@ loop-less c = search needs
 
 loop-again : tie.Need-loop-again Inv-loop μ-loop
 loop-again c =
-    let inv = c .before .before .before .loop .inv .1 in
+    let loop = c .before .before .before .loop in
     let part = c .before .used-at .ensures in
+    let long = loop .inv .1 .0 in
+    let tally = loop .inv .1 .1 in
     (
       search needs,
       ⊎-elim
-      (λ w. rw (w .1) (simp length-set (inv .0), tally-hit _ _ (c .before .before .before .loop .times) _ _ (inv .0) (w .0 .taken) part (inv .1)))
-      (λ w. rw (w .1) (inv .0, tally-miss _ _ (c .before .before .before .loop .times) _ (rw part at (w .0 .left)) (inv .1)))
+      (λ w. rw (w .1) (simp length-set long, tally-hit _ _ (loop .times) _ _ long (w .0 .taken) part tally))
+      (λ w. rw (w .1) (long, tally-miss _ _ (loop .times) _ (rw part at (w .0 .left)) tally))
       (c .if1 .came),
     )
 
 returns : tie.Need-returns Inv-loop μ-loop
 unfolding timesUsed
-returns c = λ q h. c .before .loop .inv .1 .1 q h ∙ ap (count _) (omega (arith, parts-are (c .before .before .before .before .pre)))
+returns c =
+    let laid = c .before .before .before .before .pre in
+    λ q h. c .before .loop .inv .1 .1 q h ∙ ap (count _) (omega (arith, parts-are laid))
 
 pub count-uses-spec : {M : Type 1} → statement M
 count-uses-spec =

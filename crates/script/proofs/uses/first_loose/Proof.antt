@@ -32,7 +32,8 @@ element-copy-out-if1 c = search needs
 
 returns : tie.Need-returns Inv-loop μ-loop
 returns c =
-    sym (first-is _ _ _ (c .before .before .loop-test .taken) (ap not (ne-eqb _ _ (c .if1 .taken))) (c .before .before .before .loop .inv .1))
+    sym
+    (first-is _ _ _ (c .before .before .loop-test .taken) (ap not (ne-eqb _ _ (c .if1 .taken))) (c .before .before .before .loop .inv .1))
 
 add-k : tie.Need-add-k Inv-loop μ-loop
 add-k c = search needs
@@ -41,7 +42,10 @@ loop-less : tie.Need-loop-less Inv-loop μ-loop
 loop-less c = search needs
 
 loop-again : tie.Need-loop-again Inv-loop μ-loop
-loop-again c = (search needs, below-more _ _ (c .before .before .before .loop .inv .1) (ap not (eq-eqb _ _ (c .if1 .left))))
+loop-again c = (
+  search needs,
+  below-more _ _ (c .before .before .before .loop .inv .1) (ap not (eq-eqb _ _ (c .if1 .left))),
+)
 
 returns-2 : tie.Need-returns-2 Inv-loop μ-loop
 returns-2 c =

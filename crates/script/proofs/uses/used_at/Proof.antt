@@ -25,7 +25,8 @@ used-by-requires c κs =
 
 returns : tie.Need-returns
 unfolding used
-returns c = c .used-by .ensures ∙ rw (c .before .field-at .ensures, ap (λ z. z .expressions) (c .before .before .before .pre .0 .same))
+returns c =
+    c .used-by .ensures ∙ rw (c .before .field-at .ensures, ap (λ z. z .expressions) (c .before .before .before .pre .0 .same))
 
 pub used-at-spec : {M : Type 1} → statement M
 used-at-spec = tie.close (tie.spec field-at-requires used-by-requires returns)
