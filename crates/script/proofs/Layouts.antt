@@ -17,8 +17,7 @@ pub few-bounds :
     (c .names ≤ mostNames) × ((c .expressions ≤ mostExpressions) × ((1 ≤ c .nodes) × (c .nodes ≤ mostNodes)))
 few-bounds c h =
     let e = and-right (leb (c .names) mostNames) _ h in
-    let n = and-right (leb (c .expressions) mostExpressions) _ e in
-    (
+    let n = and-right (leb (c .expressions) mostExpressions) _ e in (
       leb-true _ _ (and-left _ _ h),
       (
         leb-true _ _ (and-left _ _ e),

@@ -24,7 +24,7 @@ pub record Filled (s : List ℕ) (i : ℕ) (sets : List ℕ) : Type 0 where
       IsSet (nameCount s) (λ x. inReach s x (used s k)) (getD sets (used s k) 0)
 
 past : (k m : ℕ) → k ≤ m → (k ≡ m → ⊥) → k < m
-past k m l e = elim (decLt k m) [ | yes u ↦ u | no u ↦ absurd (e (omega arith)) ]
+past k m l e = elim (decLt k m) [ yes u ↦ u | no u ↦ absurd (e (omega arith)) ]
 
 module _ (s : List ℕ) (j : Joined s) (few : partCount s ≤ mostParts) where
   -- then so are those of all parts that only these fields can use

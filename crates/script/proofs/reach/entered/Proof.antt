@@ -18,7 +18,7 @@ field-at-requires c κs = search needs
 
 returns : tie.Need-returns
 returns c =
-    let start = (c .before .before .before .before) in
+    let start = c .before .before .before .before in
     λ x h.
     opens-none (start .args .s .now) (start .args .i) x _ _ (c .before .before .field-at .ensures)
     (ne-eqb _ _ (c .if1 .taken))
@@ -31,7 +31,7 @@ is-new-requires c κs = search needs
 
 returns-2 : tie.Need-returns-2
 returns-2 c =
-    let start = (c .before .before .before .before .before .before .before) in
+    let start = c .before .before .before .before .before .before .before in
     λ x h.
     opens-no-name (start .args .s .now) (start .args .i) x _ _
     (c .before .before .before .before .before .field-at .ensures) _ (c .before .before .field-at2 .ensures)
@@ -44,19 +44,19 @@ new c = sym (c .before .is-new .ensures) ∙ not-false _ (c .if2 .left)
 
 with-name-requires : tie.Need-with-name-requires
 with-name-requires c κs =
-    let start = (c .before .before .before .before .before .before .before) in
+    let start = c .before .before .before .before .before .before .before in
     let laid = start .pre .0 in
     let field = c .before .before .field-at2 .ensures in
     let name =
-        named-new (start .args .s .now) (start .pre .1 .0) (start .args .i / fieldCount) 0
-        (omega (arith, parts-are laid))
-        (omega arith)
-        (ap (λ f. isNew (f .role)) (sym field) ∙ new c) in
+    named-new (start .args .s .now) (start .pre .1 .0) (start .args .i / fieldCount) 0
+    (omega (arith, parts-are laid))
+    (omega arith)
+    (ap (λ f. isNew (f .role)) (sym field) ∙ new c) in
     omega (arith, ap (λ f. f .value) field, name .known, names-are laid, few-bounds (start .args .c) (laid .few))
 
 returns-3 : tie.Need-returns-3
 returns-3 c =
-    let start = (c .before .before .before .before .before .before .before .before) in
+    let start = c .before .before .before .before .before .before .before .before in
     λ x h.
     c .with-name .ensures x (omega (arith, few-bounds (start .args .c) (start .pre .0 .few)))
     ∙ opens-name (start .args .s .now) (start .args .i) x _ _

@@ -21,39 +21,38 @@ abbrev μ-loop : tie.MeasureT-loop
 
 add-n : tie.Need-add-n Inv-loop μ-loop
 add-n c =
-    let start = (c .before .before) in omega (arith, few-bounds (start .args .c) (start .pre .0 .few))
+    let start = c .before .before in omega (arith, few-bounds (start .args .c) (start .pre .0 .few))
 
 session-names-requires : tie.Need-session-names-requires Inv-loop μ-loop
 session-names-requires c κs = search needs
 
 sub-sets : tie.Need-sub-sets Inv-loop μ-loop
 sub-sets c =
-    let start = (c .before .before .before) in omega (arith, few-bounds (start .args .c) (start .pre .0 .few))
+    let start = c .before .before .before in omega (arith, few-bounds (start .args .c) (start .pre .0 .few))
 
 mul-sets : tie.Need-mul-sets Inv-loop μ-loop
 mul-sets c =
-    let start = (c .before .before .before) in omega (arith, few-bounds (start .args .c) (start .pre .0 .few))
+    let start = c .before .before .before in omega (arith, few-bounds (start .args .c) (start .pre .0 .few))
 
 array-write-sets : tie.Need-array-write-sets Inv-loop μ-loop
 array-write-sets c =
-    let start = (c .before .before .before) in omega (arith, few-bounds (start .args .c) (start .pre .0 .few))
+    let start = c .before .before .before in omega (arith, few-bounds (start .args .c) (start .pre .0 .few))
 
 mul-i : tie.Need-mul-i Inv-loop μ-loop
 mul-i c =
-    let start = (c .before .before .before) in omega (arith, few-bounds (start .args .c) (start .pre .0 .few))
+    let start = c .before .before .before in omega (arith, few-bounds (start .args .c) (start .pre .0 .few))
 
 loop-holds : tie.Need-loop-holds Inv-loop μ-loop
 loop-holds c =
-    let start = (c .before .before .before) in
+    let start = c .before .before .before in
     let laid = start .pre .0 in
-    let names = c .session-names in
-    (
+    let names = c .session-names in (
       search needs,
       fill-last _ (start .pre .1) (few-parts laid) _ (start .args .c .expressions + start .args .c .nodes - 1) _
-      (replicate mostParts 0) refl
-      (omega (arith, parts-are laid))
-      (omega (arith, parts-are laid, few-bounds (start .args .c) (laid .few)))
-      (subst (λ n. IsSet n (isSession (start .args .s .now)) (names .result)) (names-are laid) (names .ensures)),
+          (replicate mostParts 0) refl
+          (omega (arith, parts-are laid))
+          (omega (arith, parts-are laid, few-bounds (start .args .c) (laid .few)))
+          (subst (λ n. IsSet n (isSession (start .args .s .now)) (names .result)) (names-are laid) (names .ensures)),
     )
 
 sub-i : tie.Need-sub-i Inv-loop μ-loop
@@ -64,11 +63,11 @@ used-at-requires c κs = search needs
 
 mul-entered : tie.Need-mul-entered Inv-loop μ-loop
 mul-entered c =
-    let start = (c .before .before .before .before .before .before .before) in omega (arith, few-bounds (start .args .c) (start .pre .0 .few))
+    let start = c .before .before .before .before .before .before .before in omega (arith, few-bounds (start .args .c) (start .pre .0 .few))
 
 array-read-entered : tie.Need-array-read-entered Inv-loop μ-loop
 array-read-entered c =
-    let start = (c .before .before .before .before .before .before .before) in omega (arith, few-bounds (start .args .c) (start .pre .0 .few))
+    let start = c .before .before .before .before .before .before .before in omega (arith, few-bounds (start .args .c) (start .pre .0 .few))
 
 entered-requires : tie.Need-entered-requires Inv-loop μ-loop
 entered-requires c κs =
@@ -86,20 +85,19 @@ loop-less c = search needs
 
 loop-again : tie.Need-loop-again Inv-loop μ-loop
 loop-again c =
-    let start = (c .before .before .before .before .before .before .before .before) in
+    let start = c .before .before .before .before .before .before .before .before in
     let loop = c .before .before .before .before .loop in
     let laid = start .pre .0 in
     let k = loop .i - 1 in
-    let own = getD (loop .sets) (k / fieldCount) 0 in
-    (
+    let own = getD (loop .sets) (k / fieldCount) 0 in (
       search needs,
       fill-more _ (start .pre .1) (few-parts laid) (loop .i) k _ _ (loop .sets) (omega arith)
-      (omega (arith, parts-are laid))
-      (c .before .before .used-at .ensures)
-      (c .before .if1 .taken)
-      (subst (λ n. IsSet n (λ x. opens (start .args .s .now) k x || has own x) (c .entered .result)) (names-are laid)
-      (c .entered .ensures))
-      (loop .inv .1),
+          (omega (arith, parts-are laid))
+          (c .before .before .used-at .ensures)
+          (c .before .if1 .taken)
+          (subst (λ n. IsSet n (λ x. opens (start .args .s .now) k x || has own x) (c .entered .result)) (names-are laid)
+          (c .entered .ensures))
+          (loop .inv .1),
     )
 
 loop-less-2 : tie.Need-loop-less-2 Inv-loop μ-loop
@@ -108,12 +106,11 @@ loop-less-2 c = search needs
 loop-again-2 : tie.Need-loop-again-2 Inv-loop μ-loop
 loop-again-2 c =
     let pre = c .before .before .before .before .before .before .before .pre in
-    let loop = c .before .before .before .loop in
-    (
+    let loop = c .before .before .before .loop in (
       search needs,
       fill-skip _ (pre .1) (few-parts (pre .0)) (loop .i) _ (loop .sets) (omega arith)
-      (rw (c .before .used-at .ensures) at (c .if1 .left))
-      (loop .inv .1),
+          (rw (c .before .used-at .ensures) at (c .if1 .left))
+          (loop .inv .1),
     )
 
 returns : tie.Need-returns Inv-loop μ-loop

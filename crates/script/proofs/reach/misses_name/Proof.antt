@@ -20,7 +20,7 @@ is-use-requires c κs = search needs
 
 returns : tie.Need-returns
 returns c =
-    let start = (c .before .before .before .before) in
+    let start = c .before .before .before .before in
     sym
     (misses-none (start .args .s .now) (start .args .q) (start .args .f) _ (c .before .before .field-at .ensures)
     (sym (c .before .is-use .ensures) ∙ not-true _ (c .if1 .taken)))
@@ -30,7 +30,7 @@ mul-has c = search needs
 
 element-copy-out-has : tie.Need-element-copy-out-has
 element-copy-out-has c =
-    let start = (c .before .before .before .before) in omega (arith, few-bounds (start .args .c) (start .pre .0 .few))
+    let start = c .before .before .before .before in omega (arith, few-bounds (start .args .c) (start .pre .0 .few))
 
 -- past the test the field uses a name
 uses : (c : tie.Else1) → isUse (c .before .before .field-at .result .role) ≡ true
@@ -38,23 +38,23 @@ uses c = sym (c .before .is-use .ensures) ∙ not-false _ (c .if1 .left)
 
 known : (c : tie.Else1) → c .before .before .field-at .result .value < nameCount (c .before .before .before .before .args .s .now)
 known c =
-    let start = (c .before .before .before .before) in
+    let start = c .before .before .before .before in
     let field = c .before .before .field-at .ensures in
     let name =
-        named-use (start .args .s .now) (start .pre .1 .0) (start .args .q) (start .args .f)
-        (omega (arith, parts-are (start .pre .0)))
-        (start .pre .1 .1 .1 .1)
-        (ap (λ f. isUse (f .role)) (sym field) ∙ uses c) in
+    named-use (start .args .s .now) (start .pre .1 .0) (start .args .q) (start .args .f)
+    (omega (arith, parts-are (start .pre .0)))
+    (start .pre .1 .1 .1 .1)
+    (ap (λ f. isUse (f .role)) (sym field) ∙ uses c) in
     omega (arith, ap (λ f. f .value) field, name .known)
 
 has-requires : tie.Need-has-requires
 has-requires c κs =
-    let start = (c .before .before .before .before .before) in
+    let start = c .before .before .before .before .before in
     omega (arith, known (c .before), names-are (start .pre .0), few-bounds (start .args .c) (start .pre .0 .few))
 
 returns-2 : tie.Need-returns-2
 returns-2 c =
-    let start = (c .before .before .before .before .before .before) in
+    let start = c .before .before .before .before .before .before in
     let else = c .before .before in
     ap not
     (c .has .ensures

@@ -28,7 +28,7 @@ name-at-requires c κs = search needs
 
 with-name-requires : tie.Need-with-name-requires Inv-loop μ-loop
 with-name-requires c κs =
-    let start = (c .before .before .before .before .before .before) in omega (arith, few-bounds (start .args .c) (start .pre .few))
+    let start = c .before .before .before .before .before .before in omega (arith, few-bounds (start .args .c) (start .pre .few))
 
 add-x : tie.Need-add-x Inv-loop μ-loop
 add-x c = search needs
@@ -39,18 +39,17 @@ loop-less c = search needs
 loop-again : tie.Need-loop-again Inv-loop μ-loop
 loop-again c =
     let owner = ap (λ n. eqb (n .owner) session) (sym (c .before .before .name-at .ensures)) in
-    let filled = c .before .before .before .before .loop .inv .1 in
-    (
+    let filled = c .before .before .before .before .loop .inv .1 in (
       search needs,
       ⊎-elim
-      (λ w. rw (w .2) (collect-with _ _ _ _ _ (owner ∙ eq-eqb _ _ (w .0 .taken)) (w .1 .ensures) filled))
-      (λ w. rw (w .1) (collect-without _ _ _ _ (owner ∙ ne-eqb _ _ (w .0 .left)) filled))
-      (c .if1 .came),
+          (λ w. rw (w .2) (collect-with _ _ _ _ _ (owner ∙ eq-eqb _ _ (w .0 .taken)) (w .1 .ensures) filled))
+          (λ w. rw (w .1) (collect-without _ _ _ _ (owner ∙ ne-eqb _ _ (w .0 .left)) filled))
+          (c .if1 .came),
     )
 
 returns : tie.Need-returns Inv-loop μ-loop
 returns c =
-    let start = (c .before .before .before) in
+    let start = c .before .before .before in
     collect-all _ _ _ _ (c .loop-test .left) mostNames (few-bounds (start .args .c) (start .pre .few) .0) (c .before .loop .inv .1)
 
 pub session-names-spec : {M : Type 1} → statement M

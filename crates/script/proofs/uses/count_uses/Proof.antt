@@ -21,10 +21,10 @@ abbrev μ-loop : tie.MeasureT-loop
 μ-loop s c times₀ n i₀ times i = n - i
 
 add-n : tie.Need-add-n Inv-loop μ-loop
-add-n c = let start = (c .before .before) in omega (arith, few-bounds (start .args .c) (start .pre .few))
+add-n c = let start = c .before .before in omega (arith, few-bounds (start .args .c) (start .pre .few))
 
 mul-n : tie.Need-mul-n Inv-loop μ-loop
-mul-n c = let start = (c .before .before) in omega (arith, few-bounds (start .args .c) (start .pre .few))
+mul-n c = let start = c .before .before in omega (arith, few-bounds (start .args .c) (start .pre .few))
 
 loop-holds : tie.Need-loop-holds Inv-loop μ-loop
 loop-holds c = (search needs, (refl, tally-none _ mostParts))
@@ -40,7 +40,7 @@ array-read-times c = search needs
 
 add-times : tie.Need-add-times Inv-loop μ-loop
 add-times c =
-    let start = (c .before .before .before .before .before .before) in
+    let start = c .before .before .before .before .before .before in
     let loop = c .before .before .before .loop in
     omega (
       arith,
@@ -66,13 +66,12 @@ loop-again c =
     let loop = c .before .before .before .loop in
     let part = c .before .used-at .ensures in
     let long = loop .inv .1 .0 in
-    let tally = loop .inv .1 .1 in
-    (
+    let tally = loop .inv .1 .1 in (
       search needs,
       ⊎-elim
-      (λ w. rw (w .1) (simp length-set long, tally-hit _ _ (loop .times) _ _ long (w .0 .taken) part tally))
-      (λ w. rw (w .1) (long, tally-miss _ _ (loop .times) _ (rw part at (w .0 .left)) tally))
-      (c .if1 .came),
+          (λ w. rw (w .1) (simp length-set long, tally-hit _ _ (loop .times) _ _ long (w .0 .taken) part tally))
+          (λ w. rw (w .1) (long, tally-miss _ _ (loop .times) _ (rw part at (w .0 .left)) tally))
+          (c .if1 .came),
     )
 
 returns : tie.Need-returns Inv-loop μ-loop

@@ -15,12 +15,11 @@ field-at-requires c κs = search needs
 
 used-by-requires : tie.Need-used-by-requires
 used-by-requires c κs =
-    let start = (c .before .before) in
-    let bytes = c .before .shared-slice-known .given in
-    (
+    let start = c .before .before in
+    let bytes = c .before .shared-slice-known .given in (
       omega (arith, few-bounds (start .args .c) (start .pre .0 .few)),
       rw (c .field-at .ensures)
-      (value-fits (start .args .s .now) bytes (start .args .i / fieldCount) (start .args .i % fieldCount)),
+          (value-fits (start .args .s .now) bytes (start .args .i / fieldCount) (start .args .i % fieldCount)),
     )
 
 returns : tie.Need-returns
