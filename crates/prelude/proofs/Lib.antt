@@ -5,3 +5,4 @@ pub mod Counts
 pub mod Tables
 pub mod Courses
 pub mod Each
+pub mod Sums

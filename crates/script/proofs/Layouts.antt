@@ -10,7 +10,7 @@ use lib.ListN.{length}
 use borrow.Author.Tests.{leb-true, eqb-true}
 use Rattle.prelude.proofs.Bools.{and-left, and-right}
 use Rattle.script.specs.declared.layout.Script.{Script}
-use Rattle.script.specs.Layout.{mostNames, mostExpressions, mostNodes, mostParts, mark, pointedTail, tailAt, expressionsAt, nodesAt, nameCount, partCount, tailIsRight, countsAreRight, layoutOf, Laid}
+use Rattle.script.specs.Layout.{mostNames, mostExpressions, mostNodes, mostParts, mark, pointedTail, tailAt, expressionsAt, nodesAt, nameCount, partCount, tailIsRight, countsAreRight, layoutOf, Laid, expressionCount, nodeCount}
 
 pub few-bounds :
     (c : Script) → countsAreRight c ≡ true →
@@ -60,6 +60,12 @@ laid s h few =
 module _ {s : List ℕ} {c : Script} (laid : Laid s c) where
   pub names-are : c .names ≡ nameCount s
   names-are = ap (λ z. z .names) (laid .same)
+
+  pub expressions-are : c .expressions ≡ expressionCount s
+  expressions-are = ap (λ z. z .expressions) (laid .same)
+
+  pub nodes-are : c .nodes ≡ nodeCount s
+  nodes-are = ap (λ z. z .nodes) (laid .same)
 
   pub parts-are : c .expressions + c .nodes ≡ partCount s
   parts-are = ap (λ z. z .expressions + z .nodes) (laid .same)

@@ -1,7 +1,6 @@
 -- Laws that the proofs of several functions use, and the theorems of the crate.
 pub mod Layouts
 pub mod Values
-pub mod Counted
 pub mod Fields
 pub mod Reaching
 pub mod Sets
@@ -9,3 +8,4 @@ pub mod Entering
 pub mod ReachTables
 pub mod Views
 pub mod Scoping
+pub mod NodeSizes

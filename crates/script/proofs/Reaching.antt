@@ -17,6 +17,7 @@ use Rattle.prelude.specs.Course.{course, entry}
 use Rattle.prelude.proofs.Bools.{and-intro, and-left, and-right, or-cases, or-first, or-true, or-second, same-truth, by-cases, fails}
 use Rattle.prelude.proofs.Searches.{any-some, some-of-any}
 use Rattle.prelude.proofs.Courses.{earlier, not-earlier}
+use Rattle.prelude.proofs.Counts.{count-found, count-one}
 use Rattle.script.specs.declared.entries.Field.{Field}
 use Rattle.script.specs.Layout.{mostParts, nameCount, expressionCount, nodeCount, partCount}
 use Rattle.script.specs.Roles.{expression, child, newRegister, newSignal}
@@ -24,7 +25,6 @@ use Rattle.script.specs.Entries.{nameOf, isSession, node, fieldCount, fi
 use Rattle.script.specs.Uses.{fieldAt, allFields, usedBy, used, timesUsed}
 use Rattle.script.specs.Reach.{within, inBody, inReach, isNew, opens}
 use Rattle.script.specs.Refusals.{newOf, declares, ownerIsRight, kindFor, holds, holdsName, Sound, Joined}
-use Rattle.script.proofs.Counted.{count-found, count-one}
 use Rattle.script.proofs.Fields.{holds-child, holds-new-register, holds-new-signal, right-field}
 use Rattle.script.proofs.Fields as fields
 

@@ -33,7 +33,7 @@ occurs P (left o) r = occurs P o (r .0)
 occurs P (right o) r = occurs P o (r .1)
 occurs P (under o) r = occurs P o r
 
-module _ (s : List ℕ) (levels : ℕ) (ok : Checked s levels) where
+module _ (s : List ℕ) (ok : Checked s) where
   -- the names in reach in part q are in scope
   abbrev Covers : (ℕ → Bool) → ℕ → Type 0
   Covers scope q = (x : ℕ) → x < nameCount s → inReach s x q ≡ true → scope x ≡ true
@@ -62,7 +62,7 @@ module _ (s : List ℕ) (levels : ℕ) (ok : Checked s levels) where
     reads-all zero e h l c = absurd (not-suc-le-zero h)
     reads-all (suc n) e h l c =
         reads-view e c (λ j u. reads-all n j (omega (arith, u .part .before)) (u .known) (covers-part (u .part) c))
-        (expression-view s levels ok e l)
+        (expression-view s ok e l)
 
     reads : {q e : ℕ} → Covers scope q → UsesExpression s q e → ReadsIn (namesOf s) scope (expressionOf s e)
     reads {q} {e} c u x o = occurs (RegisterIn (namesOf s) scope) o (reads-all (suc e) e (omega arith) (u .known) (covers-part (u .part) c))
@@ -107,7 +107,7 @@ module _ (s : List ℕ) (levels : ℕ) (ok : Checked s levels) where
       scoped-view scope k h c
       (λ j new u.
       scoped-node n j (λ x. new x || scope x) (omega (arith, u .before)) (omega (arith, u .before)) (covers-part (u .part) c))
-      (node-view s levels ok k h)
+      (node-view s ok k h)
 
   pub tree-scoped : Scoped (namesOf s) (isSession s) (tree s)
   tree-scoped =

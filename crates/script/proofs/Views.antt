@@ -25,6 +25,7 @@ use Rattle.script.specs.Reach.{inReach, isUse, isNew, opens, isOutOfReac
 use Rattle.script.specs.Refusals.{holds, holdsName, kindFor}
 use Rattle.script.specs.Checked.{Checked}
 use Rattle.script.specs.Tree.{constantOf, expressionsFrom, noExpression, expressionOf, processesFrom, processOf}
+use Rattle.script.proofs.Layouts.{few-parts}
 use Rattle.script.proofs.Fields.{holds-expression, holds-child, holds-register, holds-signal, right-field, right-kind}
 use Rattle.script.proofs.Reaching.{opens-of, used-of, used-child, used-expression, field-of, Named, named, named-new, reach-used}
 
@@ -124,14 +125,7 @@ module _ (s : List ℕ) where
         partOf s (node s k) .kind ≡ 10 → processOf s k ≡ parallel (processOf s (a k)) (processOf s (b k)) →
         UsesNode k (a k) nothing → UsesNode k (b k) nothing → NodeView k
 
-module _ (s : List ℕ) (levels : ℕ) (ok : Checked s levels) where
-  few-parts : partCount s ≤ mostParts
-  few-parts =
-      let e = and-right (leb (nameCount s) mostNames) _ (ok .laid .few) in
-      let n = and-right (leb 1 (nodeCount s)) _ (and-right (leb (expressionCount s) mostExpressions) _ e) in
-      let m = leb-true (expressionCount s) mostExpressions (and-left (leb (expressionCount s) mostExpressions) _ e) in
-      omega (arith, m, leb-true (nodeCount s) mostNodes n)
-
+module _ (s : List ℕ) (ok : Checked s) where
   module _ (q : ℕ) (h : q < partCount s) (f : ℕ) (l : f < fieldCount) where
     uses-name :
         (r : ℕ) → fieldOf s q f .role ≡ r → isUse r ≡ true → holds s q (fieldOf s q f) ≡ holdsName s q (fieldOf s q f) →
@@ -169,7 +163,7 @@ module _ (s : List ℕ) (levels : ℕ) (ok : Checked s levels) where
           reach =
               λ x known.
               ap (inReach s x) (sym u)
-              ∙ reach-used s (ok .joined) i x (omega arith) (omega (arith, u, few-parts)) known
+              ∙ reach-used s (ok .joined) i x (omega arith) (omega (arith, u, few-parts (ok .laid))) known
               ∙ ap₂ (λ o k. o || inReach s x k) (opens-of s q f x l ∙ ap₂ (λ r r₀. brings r r₀ x) e e₀) (omega arith);
         }
 
@@ -215,7 +209,7 @@ module _ (s : List ℕ) (levels : ℕ) (ok : Checked s levels) where
     an-expression f l = uses-expression q inside f l
 
     -- the roles of the fields of a node of kind n
-    role : (n : ℕ) → partOf s q .kind ≡ n → (f : ℕ) → fieldOf s q f .role ≡ roleIn nodeRows n f
+    pub role : (n : ℕ) → partOf s q .kind ≡ n → (f : ℕ) → fieldOf s q f .role ≡ roleIn nodeRows n f
     role n e f = rw (le-ltb q (expressionCount s) (omega arith), e)
 
     abbrev made : ℕ → List (Proc ℕ) → Proc ℕ

@@ -6,5 +6,5 @@ pub mod Uses
 pub mod Reach
 pub mod Refusals
 pub mod Load
-pub mod Checked
 pub mod Tree
+pub mod Checked

@@ -1,7 +1,9 @@
 -- The names, expressions and processes that a file holds. 'Operands and child nodes have smaller numbers than their
 -- parent': so each is made of earlier ones.
+use mathlib.Core.Path.{_≡_}
+use mathlib.Core.Bool.{cond}
 use mathlib.Core.List.{List, [], _∷_}
-use Prim.Native.Nat.{ℕ, suc, _+_, _-_, _*_}
+use Prim.Native.Nat.{ℕ, suc, _+_, _-_, _*_, _<_}
 use lib.Dec.{eqb}
 use lib.IntN.{ℤ, pos}
 use lib.ListN.{getD}
@@ -10,7 +12,9 @@ use mir.Val.{toZ}
 use Rattle.prelude.specs.Course.{entry}
 use Rattle.language.specs.Syntax.{Names, Operator, add, subtract, multiply, divide, less, equal, Exp, constant, register, binary, negated, Proc, nil, assign, letIn, ifThenElse, while, sequence, emit, local, watching, when, parallel}
 use Rattle.script.specs.declared.entries.Part.{Part}
+use Rattle.script.specs.declared.entries.Field.{Field}
 use Rattle.script.specs.Layout.{nodeCount}
+use Rattle.script.specs.Roles.{child}
 use Rattle.script.specs.Entries.{nameOf, isSession, partOf, node}
 
 -- 'kind (0 register, 1 signal), level, owner'
@@ -89,3 +93,11 @@ size (local a δ p) = suc (size p)
 size (watching a p) = suc (size p)
 size (when a p) = suc (size p)
 size (parallel p q) = suc (size p + size q)
+
+-- what a field adds to the size of its node
+abbrev pub childSize : List ℕ → Field → ℕ
+childSize s x = cond (eqb (x .role) child) (size (processOf s (x .value))) 0
+
+-- a table that keeps for each of the first n nodes the size of its process
+abbrev pub KeepsSizes : List ℕ → ℕ → List ℕ → Type 0
+KeepsSizes s n sizes = (k : ℕ) → k < n → getD sizes k 0 ≡ size (processOf s k)

@@ -5,6 +5,7 @@ pub mod entries; // entries.rt: names, and the parts: expressions and nodes
 mod faults; // faults.rt: refusals 6, 7 and 8
 mod uses; // uses.rt: refusal 9
 mod reach; // reach.rt: refusal 10
+pub mod sizes; // sizes.rt: how many nodes each process has
 
 use crate::layout::Script;
 use prelude::Refusal;
