@@ -1,9 +1,9 @@
 -- What a right field holds, role by role.
 -- Assumes nothing.
-use mathlib.Core.Path.{_≡_, refl, sym, ap, _∙_, subst}
-use mathlib.Core.Bool.{Bool, true, false, _&&_}
+use mathlib.Core.Path.{_≡_, sym, _∙_}
+use mathlib.Core.Bool.{true, _&&_}
 use mathlib.Core.List.{List}
-use Prim.Native.Nat.{ℕ, _+_, _*_, _/_, _%_, _<_}
+use Prim.Native.Nat.{ℕ, _/_, _%_, _<_}
 use native.Mathlib.Omega.{arith}
 use lib.Dec.{eqb, ltb}
 use borrow.Author.Tests.{ltb-true, eqb-true}
@@ -14,7 +14,7 @@ use Rattle.script.specs.Layout.{mostParts, expressionCount, partCount}
 use Rattle.script.specs.Roles.{expression, child, register, signal, newRegister, newSignal}
 use Rattle.script.specs.Entries.{node, fieldCount, fieldOf, partOf}
 use Rattle.script.specs.Uses.{fieldAt, allFields, usedBy, used}
-use Rattle.script.specs.Refusals.{holds, holdsName, partIsRight, kindsFor, Sound}
+use Rattle.script.specs.Refusals.{holds, holdsName, kindsFor, Sound}
 
 module _ (s : List ℕ) (q : ℕ) (x : Field) where
   pub holds-expression : x .role ≡ expression → holds s q x ≡ (ltb (x .value) (expressionCount s) && ltb (x .value) q)

@@ -2,9 +2,9 @@
 -- node's own place, and the script has all nodes, since each part is used once.
 -- Assumes nothing.
 use mathlib.Core.Path.{_≡_, refl, sym, ap, ap₂, _∙_, subst}
-use mathlib.Core.Bool.{Bool, true, false, cond}
+use mathlib.Core.Bool.{true, false, cond}
 use mathlib.Core.List.{List}
-use Prim.Native.Nat.{ℕ, zero, suc, _+_, _-_, _*_, _/_, _%_, _≤_, _<_, suc-le-suc}
+use Prim.Native.Nat.{ℕ, zero, suc, _+_, _-_, _*_, _≤_, _<_, suc-le-suc}
 use native.Mathlib.Nat.{zero-mul, one-mul, add-zero, le-trans, le-of-eq, mul-le-mul-right}
 use native.Mathlib.Decide.{decLt, ℕ-discrete}
 use native.Mathlib.Omega.{arith}
@@ -20,13 +20,13 @@ use Rattle.script.specs.declared.entries.Field.{Field}
 use Rattle.script.specs.Layout.{mostParts, layoutOf, expressionCount, nodeCount, partCount}
 use Rattle.script.specs.Roles.{nodeRows, roleIn, expression, child}
 use Rattle.script.specs.Entries.{partOf, node, fieldCount, fieldOf, valueOf}
-use Rattle.script.specs.Uses.{fieldAt, allFields, usedBy, used, timesUsed}
+use Rattle.script.specs.Uses.{allFields, usedBy, used, timesUsed}
 use Rattle.script.specs.Refusals.{holds}
 use Rattle.script.specs.Checked.{Checked}
 use Rattle.script.specs.Tree.{processOf, tree, size, childSize, KeepsSizes}
 use Rattle.script.proofs.Layouts.{few-bounds, few-parts}
 use Rattle.script.proofs.Fields.{holds-expression, holds-child, right-field}
-use Rattle.script.proofs.Reaching.{field-of, used-of, used-expression, used-child, used-earlier}
+use Rattle.script.proofs.Reaching.{used-of, used-child, used-earlier}
 use Rattle.script.proofs.Views.{NodeView, aNil, anAssign, aLet, anIf, aWhile, aSequence, anEmit, aLocal, aWatching, aWhen, aParallel, node-view, role}
 
 module _ (s : List ℕ) (ok : Checked s) where

@@ -2,16 +2,15 @@
 -- So they can be found from the last part down.
 -- Assumes nothing.
 use mathlib.Core.Path.{_≡_, refl, sym, ap, _∙_, subst}
-use mathlib.Core.Bool.{Bool, true, false, cond, not, _&&_, _||_, true≢false, false≢true}
+use mathlib.Core.Bool.{Bool, true, false, not, _&&_, _||_, false≢true}
 use mathlib.Core.List.{List}
-use mathlib.Core.Logic.{_⊎_, inl, inr, ⊎-elim}
 use Prim.Native.Nat.{ℕ, zero, suc, _+_, _*_, _/_, _%_, _≤_, _<_}
 use native.Mathlib.Nat.{not-suc-le-zero}
 use native.Mathlib.Decide.{decLt, ℕ-discrete}
 use native.Mathlib.Omega.{arith}
 use lib.Dec.{eqb, ltb}
 use lib.ListN.{getD}
-use borrow.Author.Tests.{ltb-true, eqb-true, eq-eqb, not-true}
+use borrow.Author.Tests.{ltb-true, eqb-true, eq-eqb}
 use Rattle.prelude.specs.Search.{any}
 use Rattle.prelude.specs.Course.{course, entry}
 use Rattle.prelude.proofs.Bools.{and-intro, and-left, and-right, or-cases, or-first, or-true, or-second, same-truth, by-cases, fails}
@@ -20,11 +19,11 @@ use Rattle.prelude.proofs.Courses.{earlier, not-earlier}
 use Rattle.prelude.proofs.Counts.{count-found, count-one}
 use Rattle.script.specs.declared.entries.Field.{Field}
 use Rattle.script.specs.Layout.{mostParts, nameCount, expressionCount, nodeCount, partCount}
-use Rattle.script.specs.Roles.{expression, child, newRegister, newSignal}
+use Rattle.script.specs.Roles.{expression, child, newRegister}
 use Rattle.script.specs.Entries.{nameOf, isSession, node, fieldCount, fieldOf}
 use Rattle.script.specs.Uses.{fieldAt, allFields, usedBy, used, timesUsed}
 use Rattle.script.specs.Reach.{within, inBody, inReach, isNew, opens}
-use Rattle.script.specs.Refusals.{newOf, declares, ownerIsRight, kindFor, holds, holdsName, Sound, Joined}
+use Rattle.script.specs.Refusals.{newOf, declares, kindFor, holds, holdsName, Sound, Joined}
 use Rattle.script.proofs.Fields.{holds-child, holds-new-register, holds-new-signal, right-field}
 use Rattle.script.proofs.Fields as fields
 

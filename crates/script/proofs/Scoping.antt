@@ -1,18 +1,18 @@
 -- The tree of a checked file is scoped: at each part the names in reach are in scope.
 -- Assumes nothing.
 use mathlib.Core.Path.{_≡_, refl, sym, ap, _∙_, subst}
-use mathlib.Core.Bool.{Bool, true, false, _||_}
+use mathlib.Core.Bool.{Bool, true, _||_}
 use mathlib.Core.List.{List}
-use Prim.Native.Nat.{ℕ, zero, suc, _+_, _-_, _<_}
+use Prim.Native.Nat.{ℕ, zero, suc, _-_, _<_}
 use native.Mathlib.Nat.{not-suc-le-zero}
 use native.Mathlib.Omega.{arith}
 use lib.Dec.{eqb}
-use borrow.Author.Tests.{ne-eqb, eq-eqb}
+use borrow.Author.Tests.{ne-eqb}
 use Rattle.prelude.proofs.Bools.{or-cases, or-first, or-true}
-use Rattle.language.specs.Syntax.{Names, Exp, constant, register, binary, negated, Occurs, here, left, right, under, Proc}
-use Rattle.language.specs.Scope.{withName, RegisterIn, SignalIn, ReadsIn, Declares, Scoped}
-use Rattle.script.specs.Layout.{layoutOf, nameCount, expressionCount, nodeCount, partCount}
-use Rattle.script.specs.Entries.{nameOf, session, isSession, partOf, node}
+use Rattle.language.specs.Syntax.{Exp, constant, register, binary, negated, Occurs, here, left, right, under}
+use Rattle.language.specs.Scope.{RegisterIn, SignalIn, ReadsIn, Declares, Scoped}
+use Rattle.script.specs.Layout.{layoutOf, nameCount, expressionCount, nodeCount}
+use Rattle.script.specs.Entries.{nameOf, session, isSession, node}
 use Rattle.script.specs.Reach.{inReach}
 use Rattle.script.specs.Checked.{Checked}
 use Rattle.script.specs.Tree.{namesOf, expressionOf, processOf, tree}

@@ -1,33 +1,31 @@
 -- The expression or process of a number in a checked file, kind by kind, with what is known of its fields.
 -- Assumes nothing.
 use mathlib.Core.Path.{_≡_, refl, sym, ap, ap₂, _∙_, subst}
-use mathlib.Core.Bool.{Bool, true, false, cond, not, _&&_, _||_}
-use mathlib.Core.List.{List, [], _∷_}
-use Prim.Native.Nat.{ℕ, zero, suc, _+_, _*_, _/_, _%_, _≤_, _<_}
+use mathlib.Core.Bool.{Bool, true, false, cond, _&&_, _||_}
+use mathlib.Core.List.{List}
+use Prim.Native.Nat.{ℕ, _+_, _*_, _<_}
 use native.Mathlib.Omega.{arith}
-use lib.Dec.{eqb, leb, ltb}
+use lib.Dec.{eqb, ltb}
 use lib.ListN.{getD}
-use borrow.Author.Tests.{ltb-true, leb-true, le-ltb, lt-ltb, eqb-true, not-false}
+use borrow.Author.Tests.{ltb-true, le-ltb, lt-ltb, not-false}
 use Rattle.prelude.specs.Course.{course, entry}
 use Rattle.prelude.proofs.Bools.{and-left, and-right, and-second}
 use Rattle.prelude.proofs.Each.{each}
 use Rattle.prelude.proofs.Searches.{none-of-any}
 use Rattle.prelude.proofs.Courses.{earlier}
 use Rattle.language.specs.Syntax.{Exp, Operator, add, subtract, multiply, divide, less, equal, constant, register, binary, negated, Proc, nil, assign, letIn, ifThenElse, while, sequence, emit, local, watching, when, parallel}
-use Rattle.script.specs.declared.entries.Part.{Part}
-use Rattle.script.specs.declared.entries.Field.{Field}
-use Rattle.script.specs.Layout.{mostNames, mostExpressions, mostNodes, mostParts, nameCount, expressionCount, nodeCount, partCount}
+use Rattle.script.specs.Layout.{nameCount, expressionCount, nodeCount, partCount}
 use Rattle.script.specs.Roles as roles
 use Rattle.script.specs.Roles.{expressionRows, nodeRows, roleIn}
-use Rattle.script.specs.Entries.{nameOf, partOf, node, fieldCount, fieldOf, valueOf}
-use Rattle.script.specs.Uses.{fieldAt, allFields, usedBy, used}
-use Rattle.script.specs.Reach.{inReach, isUse, isNew, opens, isOutOfReach, missesName}
+use Rattle.script.specs.Entries.{nameOf, partOf, node, fieldCount, fieldOf}
+use Rattle.script.specs.Uses.{used}
+use Rattle.script.specs.Reach.{inReach, isUse, isNew, isOutOfReach, missesName}
 use Rattle.script.specs.Refusals.{holds, holdsName, kindFor}
 use Rattle.script.specs.Checked.{Checked}
 use Rattle.script.specs.Tree.{constantOf, expressionsFrom, noExpression, expressionOf, processesFrom, processOf}
 use Rattle.script.proofs.Layouts.{few-parts}
 use Rattle.script.proofs.Fields.{holds-expression, holds-child, holds-register, holds-signal, right-field, right-kind}
-use Rattle.script.proofs.Reaching.{opens-of, used-of, used-child, used-expression, field-of, Named, named, named-new, reach-used}
+use Rattle.script.proofs.Reaching.{opens-of, used-of, used-child, used-expression, named, named-new, reach-used}
 
 -- the kind of a binary expression
 abbrev pub code : Operator → ℕ

@@ -1,6 +1,6 @@
 -- What a file that is not refused guarantees, as one record: the walks of later layers ask for it.
 use mathlib.Core.Path.{_≡_}
-use mathlib.Core.Bool.{true, false}
+use mathlib.Core.Bool.{false}
 use mathlib.Core.List.{List}
 use Prim.Native.Nat.{ℕ, _≤_, _<_}
 use Rattle.script.specs.Layout.{nameCount, partCount, layoutOf, Laid}
