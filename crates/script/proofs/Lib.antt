@@ -1,5 +1,7 @@
 -- Laws that the proofs of several functions use, and the theorems of the crate.
 pub mod Layouts
+pub mod Refusing
+pub mod Accepting
 pub mod Values
 pub mod Fields
 pub mod Reaching

@@ -1,14 +1,16 @@
 -- What a file that is not refused guarantees, as one record: the walks of later layers ask for it.
 use mathlib.Core.Path.{_≡_}
-use mathlib.Core.Bool.{false}
+use mathlib.Core.Bool.{true, false}
 use mathlib.Core.List.{List}
 use Prim.Native.Nat.{ℕ, _≤_, _<_}
-use Rattle.script.specs.Layout.{nameCount, partCount, layoutOf, Laid}
+use Rattle.script.specs.Layout.{nameCount, partCount, tailIsRight, layoutOf, Laid}
 use Rattle.script.specs.Entries.{nameOf}
 use Rattle.script.specs.Reach.{isOutOfReach}
 use Rattle.script.specs.Refusals.{Joined}
 
 pub record Checked (s : List ℕ) : Type 0 where
+  -- its tail has the mark, and points at itself and at lists of whole entries
+  pub tail : tailIsRight s ≡ true
   -- its lists touch and are not too long
   pub laid : Laid s (layoutOf s)
   -- a name is a register or a signal
