@@ -62,6 +62,7 @@ module _ (f : ℕ → Bool) where
       last : (j : ℕ) → j < suc n → f j ≡ true → suc (count f n) ≡ 1 → j ≡ n
       last j h e q =
           ⊎-elim (λ r. r) (λ l. absurd (omega (arith, q, count-some n j l e))) (eq-or-lt-of-le (le-of-suc-le-suc h))
+
       before : (j : ℕ) → j < suc n → f j ≡ true → f n ≡ false → j < n
       before j h e t =
           ⊎-elim (λ r. absurd (true≢false (sym e ∙ rw r t))) (λ l. l) (eq-or-lt-of-le (le-of-suc-le-suc h))

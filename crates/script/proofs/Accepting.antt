@@ -32,8 +32,7 @@ module _ (s : List ℕ) (levels : ℕ) where
       let oe = passes-first _ (expressionCount s) (refusedBy 10) _ (λ _. refl) (ln .1) in
       let on = passes-first _ (nodeCount s) (λ k. refusedBy 10 (placeOfNode k)) _ (λ _. refl) (oe .1) in
       let some = few-bounds (layoutOf s) (c .0) .1 .1 .0 in
-      let right : (y : ℕ) → y < nameCount s → nameIsRight s levels y ≡ true = λ y l. not-false _ (x .0 y l) in
-      (
+      let right : (y : ℕ) → y < nameCount s → nameIsRight s levels y ≡ true = λ y l. not-false _ (x .0 y l) in (
         record {
           tail = t .0;
           laid = laid s (t .0) (c .0);
@@ -42,8 +41,8 @@ module _ (s : List ℕ) (levels : ℕ) where
           reach = both s (isOutOfReach s) (nodeCount s) (oe .0) (on .0);
         },
         λ y l.
-        ltb-true _ _
-        (and-left (ltb (nameOf s y .level) levels) _ (and-right (leb (nameOf s y .kind) 1) _ (right y l))),
+            ltb-true _ _
+            (and-left (ltb (nameOf s y .level) levels) _ (and-right (leb (nameOf s y .kind) 1) _ (right y l))),
       )
 
   passes-all : Checked s → Levelled s levels → refusal s levels ≡ notRefused

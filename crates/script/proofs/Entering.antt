@@ -7,13 +7,13 @@ use Prim.Native.Nat.{ℕ, _/_, _%_, _<_}
 use lib.Dec.{eqb}
 use borrow.Author.Tests.{eqb-true}
 use Rattle.prelude.proofs.Bools.{or-cases}
-use Rattle.script.specs.declared.entries.Field.{Field}
+use Rattle.script.specs.declared.fields.Field.{Field}
 use Rattle.script.specs.Layout.{partCount}
 use Rattle.script.specs.Roles.{register, child}
 use Rattle.script.specs.Entries.{fieldCount, fieldOf}
 use Rattle.script.specs.Reach.{isUse, isNew, inReach, missesName, opens}
 use Rattle.script.specs.Refusals.{Sound}
-use Rattle.script.proofs.Fields.{holds-register, holds-signal}
+use Rattle.script.proofs.Holding.{holds-register, holds-signal}
 use Rattle.script.proofs.Reaching.{Named, named}
 
 -- the names of a set and those that field i opens

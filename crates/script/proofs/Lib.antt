@@ -3,7 +3,7 @@ pub mod Layouts
 pub mod Refusing
 pub mod Accepting
 pub mod Values
-pub mod Fields
+pub mod Holding
 pub mod Reaching
 pub mod Sets
 pub mod Entering

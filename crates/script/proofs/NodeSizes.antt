@@ -16,7 +16,7 @@ use Rattle.prelude.specs.Search.{count}
 use Rattle.prelude.proofs.Bools.{and-left, by-cases}
 use Rattle.prelude.proofs.Sums.{sum, sum-none, sum-more, sum-nothing, sum-same, sum-below, sum-both, sum-longer, sum-threes, sum-by-value}
 use Rattle.prelude.proofs.Counts.{count-none, count-longer}
-use Rattle.script.specs.declared.entries.Field.{Field}
+use Rattle.script.specs.declared.fields.Field.{Field}
 use Rattle.script.specs.Layout.{mostParts, layoutOf, expressionCount, nodeCount, partCount}
 use Rattle.script.specs.Roles.{nodeRows, roleIn, expression, child}
 use Rattle.script.specs.Entries.{partOf, node, fieldCount, fieldOf, valueOf}
@@ -25,7 +25,7 @@ use Rattle.script.specs.Refusals.{holds}
 use Rattle.script.specs.Checked.{Checked}
 use Rattle.script.specs.Tree.{processOf, tree, size, childSize, KeepsSizes}
 use Rattle.script.proofs.Layouts.{few-bounds, few-parts}
-use Rattle.script.proofs.Fields.{holds-expression, holds-child, right-field}
+use Rattle.script.proofs.Holding.{holds-expression, holds-child, right-field}
 use Rattle.script.proofs.Reaching.{used-of, used-child, used-earlier}
 use Rattle.script.proofs.Views.{NodeView, aNil, anAssign, aLet, anIf, aWhile, aSequence, anEmit, aLocal, aWatching, aWhen, aParallel, node-view, role}
 
@@ -182,7 +182,7 @@ module _ (s : List ℕ) (ok : Checked s) where
           total-size (suc m) h,
           up-to,
           sum-below (λ q. times (suc m) q * partSize q) partSize m
-          (λ q l. le-trans (mul-le-mul-right (partSize q) (used-times q l)) (le-of-eq (one-mul (partSize q)))),
+              (λ q l. le-trans (mul-le-mul-right (partSize q) (used-times q l)) (le-of-eq (one-mul (partSize q)))),
         )
 
     last-part : suc m ≡ partCount s → partSize m ≡ nodeCount s
@@ -195,8 +195,8 @@ module _ (s : List ℕ) (ok : Checked s) where
           total-size (suc m) h,
           up-to,
           sum-same (λ q. times (suc m) q * partSize q) partSize m
-          (λ q l.
-          ap (λ n. n * partSize q) (ap (count (λ i. eqb (used s i) q)) all ∙ ok .joined .once q (omega arith)) ∙ one-mul (partSize q)),
+              (λ q l.
+              ap (λ n. n * partSize q) (ap (count (λ i. eqb (used s i) q)) all ∙ ok .joined .once q (omega arith)) ∙ one-mul (partSize q)),
         )
 
   pub size-within : (k : ℕ) → k < nodeCount s → nodeSize k ≤ suc k

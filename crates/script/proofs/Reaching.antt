@@ -17,15 +17,15 @@ use Rattle.prelude.proofs.Bools.{and-intro, and-left, and-right, or-cases, or-f
 use Rattle.prelude.proofs.Searches.{any-some, some-of-any}
 use Rattle.prelude.proofs.Courses.{earlier, not-earlier}
 use Rattle.prelude.proofs.Counts.{count-found, count-one}
-use Rattle.script.specs.declared.entries.Field.{Field}
+use Rattle.script.specs.declared.fields.Field.{Field}
 use Rattle.script.specs.Layout.{mostParts, nameCount, expressionCount, nodeCount, partCount}
 use Rattle.script.specs.Roles.{expression, child, newRegister}
 use Rattle.script.specs.Entries.{nameOf, isSession, node, fieldCount, fieldOf}
 use Rattle.script.specs.Uses.{fieldAt, allFields, usedBy, used, timesUsed}
 use Rattle.script.specs.Reach.{within, inBody, inReach, isNew, opens}
 use Rattle.script.specs.Refusals.{newOf, declares, kindFor, holds, holdsName, Sound, Joined}
-use Rattle.script.proofs.Fields.{holds-child, holds-new-register, holds-new-signal, right-field}
-use Rattle.script.proofs.Fields as fields
+use Rattle.script.proofs.Holding.{holds-child, holds-new-register, holds-new-signal, right-field}
+use Rattle.script.proofs.Holding as fields
 
 module _ (s : List ℕ) where
   -- `within` at a part, from what it says of the parts before
@@ -163,7 +163,7 @@ module _ (s : List ℕ) (sound : Sound s) where
   pub owned : (x : ℕ) → x < nameCount s → isSession s x ≡ false → Owned x
   owned x h n =
       let d : declares s (nameOf s x .owner) (nameOf s x .kind) x ≡ true =
-            sym (or-second (isSession s x) _ n) ∙ sound .owners x h in
+      sym (or-second (isSession s x) _ n) ∙ sound .owners x h in
       let r : Bool = eqb (fieldOf s (node s (nameOf s x .owner)) 0 .role) (newOf (nameOf s x .kind)) in
       let right = and-right (ltb (nameOf s x .owner) (nodeCount s)) _ d in
       record {
@@ -248,8 +248,8 @@ module _ (s : List ℕ) (joined : Joined s) where
         let n = and-left (isNew (fieldOf s p 0 .role)) _ right in
         let e : fieldOf s p 0 .value ≡ x = eqb-true _ _ (and-right (isNew (fieldOf s p 0 .role)) _ right) in
         let d : node s (nameOf s x .owner) ≡ p =
-              subst (λ y. node s (nameOf s y .owner) ≡ p) e
-              (named-new s (joined .sound) p 0 (omega arith) (omega arith) n .own n) in
+        subst (λ y. node s (nameOf s y .owner) ≡ p) e
+        (named-new s (joined .sound) p 0 (omega arith) (omega arith) n .own n) in
         in-body s x (used s i) (i % fieldCount) (omega arith)
         (subst (λ k. eqb (fieldOf s k (i % fieldCount) .role) child ≡ true) (sym d) (and-left c _ o))
         (subst (λ k. within s (used s k) (used s i) ≡ true)

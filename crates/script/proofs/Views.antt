@@ -24,7 +24,7 @@ use Rattle.script.specs.Refusals.{holds, holdsName, kindFor}
 use Rattle.script.specs.Checked.{Checked}
 use Rattle.script.specs.Tree.{constantOf, expressionsFrom, noExpression, expressionOf, processesFrom, processOf}
 use Rattle.script.proofs.Layouts.{few-parts}
-use Rattle.script.proofs.Fields.{holds-expression, holds-child, holds-register, holds-signal, right-field, right-kind}
+use Rattle.script.proofs.Holding.{holds-expression, holds-child, holds-register, holds-signal, right-field, right-kind}
 use Rattle.script.proofs.Reaching.{opens-of, used-of, used-child, used-expression, named, named-new, reach-used}
 
 -- the kind of a binary expression
@@ -186,7 +186,7 @@ module _ (s : List ℕ) (ok : Checked s) where
     uses-node f r₀ l e e₀ =
         let v : ℕ = fieldOf s q f .value in
         let t : node s v < q =
-              ltb-true _ _ (sym (holds-child s q (fieldOf s q f) e) ∙ right-field s (ok .joined .sound) q f (omega arith) l) in
+        ltb-true _ _ (sym (holds-child s q (fieldOf s q f) e) ∙ right-field s (ok .joined .sound) q f (omega arith) l) in
         record {
           before = omega arith;
           part =
@@ -276,18 +276,37 @@ module _ (s : List ℕ) (ok : Checked s) where
 
     pub node-view : NodeView s k
     node-view =
-        each (λ n. partOf s q .kind ≡ n → NodeView s k) roles.nodeKinds
-        (((((((((((tt, λ e. aNil e (process 0 e)),
-        λ e. anAssign e (process 1 e) (a-register (role 1 e 0)) (an-expression 1 (omega arith) (role 1 e 1))),
-        let-view),
-        if-view),
-        while-view),
-        sequence-view),
-        λ e. anEmit e (process 6 e) (a-signal (role 6 e 0))),
-        local-view),
-        watching-view),
-        when-view),
-        parallel-view)
+        each (λ n. partOf s q .kind ≡ n → NodeView s k) roles.nodeKinds (
+          (
+            (
+              (
+                (
+                  (
+                    (
+                      (
+                        (
+                          (
+                            (tt, λ e. aNil e (process 0 e)),
+                            λ e. anAssign e (process 1 e) (a-register (role 1 e 0)) (an-expression 1 (omega arith) (role 1 e 1)),
+                          ),
+                          let-view,
+                        ),
+                        if-view,
+                      ),
+                      while-view,
+                    ),
+                    sequence-view,
+                  ),
+                  λ e. anEmit e (process 6 e) (a-signal (role 6 e 0)),
+                ),
+                local-view,
+              ),
+              watching-view,
+            ),
+            when-view,
+          ),
+          parallel-view,
+        )
         (partOf s q .kind)
         kind-below
         refl
@@ -336,20 +355,35 @@ module _ (s : List ℕ) (ok : Checked s) where
 
     pub expression-view : ExpressionView s e
     expression-view =
-        each (λ n. partOf s e .kind ≡ n → ExpressionView s e) roles.expressionKinds
-        (((((((((tt, λ q. aConstant q (expression 0 q)),
-        λ q.
-        aRegister q (expression 1 q)
-        (uses-name e within-parts 0 (omega arith) roles.register (role-in 1 q 0) refl (holds-register s e (fieldOf s e 0) (role-in 1 q 0)))),
-        binary-view add refl refl (λ _. refl)),
-        binary-view subtract refl refl (λ _. refl)),
-        binary-view multiply refl refl (λ _. refl)),
-        binary-view divide refl refl (λ _. refl)),
-        binary-view less refl refl (λ _. refl)),
-        binary-view equal refl refl (λ _. refl)),
-        λ q.
-        let only = uses-expression e within-parts 0 (omega arith) (role-in 8 q 0) in
-        aNegated q (expression 8 q ∙ ap negated (operand only)) only)
+        each (λ n. partOf s e .kind ≡ n → ExpressionView s e) roles.expressionKinds (
+          (
+            (
+              (
+                (
+                  (
+                    (
+                      (
+                        (tt, λ q. aConstant q (expression 0 q)),
+                        λ q.
+                            aRegister q (expression 1 q)
+                            (uses-name e within-parts 0 (omega arith) roles.register (role-in 1 q 0) refl (holds-register s e (fieldOf s e 0) (role-in 1 q 0))),
+                      ),
+                      binary-view add refl refl (λ _. refl),
+                    ),
+                    binary-view subtract refl refl (λ _. refl),
+                  ),
+                  binary-view multiply refl refl (λ _. refl),
+                ),
+                binary-view divide refl refl (λ _. refl),
+              ),
+              binary-view less refl refl (λ _. refl),
+            ),
+            binary-view equal refl refl (λ _. refl),
+          ),
+          λ q.
+              let only = uses-expression e within-parts 0 (omega arith) (role-in 8 q 0) in
+              aNegated q (expression 8 q ∙ ap negated (operand only)) only,
+        )
         (partOf s e .kind)
         kind-below
         refl

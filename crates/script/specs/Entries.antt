@@ -6,7 +6,7 @@ use lib.Dec.{eqb, ltb}
 use lib.ListN.{getD}
 use Rattle.script.specs.declared.entries.Name.{Name}
 use Rattle.script.specs.declared.entries.Part.{Part}
-use Rattle.script.specs.declared.entries.Field.{Field}
+use Rattle.script.specs.declared.fields.Field.{Field}
 use Rattle.script.specs.Layout.{wordAt, expressionsAt, expressionCount}
 use Rattle.script.specs.Roles.{expressionRows, nodeRows, roleIn}
 

@@ -7,7 +7,7 @@ use lib.Dec.{eqb, leb, ltb}
 use Rattle.prelude.specs.declared.Refusal.{Refusal}
 use Rattle.prelude.specs.Refusals.{refusedBy, notRefused, passes}
 use Rattle.prelude.specs.Search.{first, all}
-use Rattle.script.specs.declared.entries.Field.{Field}
+use Rattle.script.specs.declared.fields.Field.{Field}
 use Rattle.script.specs.Layout.{tailIsRight, countsAreRight, layoutOf, nameCount, expressionCount, nodeCount, partCount}
 use Rattle.script.specs.Roles.{unused, register, newRegister, newSignal, expression, child, half, expressionKinds, nodeKinds}
 use Rattle.script.specs.Entries.{nameOf, isSession, partOf, node, fieldCount, fieldOf}

@@ -12,7 +12,7 @@ use mir.Val.{toZ}
 use Rattle.prelude.specs.Course.{entry}
 use Rattle.language.specs.Syntax.{Names, add, subtract, multiply, divide, less, equal, Exp, constant, register, binary, negated, Proc, nil, assign, letIn, ifThenElse, while, sequence, emit, local, watching, when, parallel}
 use Rattle.script.specs.declared.entries.Part.{Part}
-use Rattle.script.specs.declared.entries.Field.{Field}
+use Rattle.script.specs.declared.fields.Field.{Field}
 use Rattle.script.specs.Layout.{nodeCount}
 use Rattle.script.specs.Roles.{child}
 use Rattle.script.specs.Entries.{nameOf, isSession, partOf, node}

@@ -1,12 +1,10 @@
 // Names, and the parts, which are the expressions and then the nodes.
 use crate::layout::Script;
-use crate::layout::word_at;
-use crate::roles::expression_role;
-use crate::roles::node_role;
+use crate::tail::word_at;
 ghost use mathlib.Core.Path.{_≡_};
 ghost use Prim.Native.Nat.{_+_, _<_};
 ghost use Rattle.script.specs.Layout.{Laid};
-ghost use Rattle.script.specs.Entries.{nameOf, partOf, fieldCount, valueOf, roleOf, fieldIn, fieldOf};
+ghost use Rattle.script.specs.Entries.{nameOf, partOf};
 
 pub struct Name {
     pub kind: usize,
@@ -26,12 +24,6 @@ pub struct Part {
 impl Part {
     // a, b and c.
     pub const FIELDS: usize = 3;
-}
-
-// One of the fields a, b, c.
-pub struct Field {
-    pub role: u8,
-    pub value: usize,
 }
 
 // The owner of a session name.
@@ -61,44 +53,4 @@ pub fn part_at(s: &[u8], c: Script, q: usize) -> Part
         b: word_at(s, at + 4),
         c: word_at(s, at + 6),
     }
-}
-
-fn value_of(p: Part, f: usize) -> usize
-    ensures { λ r. ⌜ r ≡ valueOf p f ⌝ }
-{
-    if f == 0 {
-        return p.a;
-    }
-    if f == 1 {
-        return p.b;
-    }
-    p.c
-}
-
-fn role_of(c: Script, p: Part, q: usize, f: usize) -> u8
-    requires { ⌜ f < fieldCount ⌝ }
-    ensures { λ r. ⌜ r ≡ roleOf (c .expressions) q p f ⌝ }
-{
-    if q < c.expressions {
-        return expression_role(p.kind, f);
-    }
-    node_role(p.kind, f)
-}
-
-fn field_of(c: Script, p: Part, q: usize, f: usize) -> Field
-    requires { ⌜ f < fieldCount ⌝ }
-    ensures { λ r. ⌜ r ≡ fieldIn (c .expressions) q p f ⌝ }
-{
-    Field {
-        role: role_of(c, p, q, f),
-        value: value_of(p, f),
-    }
-}
-
-// Field f of part q, from the file.
-pub fn field_at(s: &[u8], c: Script, q: usize, f: usize) -> Field
-    requires { ⌜ Laid (now s) c × ((q < c .expressions + c .nodes) × (f < fieldCount)) ⌝ }
-    ensures { λ r. ⌜ r ≡ fieldOf (now (s .entry)) q f ⌝ }
-{
-    field_of(c, part_at(s, c, q), q, f)
 }

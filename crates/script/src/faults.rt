@@ -1,12 +1,12 @@
 // What is wrong with a name, an expression or a node by itself: refusals 6, 7 and 8.
-use crate::layout::Script;
-use crate::roles;
-use crate::entries::SESSION;
-use crate::entries::Field;
 use crate::entries::Part;
+use crate::entries::SESSION;
 use crate::entries::name_at;
 use crate::entries::part_at;
-use crate::entries::field_at;
+use crate::fields::Field;
+use crate::fields::field_at;
+use crate::layout::Script;
+use crate::roles;
 ghost use mathlib.Core.Path.{_≡_};
 ghost use mathlib.Core.Bool.{not};
 ghost use Prim.Native.Nat.{_+_, _<_, _≤_};

@@ -1,7 +1,9 @@
 // The script file: any bytes in; out comes a checked script, or a refusal.
-pub mod layout; // layout.rt: where the lists stand, refusals 4 and 5
-pub mod roles; // roles.rt: what the fields of each kind hold
+pub mod layout; // layout.rt: the layout by value, with the limits
+mod tail; // tail.rt: the layout from the tail, refusals 4 and 5
+mod roles; // roles.rt: what the fields of each kind hold
 pub mod entries; // entries.rt: names, and the parts: expressions and nodes
+mod fields; // fields.rt: the fields of a part
 mod faults; // faults.rt: refusals 6, 7 and 8
 mod uses; // uses.rt: refusal 9
 mod reach; // reach.rt: refusal 10
@@ -63,11 +65,11 @@ fn join_refusal(s: &[u8], c: Script) -> Refusal
 fn refusal(s: &[u8], levels: usize) -> Refusal
     ensures { λ r. ⌜ r ≡ refusal (now (s .entry)) levels ⌝ }
 {
-    if !layout::tail_is_right(s) {
+    if !tail::tail_is_right(s) {
         return refused(4, 0);
     }
-    let c = layout::layout_of(s);
-    if !layout::counts_are_right(c) {
+    let c = tail::layout_of(s);
+    if !tail::counts_are_right(c) {
         return refused(5, 0);
     }
     let e = c.expressions;
@@ -105,6 +107,6 @@ pub fn load(s: &[u8], levels: usize) -> Loaded
     }
     Loaded {
         refusal,
-        script: layout::layout_of(s),
+        script: tail::layout_of(s),
     }
 }

@@ -1,11 +1,11 @@
 // Where owned names are used: refusal 10.
+use crate::entries::Part;
+use crate::entries::SESSION;
+use crate::entries::name_at;
+use crate::faults::is_new;
+use crate::fields::field_at;
 use crate::layout::Script;
 use crate::roles;
-use crate::entries::SESSION;
-use crate::entries::Part;
-use crate::entries::name_at;
-use crate::entries::field_at;
-use crate::faults::is_new;
 use crate::uses::used_at;
 ghost use mathlib.Core.Path.{_≡_};
 ghost use mathlib.Core.Bool.{_||_};
@@ -124,7 +124,13 @@ fn is_out_of_reach(s: &[u8], c: Script, sets: &[u64; Script::MAX_PARTS], q: usiz
 }
 
 // Of the n parts from part `from` on, the smallest that uses a name out of reach by its number among them, or n.
-pub fn first_out_of_reach(s: &[u8], c: Script, sets: &[u64; Script::MAX_PARTS], from: usize, n: usize) -> usize
+pub fn first_out_of_reach(
+    s: &[u8],
+    c: Script,
+    sets: &[u64; Script::MAX_PARTS],
+    from: usize,
+    n: usize,
+) -> usize
     requires { ⌜ Laid (now s) c × (Sound (now s) × (KeepsReach (now s) (now sets) × (from + n ≤ c .expressions + c .nodes))) ⌝ }
     ensures { λ r. ⌜ r ≡ first (λ k. isOutOfReach (now (s .entry)) (from + k)) n ⌝ }
 {

@@ -7,9 +7,11 @@ ghost use Rattle.script.specs.Roles.{expressionRows, nodeRows, roleIn};
 pub const UNUSED: u8 = 0;
 // The number of a register, or of a signal, that is used.
 pub const REGISTER: u8 = 1;
+
 pub const SIGNAL: u8 = 2;
 // The number of a register, or of a signal, that is declared.
 pub const NEW_REGISTER: u8 = 3;
+
 pub const NEW_SIGNAL: u8 = 4;
 // The number of an expression.
 pub const EXPRESSION: u8 = 5;
@@ -19,6 +21,7 @@ pub const CHILD: u8 = 6;
 pub const HALF: u8 = 7;
 
 pub const EXPRESSION_KINDS: usize = 9;
+
 pub const NODE_KINDS: usize = 11;
 
 const EXPRESSION_ROWS: [[u8; 3]; 9] = [

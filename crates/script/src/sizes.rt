@@ -1,8 +1,8 @@
 // The sizes of a checked script's processes: how many nodes each has.
+use crate::entries::Part;
+use crate::fields::field_at;
 use crate::layout::Script;
 use crate::roles;
-use crate::entries::Part;
-use crate::entries::field_at;
 ghost use mathlib.Core.Path.{_≡_};
 ghost use Prim.Native.Nat.{_+_, _<_};
 ghost use Rattle.script.specs.Layout.{Laid};

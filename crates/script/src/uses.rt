@@ -1,9 +1,9 @@
 // How often each expression and each node is used: refusal 9.
+use crate::entries::Part;
+use crate::fields::Field;
+use crate::fields::field_at;
 use crate::layout::Script;
 use crate::roles;
-use crate::entries::Field;
-use crate::entries::Part;
-use crate::entries::field_at;
 ghost use mathlib.Core.Path.{_≡_};
 ghost use mathlib.Core.Bool.{not};
 ghost use lib.Dec.{eqb};

@@ -33,12 +33,11 @@ field-at-requires c κs = search needs
 
 holds-requires : tie.Need-holds-requires Inv-loop μ-loop
 holds-requires c κs =
-    let start = c .before .before .before .before in
-    (
+    let start = c .before .before .before .before in (
       start .pre .0,
       rw (c .field-at .ensures)
-      (value-fits (start .args .s .now) (c .before .before .before .shared-slice-known .given) (start .args .q)
-      (c .before .before .loop .f)),
+          (value-fits (start .args .s .now) (c .before .before .before .shared-slice-known .given) (start .args .q)
+          (c .before .before .loop .f)),
     )
 
 returns : tie.Need-returns Inv-loop μ-loop
@@ -57,7 +56,7 @@ loop-again : tie.Need-loop-again Inv-loop μ-loop
 loop-again c = (
   search needs,
   below-more _ _ (c .before .before .before .before .loop .inv .1)
-  (sym (held (c .before)) ∙ not-false _ (c .if1 .left)),
+      (sym (held (c .before)) ∙ not-false _ (c .if1 .left)),
 )
 
 returns-2 : tie.Need-returns-2 Inv-loop μ-loop

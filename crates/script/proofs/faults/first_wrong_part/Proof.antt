@@ -42,7 +42,7 @@ loop-again : tie.Need-loop-again Inv-loop μ-loop
 loop-again c = (
   search needs,
   below-more _ _ (c .before .before .before .loop .inv .1)
-  (ap not (sym (c .before .part-is-right .ensures)) ∙ c .if1 .left),
+      (ap not (sym (c .before .part-is-right .ensures)) ∙ c .if1 .left),
 )
 
 returns-2 : tie.Need-returns-2 Inv-loop μ-loop

@@ -45,8 +45,7 @@ loop-less c = search needs
 
 loop-again : tie.Need-loop-again Inv-loop μ-loop
 loop-again c =
-    let loop = c .before .before .before .loop in
-    (
+    let loop = c .before .before .before .loop in (
       search needs,
       (
         length-set (loop .sizes) (loop .k) (c .size-at .result) ∙ loop .inv .1 .0,

@@ -1,7 +1,7 @@
 -- `value_of`: each way out decides one test of the definition.
 use borrow.Author.Tests.{eq-eqb, ne-eqb}
-use Rattle.script.proofs.entries.value_of.Statement.{statement}
-use Rattle.script.proofs.entries.value_of.Tie as tie
+use Rattle.script.proofs.fields.value_of.Statement.{statement}
+use Rattle.script.proofs.fields.value_of.Tie as tie
 
 returns : tie.Need-returns
 returns c = simp (eq-eqb _ _ (c .if1 .taken))

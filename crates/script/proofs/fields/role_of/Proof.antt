@@ -1,8 +1,8 @@
 -- `role_of`: the table is the one that the definition chooses.
 use borrow.Author.Tests.{lt-ltb, le-ltb}
 use borrow.Author.Needs.{needs}
-use Rattle.script.proofs.entries.role_of.Statement.{statement}
-use Rattle.script.proofs.entries.role_of.Tie as tie
+use Rattle.script.proofs.fields.role_of.Statement.{statement}
+use Rattle.script.proofs.fields.role_of.Tie as tie
 
 expression-role-requires : tie.Need-expression-role-requires
 expression-role-requires c κs = search needs

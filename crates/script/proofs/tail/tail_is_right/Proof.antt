@@ -2,8 +2,8 @@
 use mathlib.Core.Path.{sym, _∙_}
 use borrow.Author.Tests.{le-leb, lt-leb, eq-eqb, ne-eqb}
 use borrow.Author.Needs.{needs}
-use Rattle.script.proofs.layout.tail_is_right.Statement.{statement}
-use Rattle.script.proofs.layout.tail_is_right.Tie as tie
+use Rattle.script.proofs.tail.tail_is_right.Statement.{statement}
+use Rattle.script.proofs.tail.tail_is_right.Tie as tie
 
 returns : tie.Need-returns
 returns c = simp (lt-leb _ _ (c .if1 .taken))

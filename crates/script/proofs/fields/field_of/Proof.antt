@@ -1,7 +1,7 @@
 -- `field_of`: role and value.
 use borrow.Author.Needs.{needs}
-use Rattle.script.proofs.entries.field_of.Statement.{statement}
-use Rattle.script.proofs.entries.field_of.Tie as tie
+use Rattle.script.proofs.fields.field_of.Statement.{statement}
+use Rattle.script.proofs.fields.field_of.Tie as tie
 
 role-of-requires : tie.Need-role-of-requires
 role-of-requires c κs = search needs

@@ -1,8 +1,8 @@
 -- `field_at`: the field of the part that was read.
 use mathlib.Core.Path.{ap, _∙_}
 use borrow.Author.Needs.{needs}
-use Rattle.script.proofs.entries.field_at.Statement.{statement}
-use Rattle.script.proofs.entries.field_at.Tie as tie
+use Rattle.script.proofs.fields.field_at.Statement.{statement}
+use Rattle.script.proofs.fields.field_at.Tie as tie
 
 part-at-requires : tie.Need-part-at-requires
 part-at-requires c κs = search needs

@@ -2,8 +2,8 @@
 use native.Mathlib.Omega.{arith}
 use Rattle.script.proofs.Layouts.{Tail, tail-is}
 use borrow.Author.Needs.{needs}
-use Rattle.script.proofs.layout.layout_of.Statement.{statement}
-use Rattle.script.proofs.layout.layout_of.Tie as tie
+use Rattle.script.proofs.tail.layout_of.Statement.{statement}
+use Rattle.script.proofs.tail.layout_of.Tie as tie
 
 tailed : (c : tie.After-shared-slice-known) → Tail (c .before .args .s .now)
 tailed c = tail-is (c .before .args .s .now) (c .before .pre)

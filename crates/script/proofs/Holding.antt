@@ -9,7 +9,7 @@ use lib.Dec.{eqb, ltb}
 use borrow.Author.Tests.{ltb-true, eqb-true}
 use Rattle.prelude.proofs.Bools.{and-left, and-right, by-cases}
 use Rattle.prelude.proofs.Searches.{all-elim}
-use Rattle.script.specs.declared.entries.Field.{Field}
+use Rattle.script.specs.declared.fields.Field.{Field}
 use Rattle.script.specs.Layout.{mostParts, expressionCount, partCount}
 use Rattle.script.specs.Roles.{expression, child, register, signal, newRegister, newSignal}
 use Rattle.script.specs.Entries.{node, fieldCount, fieldOf, partOf}
