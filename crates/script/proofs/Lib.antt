@@ -11,3 +11,5 @@ pub mod ReachTables
 pub mod Views
 pub mod Scoping
 pub mod NodeSizes
+pub mod Theorems
+pub mod Worked

@@ -8,3 +8,5 @@ pub mod Refusals
 pub mod Load
 pub mod Tree
 pub mod Checked
+pub mod Results
+pub mod Examples
