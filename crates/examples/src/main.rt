@@ -1,7 +1,10 @@
-// Prints what the library makes of some level books. What it prints is held to the file stdout.
+// Prints what the library makes of some level books and script files. What it prints is held to the file stdout.
+mod scripts; // scripts.rt: script files
+
 use lattice::book::Book;
 use lattice::book::PairTable;
 use libc::STDOUT_FILENO;
+use prelude::Refusal;
 ghost use Prim.Native.Nat.{_<_, _≤_};
 ghost use Rattle.lattice.specs.LevelBook.{mostLevels};
 
@@ -12,6 +15,12 @@ fn say(word: &[u8], n: usize) {
 
 fn end_line() {
     io::write_all(STDOUT_FILENO, b"\n");
+}
+
+fn say_refusal(r: Refusal) {
+    say(b"refused ", r.number as usize);
+    say(b" ", r.place as usize);
+    end_line();
 }
 
 // The levels that a table keeps for level i and each level.
@@ -42,9 +51,7 @@ fn show(s: &[u8]) {
     let mut meet = [[0u8; Book::MAX_LEVELS]; Book::MAX_LEVELS];
     let loaded = lattice::load(s, &mut join, &mut meet);
     if 0 < loaded.refusal.number {
-        say(b"refused ", loaded.refusal.number as usize);
-        say(b" ", loaded.refusal.place as usize);
-        end_line();
+        say_refusal(loaded.refusal);
         return;
     }
     let b = loaded.book;
@@ -69,4 +76,20 @@ fn main() {
     show(b"\x03\x00\x03\x00\x06\x00\x04");
     show(b"\x02\x00\x01\x00\x02");
     show(b"\x06\x00\x3f\x00\x3a\x00\x3c\x00\x28\x00\x30\x00\x20");
+    // x := 7, the script of 01's example
+    scripts::show(
+        b"\x00\x00\xff\xff\x00\x00\x00\x00\x00\x00\x00\x07\x01\x00\x00\x00\x00\x00\x00\x00\x00\x04\x00\x0c\x00\x14ST",
+    );
+    // no byte; no node; the same script with a kind that is none, and with its expression used by nobody
+    scripts::show(b"");
+    scripts::show(b"\x00\x00\x00\x00\x00\x00ST");
+    scripts::show(
+        b"\x00\x00\xff\xff\x09\x00\x00\x00\x00\x00\x00\x07\x01\x00\x00\x00\x00\x00\x00\x00\x00\x04\x00\x0c\x00\x14ST",
+    );
+    scripts::show(
+        b"\x00\x00\xff\xff\x00\x00\x00\x00\x00\x00\x00\x07\x00\x00\x00\x00\x00\x00\x00\x00\x00\x04\x00\x0c\x00\x14ST",
+    );
+    // 64 names pass, 65 give 5
+    scripts::show_names(64);
+    scripts::show_names(65);
 }
