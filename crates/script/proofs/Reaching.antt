@@ -206,11 +206,6 @@ module _ (s : List ℕ) (sound : Sound s) where
       (λ e. holds-new-signal s q (fieldOf s q f) (eqb-true _ _ e)))
 
 module _ (s : List ℕ) (x q : ℕ) where
-  body : ℕ → Bool
-  body f =
-      let d : ℕ = node s (nameOf s x .owner) in
-      eqb (fieldOf s d f .role) child && within s (used s (fieldCount * d + f)) q
-
   in-body :
       (f : ℕ) → f < fieldCount → eqb (fieldOf s (node s (nameOf s x .owner)) f .role) child ≡ true →
       within s (used s (fieldCount * node s (nameOf s x .owner) + f)) q ≡ true → inBody s x q ≡ true

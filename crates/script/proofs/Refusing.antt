@@ -1,15 +1,15 @@
 -- Tests and searches that refuse a file: what they tell where they do, and where they do not.
 -- Assumes nothing.
-use mathlib.Core.Path.{_≡_, refl, sym, ap, _∙_, subst}
-use mathlib.Core.Bool.{Bool, true, false, cond, not, false≢true}
+use mathlib.Core.Path.{_≡_, refl, sym, ap, ap₂, _∙_, subst}
+use mathlib.Core.Bool.{Bool, true, false, cond, not, true≢false, false≢true}
 use mathlib.Core.List.{List}
 use Prim.Native.Nat.{ℕ, _+_, _-_, _≤_, _<_}
 use native.Mathlib.Decide.{decLt}
 use native.Mathlib.Omega.{arith}
-use lib.Dec.{leb, ltb}
+use lib.Dec.{eqb, leb, ltb}
 use borrow.Author.Tests.{lt-ltb, le-ltb, eqb-true, not-false}
 use Rattle.prelude.specs.declared.Refusal.{Refusal}
-use Rattle.prelude.specs.Refusals.{passes}
+use Rattle.prelude.specs.Refusals.{refusedBy, notRefused, passes}
 use Rattle.prelude.specs.Search.{first}
 use Rattle.prelude.proofs.Bools.{and-right}
 use Rattle.prelude.proofs.Searches.{NoneBelow, first-within, first-at-end, first-none, first-same}
@@ -17,7 +17,7 @@ use Rattle.script.specs.declared.layout.Script.{Script}
 use Rattle.script.specs.Layout.{layoutOf, nameCount, expressionCount, nodeCount}
 use Rattle.script.specs.Entries.{nameOf, node}
 use Rattle.script.specs.Uses.{isLoose}
-use Rattle.script.specs.Refusals.{nameIsRight, partIsRight, Sound, Joined, atFirst}
+use Rattle.script.specs.Refusals.{nameIsRight, partIsRight, Sound, Joined, atFirst, placeOfNode, inOrder, atFirstPart}
 
 -- a test that refuses, and one that does not
 pub passes-test :
@@ -50,6 +50,36 @@ module _ (fault : ℕ → Bool) (n : ℕ) (given : ℕ → Refusal) (rest : Refu
         | no l ↦
             let none = missed fault n refl (omega arith) in
             (none, sym (ap passes (past-first none)) ∙ h)
+      ]
+
+-- what was found among the expressions and the nodes: something, or nothing
+module _ (number x e y n : ℕ) (refuses : eqb number 0 ≡ false) (rest : Refusal) where
+  pub in-order-found :
+      passes (inOrder number x e y n notRefused) ≡ false →
+      inOrder number x e y n rest ≡ inOrder number x e y n notRefused
+  in-order-found = go (ltb x e) (ltb y n)
+    where
+      go :
+          (a b : Bool) →
+          passes (cond a (refusedBy number x) (cond b (refusedBy number (placeOfNode y)) notRefused)) ≡ false →
+          cond a (refusedBy number x) (cond b (refusedBy number (placeOfNode y)) rest)
+          ≡ cond a (refusedBy number x) (cond b (refusedBy number (placeOfNode y)) notRefused)
+      go true b h = refl
+      go false true h = refl
+      go false false h = absurd (true≢false h)
+
+  pub in-order-past :
+      passes (inOrder number x e y n notRefused) ≡ true →
+      (e ≤ x) × ((n ≤ y) × (inOrder number x e y n rest ≡ rest))
+  in-order-past h =
+      elim (decLt x e) [
+        | yes l ↦ absurd (false≢true (sym refuses ∙ rw (lt-ltb x e l) at h))
+        | no l ↦
+            let p = le-ltb x e (omega arith) in
+            elim (decLt y n) [
+              | yes u ↦ absurd (false≢true (sym refuses ∙ rw (p, lt-ltb y n u) at h))
+              | no u ↦ (omega arith, (omega arith, rw (p, le-ltb y n (omega arith))))
+            ]
       ]
 
 module _ (s : List ℕ) where
@@ -100,3 +130,12 @@ module _ (s : List ℕ) (c : Script) (same : c ≡ layoutOf s) (fault : ℕ → 
       (n : ℕ → ℕ) →
       first (λ k. fault (c .expressions + k)) (n (c .nodes)) ≡ first (λ k. fault (node s k)) (n (nodeCount s))
   over-nodes n = ap (λ d. first (λ k. fault (d .expressions + k)) (n (d .nodes))) same
+
+  -- what was found, by the definition
+  pub over-parts :
+      (number m : ℕ) (rest : Refusal) {x y n : ℕ} →
+      x ≡ first fault (expressionCount s) → y ≡ first (λ k. fault (node s k)) m → n ≡ m →
+      inOrder number x (c .expressions) y n rest ≡ atFirstPart s number fault m rest
+  over-parts number m rest {x} {y} {n} p q r =
+      ap₂ (λ x e. inOrder number x e y n rest) p (ap (λ d. d .expressions) same)
+      ∙ ap₂ (λ y n. inOrder number (first fault (expressionCount s)) (expressionCount s) y n rest) q r

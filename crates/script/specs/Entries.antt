@@ -35,9 +35,7 @@ partOf s q =
       c = wordAt s (at + 6);
     }
 
-abbrev pub isExpression : List ℕ → ℕ → Bool
-isExpression s q = ltb q (expressionCount s)
-
+-- node k as a part
 abbrev pub node : List ℕ → ℕ → ℕ
 node s k = expressionCount s + k
 

@@ -80,14 +80,23 @@ atFirst fault n given rest = cond (ltb (first fault n) n) (given (first fault n)
 abbrev pub placeOfNode : ℕ → ℕ
 placeOfNode k = 256 + k
 
--- Rows 9 and 10, 'used not exactly once' and 'owned name outside its body': 'under 9 and 10 expressions come first'.
+-- 'Under 9 and 10 expressions come first': what was found among e expressions, then among n nodes.
+abbrev pub inOrder : ℕ → ℕ → ℕ → ℕ → ℕ → Refusal → Refusal
+inOrder number expression e node n rest =
+    cond (ltb expression e) (refusedBy number expression)
+    (cond (ltb node n) (refusedBy number (placeOfNode node))
+    rest)
+
+abbrev pub atFirstPart : List ℕ → ℕ → (ℕ → Bool) → ℕ → Refusal → Refusal
+atFirstPart s number fault n rest =
+    inOrder number (first fault (expressionCount s)) (expressionCount s) (first (λ k. fault (node s k)) n) n rest
+
+-- rows 9 and 10: 'used not exactly once' (the last node is not used), 'owned name outside its body'
 unfoldable pub joinRefusal : List ℕ → Refusal
 joinRefusal s =
-    atFirst (isLoose s) (expressionCount s) (refusedBy 9)
-    (atFirst (λ k. isLoose s (node s k)) (nodeCount s - 1) (λ k. refusedBy 9 (placeOfNode k))
-    (atFirst (isOutOfReach s) (expressionCount s) (refusedBy 10)
-    (atFirst (λ k. isOutOfReach s (node s k)) (nodeCount s) (λ k. refusedBy 10 (placeOfNode k))
-    notRefused)))
+    atFirstPart s 9 (isLoose s) (nodeCount s - 1)
+    (atFirstPart s 10 (isOutOfReach s) (nodeCount s)
+    notRefused)
 
 -- 'The lowest number that applies is given.'
 unfoldable pub refusal : List ℕ → ℕ → Refusal

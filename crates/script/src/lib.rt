@@ -13,9 +13,9 @@ use crate::layout::Script;
 use prelude::Refusal;
 ghost use mathlib.Core.Path.{_≡_};
 ghost use Prim.Native.Nat.{_≤_};
-ghost use Rattle.prelude.specs.Refusals.{refusedBy};
-ghost use Rattle.script.specs.Layout.{Laid, mostParts};
-ghost use Rattle.script.specs.Refusals.{Sound, joinRefusal, refusal};
+ghost use Rattle.prelude.specs.Refusals.{refusedBy, notRefused};
+ghost use Rattle.script.specs.Layout.{Laid, mostExpressions, mostNodes, mostParts};
+ghost use Rattle.script.specs.Refusals.{Sound, inOrder, joinRefusal, refusal};
 ghost use Rattle.script.specs.Load.{loaded};
 
 // What the bytes of a script give: the refusal, and beside it the layout of the checked file, all 0 where it is refused.
@@ -34,6 +34,20 @@ fn refused(number: u32, place: usize) -> Refusal
     }
 }
 
+// What was found among e expressions and n nodes: expressions come first.
+fn in_order(number: u32, expression: usize, e: usize, node: usize, n: usize) -> Refusal
+    requires { ⌜ (e ≤ mostExpressions) × (n ≤ mostNodes) ⌝ }
+    ensures { λ r. ⌜ r ≡ inOrder number expression e node n notRefused ⌝ }
+{
+    if expression < e {
+        return refused(number, expression);
+    }
+    if node < n {
+        return refused(number, Script::MAX_EXPRESSIONS + node);
+    }
+    refused(0, 0)
+}
+
 // The faults of parts that are right by themselves.
 fn join_refusal(s: &[u8], c: Script) -> Refusal
     requires { ⌜ Laid (now s) c × Sound (now s) ⌝ }
@@ -43,23 +57,15 @@ fn join_refusal(s: &[u8], c: Script) -> Refusal
     let n = c.nodes;
     let times = uses::count_uses(s, c);
     let loose = uses::first_loose(&times, 0, e);
-    if loose < e {
-        return refused(9, loose);
-    }
     let loose_node = uses::first_loose(&times, e, n - 1);
-    if loose_node < n - 1 {
-        return refused(9, Script::MAX_EXPRESSIONS + loose_node);
+    let refusal = in_order(9, loose, e, loose_node, n - 1);
+    if refusal.number != 0 {
+        return refusal;
     }
     let sets = reach::find_reach(s, c);
     let outside = reach::first_out_of_reach(s, c, &sets, 0, e);
-    if outside < e {
-        return refused(10, outside);
-    }
     let outside_node = reach::first_out_of_reach(s, c, &sets, e, n);
-    if outside_node < n {
-        return refused(10, Script::MAX_EXPRESSIONS + outside_node);
-    }
-    refused(0, 0)
+    in_order(10, outside, e, outside_node, n)
 }
 
 fn refusal(s: &[u8], levels: usize) -> Refusal
