@@ -80,17 +80,17 @@ fn refusal(s: &[u8], levels: usize) -> Refusal
     }
     let e = c.expressions;
     let n = c.nodes;
-    let name = faults::first_wrong_name(s, c, levels);
-    if name < c.names {
-        return refused(6, name);
+    let wrong_name = faults::first_wrong_name(s, c, levels);
+    if wrong_name < c.names {
+        return refused(6, wrong_name);
     }
-    let expression = faults::first_wrong_part(s, c, 0, e);
-    if expression < e {
-        return refused(7, expression);
+    let wrong = faults::first_wrong_part(s, c, 0, e);
+    if wrong < e {
+        return refused(7, wrong);
     }
-    let node = faults::first_wrong_part(s, c, e, n);
-    if node < n {
-        return refused(8, node);
+    let wrong_node = faults::first_wrong_part(s, c, e, n);
+    if wrong_node < n {
+        return refused(8, wrong_node);
     }
     join_refusal(s, c)
 }
