@@ -38,10 +38,10 @@ module _ (s : List ℕ) (ok : Checked s) where
 
   module _ (k : ℕ) (h : k < nodeCount s) where
     abbrev row : ℕ → ℕ → ℕ
-    row n f = cond (eqb (roleIn nodeRows n f) child) (nodeSize (valueOf (partOf s (node s k)) f)) 0
+    row n f = cond (eqb (roleIn nodeRows n f) child) (nodeSize (valueOf s (node s k) f)) 0
 
     rows : (n : ℕ) → partOf s (node s k) .kind ≡ n → (f : ℕ) → addedBy (node s k) f ≡ row n f
-    rows n e f = ap (λ r. cond (eqb r child) (nodeSize (valueOf (partOf s (node s k)) f)) 0) (role s ok k h n e f)
+    rows n e f = ap (λ r. cond (eqb r child) (nodeSize (valueOf s (node s k) f)) 0) (role s ok k h n e f)
 
     total : (n : ℕ) → partOf s (node s k) .kind ≡ n → sum (addedBy (node s k)) fieldCount ≡ 0 + row n 0 + row n 1 + row n 2
     unfolding sum

@@ -24,9 +24,12 @@ isSession s x = eqb (nameOf s x .owner) session
 
 -- 'Expression, 8 bytes: kind, zero byte, a, then 4 bytes.' 'Node, 8 bytes: kind, zero byte, fields a, b, c.'
 -- Part q is expression q, or node q - (number of expressions): the lists touch.
+abbrev pub partAt : List ℕ → ℕ → ℕ
+partAt s q = expressionsAt s + 8 * q
+
 abbrev pub partOf : List ℕ → ℕ → Part
 partOf s q =
-    let at : ℕ = expressionsAt s + 8 * q in
+    let at : ℕ = partAt s q in
     record {
       kind = getD s at 0;
       zero = getD s (at + 1) 0;
@@ -43,16 +46,13 @@ node s k = expressionCount s + k
 abbrev pub fieldCount : ℕ
 fieldCount = 3
 
-abbrev pub valueOf : Part → ℕ → ℕ
-valueOf p f = cond (eqb f 0) (p .a) (cond (eqb f 1) (p .b) (p .c))
+abbrev pub valueOf : List ℕ → ℕ → ℕ → ℕ
+valueOf s q f = wordAt s (partAt s q + 2 * (f + 1))
 
--- what field f of part q is for, where there are so many expressions
-abbrev pub roleOf : ℕ → ℕ → Part → ℕ → ℕ
-roleOf expressions q p f = cond (ltb q expressions) (roleIn expressionRows (p .kind) f) (roleIn nodeRows (p .kind) f)
-
-abbrev pub fieldIn : ℕ → ℕ → Part → ℕ → Field
-fieldIn expressions q p f = record { role = roleOf expressions q p f; value = valueOf p f }
+-- what field f of part q is for, by the part's kind, where there are so many expressions
+abbrev pub roleOf : ℕ → ℕ → ℕ → ℕ → ℕ
+roleOf expressions q kind f = cond (ltb q expressions) (roleIn expressionRows kind f) (roleIn nodeRows kind f)
 
 -- field f of part q
 abbrev pub fieldOf : List ℕ → ℕ → ℕ → Field
-fieldOf s q f = fieldIn (expressionCount s) q (partOf s q) f
+fieldOf s q f = record { role = roleOf (expressionCount s) q (partOf s q .kind) f; value = valueOf s q f }

@@ -1,19 +1,58 @@
--- `field_at`: the field of the part that was read.
-use mathlib.Core.Path.{ap, _∙_}
+-- `field_at`: the kind and the field's bytes lie in the file.
+use mathlib.Core.Path.{ap}
 use borrow.Author.Needs.{needs}
 use Rattle.script.proofs.fields.field_at.Statement.{statement}
 use Rattle.script.proofs.fields.field_at.Tie as tie
 
-part-at-requires : tie.Need-part-at-requires
-part-at-requires c κs = search needs
+mul-at : tie.Need-mul-at
+mul-at c = search needs
 
-field-of-requires : tie.Need-field-of-requires
-field-of-requires c κs = search needs
+add-at : tie.Need-add-at
+add-at c = search needs
+
+shared-slice-read-wide : tie.Need-shared-slice-read-wide
+shared-slice-read-wide c = search needs
+
+wide-requires : tie.Need-wide-requires
+wide-requires c κs = search needs
+
+role-of-requires : tie.Need-role-of-requires
+role-of-requires c κs = search needs
+
+add-word-at : tie.Need-add-word-at
+add-word-at c = search needs
+
+mul-word-at : tie.Need-mul-word-at
+mul-word-at c = search needs
+
+add-word-at-2 : tie.Need-add-word-at-2
+add-word-at-2 c = search needs
+
+word-at-requires : tie.Need-word-at-requires
+word-at-requires c κs = search needs
 
 returns : tie.Need-returns
 returns c =
-    c .field-of .ensures
-    ∙ simp (c .before .part-at .ensures, ap (λ z. z .expressions) (c .before .before .before .pre .0 .same))
+    let start = c .before .before .before .before .before .before in
+    simp (
+      c .before .role-of .ensures,
+      c .before .before .wide .ensures,
+      c .word-at .ensures,
+      ap (λ z. z .offset) (start .pre .0 .same),
+      ap (λ z. z .expressions) (start .pre .0 .same),
+    )
 
 pub field-at-spec : {M : Type 1} → statement M
-field-at-spec = tie.close (tie.spec part-at-requires field-of-requires returns)
+field-at-spec =
+    tie.close
+    (tie.spec
+    mul-at
+    add-at
+    shared-slice-read-wide
+    wide-requires
+    role-of-requires
+    add-word-at
+    mul-word-at
+    add-word-at-2
+    word-at-requires
+    returns)
