@@ -11,9 +11,13 @@ pub fn show(s: &[u8]) {
         return;
     }
     let c = loaded.script;
+    let n = c.nodes;
+    let sizes = script::sizes::find_sizes(s, c);
+    let size = sizes[n - 1] as usize;
     say(b"names ", c.names);
     say(b" expressions ", c.expressions);
-    say(b" nodes ", c.nodes);
+    say(b" nodes ", n);
+    say(b" size ", size);
     end_line();
 }
 

@@ -4,9 +4,11 @@ use mathlib.Core.Bool.{true}
 use mathlib.Core.List.{List}
 use Prim.Native.Nat.{ℕ, suc, _≤_, _<_}
 use Rattle.language.specs.Scope.{Scoped}
-use Rattle.script.specs.Layout.{nodeCount}
+use Rattle.script.specs.declared.Loaded.{Loaded}
+use Rattle.script.specs.Layout.{nodeCount, Laid}
 use Rattle.script.specs.Entries.{isSession}
 use Rattle.script.specs.Refusals.{isAccepted}
+use Rattle.script.specs.Load.{loaded}
 use Rattle.script.specs.Tree.{namesOf, processOf, tree, size}
 use Rattle.script.specs.Checked.{Checked, Levelled}
 
@@ -14,6 +16,12 @@ use Rattle.script.specs.Checked.{Checked, Levelled}
 pub record AcceptedExactly : Type 0 where
   pub checked : (s : List ℕ) (levels : ℕ) → isAccepted s levels ≡ true → Checked s × Levelled s levels
   pub accepted : (s : List ℕ) (levels : ℕ) → Checked s → Levelled s levels → isAccepted s levels ≡ true
+
+-- What a caller of `load` has: a file that is not refused is laid out as the answer says, and checked.
+abbrev pub LoadedChecked : Type 0
+LoadedChecked =
+    (s : List ℕ) (levels : ℕ) (r : Loaded) → r ≡ loaded s levels → r .refusal .number ≡ 0 →
+    Laid s (r .script) × (Checked s × Levelled s levels)
 
 -- The script of a checked file is scoped as the theorems about scripts ask.
 abbrev pub TreeScoped : Type 0

@@ -1,8 +1,8 @@
 // The fields of the parts: what each is for, and what it holds.
 use crate::layout::Script;
-use crate::tail::word_at;
 use crate::roles::expression_role;
 use crate::roles::node_role;
+use crate::tail::word_at;
 ghost use mathlib.Core.Path.{_≡_};
 ghost use Prim.Native.Nat.{_+_, _<_};
 ghost use Rattle.script.specs.Layout.{Laid};
