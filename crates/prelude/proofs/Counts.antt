@@ -1,5 +1,5 @@
--- How often a test holds: what one number more adds; that it is one number, and which; and a table that counts how often
--- a function has each value.
+-- How often a test holds: what one number more adds; that it is one number, and which; and a table that counts how
+-- often a function has each value.
 -- Assumes nothing.
 use mathlib.Core.Path.{_≡_, refl, sym, ap, _∙_}
 use mathlib.Core.Bool.{Bool, true, false, true≢false}
@@ -78,7 +78,9 @@ module _ (f : ℕ → Bool) where
   count-longer m zero h = rw (le-antisymm h (omega arith)) (omega arith)
   count-longer m (suc n) h =
       ⊎-elim (λ e. rw e (omega arith))
-      (λ l. by-cases (λ c. count f m ≤ c) (f n) (λ t. omega (arith, count-longer m n (le-of-suc-le-suc l))) (λ t. count-longer m n (le-of-suc-le-suc l)))
+      (λ l.
+      by-cases (λ c. count f m ≤ c) (f n) (λ t. omega (arith, count-longer m n (le-of-suc-le-suc l)))
+      (λ t. count-longer m n (le-of-suc-le-suc l)))
       (eq-or-lt-of-le h)
 
 -- a table that has for each v below m how often u is v below i

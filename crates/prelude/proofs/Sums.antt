@@ -71,7 +71,9 @@ sum-at w u (suc n) =
           rw (sum-at w u n, lt-ltb u n l, lt-ltb u (suc n) (omega arith), ne-eqb u n (λ e. omega arith)) (omega arith)
       | no l ↦
           elim (ℕ-discrete u n) [
-            | yes e ↦ rw (sum-at w u n, le-ltb u n (omega arith), lt-ltb u (suc n) (omega arith), eq-eqb u n e) (zero-add (w n) ∙ ap w (sym e))
+            | yes e ↦
+                rw (sum-at w u n, le-ltb u n (omega arith), lt-ltb u (suc n) (omega arith), eq-eqb u n e)
+                (zero-add (w n) ∙ ap w (sym e))
             | no ne ↦ rw (sum-at w u n, le-ltb u n (omega arith), le-ltb u (suc n) (omega arith), ne-eqb u n ne) refl
           ]
     ]

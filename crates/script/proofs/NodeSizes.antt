@@ -103,14 +103,21 @@ module _ (s : List ℕ) (ok : Checked s) where
         ∙ ap (weight n) (sym (used-child E (fieldOf s q f) e)))
         (λ t. sym (by-cases (λ u. weight n u ≡ 0) (eqb (fieldOf s q f .role) expression) (operand t) (none t))))
       where
-        none : eqb (fieldOf s q f .role) child ≡ false → eqb (fieldOf s q f .role) expression ≡ false → weight n (cond (eqb (fieldOf s q f .role) child) (E + fieldOf s q f .value) mostParts) ≡ 0
-        none t u = rw t (ap (λ b. cond b (partSize mostParts) 0) (le-ltb mostParts n (omega (arith, b, few-parts (ok .laid)))))
+        none :
+            eqb (fieldOf s q f .role) child ≡ false → eqb (fieldOf s q f .role) expression ≡ false →
+            weight n (cond (eqb (fieldOf s q f .role) child) (E + fieldOf s q f .value) mostParts) ≡ 0
+        none t u =
+            rw t
+            (ap (λ b. cond b (partSize mostParts) 0) (le-ltb mostParts n (omega (arith, b, few-parts (ok .laid)))))
 
-        operand : eqb (fieldOf s q f .role) child ≡ false → eqb (fieldOf s q f .role) expression ≡ true → weight n (fieldOf s q f .value) ≡ 0
+        operand :
+            eqb (fieldOf s q f .role) child ≡ false → eqb (fieldOf s q f .role) expression ≡ true →
+            weight n (fieldOf s q f .value) ≡ 0
         operand t u =
             let v : ℕ = fieldOf s q f .value in
             let g = sym (holds-expression s q (fieldOf s q f) (eqb-true _ _ u)) ∙ right in
-            by-cases (λ m. m ≡ 0) (ltb v n) (λ _. expression-size v (ltb-true v E (and-left (ltb v E) (ltb v q) g))) (λ _. refl)
+            by-cases (λ m. m ≡ 0) (ltb v n) (λ _. expression-size v (ltb-true v E (and-left (ltb v E) (ltb v q) g)))
+            (λ _. refl)
 
   -- a part's size: its fields' and, for a node, one more
   part-size : (q : ℕ) → q < partCount s → partSize q ≡ cond (ltb q E) 0 1 + sum (addedBy q) fieldCount
@@ -150,7 +157,9 @@ module _ (s : List ℕ) (ok : Checked s) where
       ∙ sum-both (λ q. cond (ltb q E) 0 1) (λ q. sum (addedBy q) fieldCount) n
       ∙ ap₂ (λ a b. a + b) (nodes-below n)
       (sum-same (λ q. sum (addedBy q) fieldCount) (λ q. sum (λ f. weight n (used s (fieldCount * q + f))) fieldCount) n
-      (λ q l. sum-same (addedBy q) (λ f. weight n (used s (fieldCount * q + f))) fieldCount (λ f u. added-used q f u (omega arith) n l h))
+      (λ q l.
+      sum-same (addedBy q) (λ f. weight n (used s (fieldCount * q + f))) fieldCount
+      (λ f u. added-used q f u (omega arith) n l h))
       ∙ sym (sum-threes (λ i. weight n (used s i)) n)
       ∙ sum-by-value (used s) partSize (fieldCount * n) n)
 

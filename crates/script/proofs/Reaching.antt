@@ -267,7 +267,8 @@ module _ (s : List ℕ) (joined : Joined s) where
         let v : used s (fieldCount * d + f) < d = child-used d f (omega (arith, o .inside)) a c in
         elim (ℕ-discrete (used s (fieldCount * d + f)) (used s i)) [
           | yes e ↦
-              let same : i ≡ fieldCount * d + f = used-once s joined i (fieldCount * d + f) h (omega (arith, o .inside)) l (sym e) in
+              let same : i ≡ fieldCount * d + f =
+              used-once s joined i (fieldCount * d + f) h (omega (arith, o .inside)) l (sym e) in
               or-first (opens s i x) _
               (and-intro (eqb (fieldAt s i .role) child) _
               (ap (λ k. eqb (fieldAt s k .role) child) same ∙ ap (λ y. eqb (y .role) child) (field-of s d f a) ∙ c)
@@ -285,7 +286,9 @@ module _ (s : List ℕ) (joined : Joined s) where
     reach-used =
         by-both-ways (isSession s x) refl
       where
-        by-both-ways : (b : Bool) → isSession s x ≡ b → (b || inBody s x (used s i)) ≡ (opens s i x || (b || inBody s x (i / fieldCount)))
+        by-both-ways :
+            (b : Bool) → isSession s x ≡ b →
+            (b || inBody s x (used s i)) ≡ (opens s i x || (b || inBody s x (i / fieldCount)))
         by-both-ways true e = sym (or-true (opens s i x) true refl)
         by-both-ways false e =
             same-truth _ _ (λ b. up b e) (λ b. or-cases (opens s i x) _ b opened down)

@@ -39,7 +39,8 @@ module _ (s : List ℕ) (ok : Checked s) where
   Covers scope q = (x : ℕ) → x < nameCount s → inReach s x q ≡ true → scope x ≡ true
 
   covers-part : {scope new : ℕ → Bool} {q p : ℕ} → UsesPart s q p new → Covers scope q → Covers (λ x. new x || scope x) p
-  covers-part {scope} {new} u c x h e = or-cases (new x) _ (sym (u .reach x h) ∙ e) (or-first (new x) (scope x)) (λ r. or-true (new x) _ (c x h r))
+  covers-part {scope} {new} u c x h e =
+      or-cases (new x) _ (sym (u .reach x h) ∙ e) (or-first (new x) (scope x)) (λ r. or-true (new x) _ (c x h r))
 
   register-in : {scope : ℕ → Bool} {q x : ℕ} → Covers scope q → UsesName s q x 0 → RegisterIn (namesOf s) scope x
   register-in c u = (c _ (u .known) (u .reach), ap (λ k. eqb k 1) (u .kinded))
@@ -65,7 +66,9 @@ module _ (s : List ℕ) (ok : Checked s) where
         (expression-view s ok e l)
 
     reads : {q e : ℕ} → Covers scope q → UsesExpression s q e → ReadsIn (namesOf s) scope (expressionOf s e)
-    reads {q} {e} c u x o = occurs (RegisterIn (namesOf s) scope) o (reads-all (suc e) e (omega arith) (u .known) (covers-part (u .part) c))
+    reads {q} {e} c u x o =
+        occurs (RegisterIn (namesOf s) scope) o
+        (reads-all (suc e) e (omega arith) (u .known) (covers-part (u .part) c))
 
   abbrev ScopedNode : (ℕ → Bool) → ℕ → Type 0
   ScopedNode scope k = Scoped (namesOf s) scope (processOf s k)
@@ -85,7 +88,8 @@ module _ (s : List ℕ) (ok : Checked s) where
 
   scoped-view :
       (scope : ℕ → Bool) (k : ℕ) → k < nodeCount s → Covers scope (node s k) →
-      ((j : ℕ) (new : ℕ → Bool) → UsesNode s k j new → ScopedNode (λ x. new x || scope x) j) → NodeView s k → ScopedNode scope k
+      ((j : ℕ) (new : ℕ → Bool) → UsesNode s k j new → ScopedNode (λ x. new x || scope x) j) → NodeView s k →
+      ScopedNode scope k
   scoped-view scope k h c go (aNil n q) = subst (Scoped (namesOf s) scope) (sym q) tt
   scoped-view scope k h c go (anAssign n q x e) =
       subst (Scoped (namesOf s) scope) (sym q) (register-in c x, reads scope c e)

@@ -203,7 +203,8 @@ module _ (s : List ℕ) (ok : Checked s) where
     a-signal : fieldOf s q 0 .role ≡ roles.signal → UsesName s q (fieldOf s q 0 .value) 1
     a-signal e = uses-name q inside 0 (omega arith) roles.signal e refl (holds-signal s q (fieldOf s q 0) e)
 
-    an-expression : (f : ℕ) → f < fieldCount → fieldOf s q f .role ≡ roles.expression → UsesExpression s q (fieldOf s q f .value)
+    an-expression :
+        (f : ℕ) → f < fieldCount → fieldOf s q f .role ≡ roles.expression → UsesExpression s q (fieldOf s q f .value)
     an-expression f l = uses-expression q inside f l
 
     -- the roles of the fields of a node of kind n
@@ -243,7 +244,9 @@ module _ (s : List ℕ) (ok : Checked s) where
     while-view : partOf s q .kind ≡ 4 → NodeView s k
     while-view e =
         let body = uses-node 1 roles.expression (omega arith) (role 4 e 1) (role 4 e 0) in
-        aWhile e (process 4 e ∙ ap (while (expressionOf s (a s k))) (part-of body)) (an-expression 0 (omega arith) (role 4 e 0)) body
+        aWhile e (process 4 e ∙ ap (while (expressionOf s (a s k))) (part-of body))
+        (an-expression 0 (omega arith) (role 4 e 0))
+        body
 
     sequence-view : partOf s q .kind ≡ 5 → NodeView s k
     sequence-view e =
@@ -340,7 +343,8 @@ module _ (s : List ℕ) (ok : Checked s) where
 
     -- a binary operator, by the roles of its row and its place in the list
     binary-view :
-        (o : Operator) → roleIn expressionRows (code o) 0 ≡ roles.expression → roleIn expressionRows (code o) 1 ≡ roles.expression →
+        (o : Operator) →
+        roleIn expressionRows (code o) 0 ≡ roles.expression → roleIn expressionRows (code o) 1 ≡ roles.expression →
         ((operands : ℕ → Exp) →
         getD (expressionsFrom (partOf s e) operands) (code o) noExpression
         ≡ binary o (operands (partOf s e .a)) (operands (partOf s e .b))) →

@@ -52,7 +52,9 @@ noExpression = constant (pos 0)
 -- expression e
 unfoldable pub expressionOf : List ℕ → ℕ → Exp
 expressionOf s =
-    entry (λ e earlier. getD (expressionsFrom (partOf s e) (λ k. getD earlier k noExpression)) (partOf s e .kind) noExpression)
+    entry
+    (λ e earlier.
+    getD (expressionsFrom (partOf s e) (λ k. getD earlier k noExpression)) (partOf s e .kind) noExpression)
 
 -- the processes of the eleven kinds, in the order of their numbers; a declaration carries its name's level
 abbrev pub processesFrom : List ℕ → Part → (ℕ → Proc ℕ) → List (Proc ℕ)
@@ -74,7 +76,9 @@ processesFrom s p part =
 -- node k
 unfoldable pub processOf : List ℕ → ℕ → Proc ℕ
 processOf s =
-    entry (λ k earlier. getD (processesFrom s (partOf s (node s k)) (λ j. getD earlier j nil)) (partOf s (node s k) .kind) nil)
+    entry
+    (λ k earlier.
+    getD (processesFrom s (partOf s (node s k)) (λ j. getD earlier j nil)) (partOf s (node s k) .kind) nil)
 
 -- 'The last node is the script.'
 abbrev pub tree : List ℕ → Proc ℕ

@@ -18,7 +18,7 @@ ghost use Rattle.script.specs.Layout.{Laid, mostExpressions, mostNodes, 
 ghost use Rattle.script.specs.Refusals.{Sound, inOrder, joinRefusal, refusal};
 ghost use Rattle.script.specs.Load.{loaded};
 
-// What the bytes of a script give: the refusal, and beside it the layout of the checked file, all 0 where it is refused.
+// What the bytes of a script give: the refusal, and beside it the layout of the file, all 0 where it is refused.
 pub struct Loaded {
     pub refusal: Refusal,
     pub script: Script,

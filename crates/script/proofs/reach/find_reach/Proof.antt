@@ -63,11 +63,13 @@ used-at-requires c κs = search needs
 
 mul-entered : tie.Need-mul-entered Inv-loop μ-loop
 mul-entered c =
-    let start = c .before .before .before .before .before .before .before in omega (arith, few-bounds (start .args .c) (start .pre .0 .few))
+    let start = c .before .before .before .before .before .before .before in
+    omega (arith, few-bounds (start .args .c) (start .pre .0 .few))
 
 array-read-entered : tie.Need-array-read-entered Inv-loop μ-loop
 array-read-entered c =
-    let start = c .before .before .before .before .before .before .before in omega (arith, few-bounds (start .args .c) (start .pre .0 .few))
+    let start = c .before .before .before .before .before .before .before in
+    omega (arith, few-bounds (start .args .c) (start .pre .0 .few))
 
 entered-requires : tie.Need-entered-requires Inv-loop μ-loop
 entered-requires c κs =

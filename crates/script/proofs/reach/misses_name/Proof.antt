@@ -36,7 +36,9 @@ element-copy-out-has c =
 uses : (c : tie.Else1) → isUse (c .before .before .field-at .result .role) ≡ true
 uses c = sym (c .before .is-use .ensures) ∙ not-false _ (c .if1 .left)
 
-known : (c : tie.Else1) → c .before .before .field-at .result .value < nameCount (c .before .before .before .before .args .s .now)
+known :
+    (c : tie.Else1) →
+    c .before .before .field-at .result .value < nameCount (c .before .before .before .before .args .s .now)
 known c =
     let start = c .before .before .before .before in
     let field = c .before .before .field-at .ensures in
@@ -59,7 +61,10 @@ returns-2 c =
     ap not
     (c .has .ensures
     ∙ start .pre .1 .1 .0 (start .args .q) (omega (arith, parts-are (start .pre .0))) _ (known else))
-    ∙ sym (misses-name (start .args .s .now) (start .args .q) (start .args .f) _ (c .before .before .before .before .field-at .ensures) (uses else))
+    ∙ sym
+    (misses-name (start .args .s .now) (start .args .q) (start .args .f) _
+    (c .before .before .before .before .field-at .ensures)
+    (uses else))
 
 pub misses-name-spec : {M : Type 1} → statement M
 misses-name-spec =

@@ -33,7 +33,8 @@ element-copy-out-if1 c = search needs
 returns : tie.Need-returns Inv-loop μ-loop
 returns c =
     sym
-    (first-is _ _ _ (c .before .before .loop-test .taken) (ap not (ne-eqb _ _ (c .if1 .taken))) (c .before .before .before .loop .inv .1))
+    (first-is _ _ _ (c .before .before .loop-test .taken) (ap not (ne-eqb _ _ (c .if1 .taken)))
+    (c .before .before .before .loop .inv .1))
 
 add-k : tie.Need-add-k Inv-loop μ-loop
 add-k c = search needs
