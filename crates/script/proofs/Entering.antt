@@ -3,18 +3,12 @@
 use mathlib.Core.Path.{_≡_, sym, ap, ap₂, _∙_}
 use mathlib.Core.Bool.{Bool, true, false, not, _&&_, _||_}
 use mathlib.Core.List.{List}
-use Prim.Native.Nat.{ℕ, _/_, _%_, _<_}
+use Prim.Native.Nat.{ℕ, _/_, _%_}
 use lib.Dec.{eqb}
-use borrow.Author.Tests.{eqb-true}
-use Rattle.prelude.proofs.Bools.{or-cases}
 use Rattle.script.specs.declared.fields.Field.{Field}
-use Rattle.script.specs.Layout.{partCount}
-use Rattle.script.specs.Roles.{register, child}
+use Rattle.script.specs.Roles.{child}
 use Rattle.script.specs.Entries.{fieldCount, fieldOf}
 use Rattle.script.specs.Reach.{isUse, isNew, inReach, missesName, opens}
-use Rattle.script.specs.Refusals.{Sound}
-use Rattle.script.proofs.Holding.{holds-register, holds-signal}
-use Rattle.script.proofs.Reaching.{Named, named}
 
 -- the names of a set and those that field i opens
 module _
@@ -52,13 +46,3 @@ module _ (s : List ℕ) (q f : ℕ) (field : Field) (is : field ≡ fieldOf s q 
 
   pub misses-name : isUse (field .role) ≡ true → missesName s q f ≡ not (inReach s (field .value) q)
   misses-name e = test ∙ ap (λ b. b && not (inReach s (field .value) q)) e
-
--- a right field that uses a name
-pub named-use :
-    (s : List ℕ) (sound : Sound s) (q f : ℕ) → q < partCount s → f < fieldCount → isUse (fieldOf s q f .role) ≡ true →
-    Named s sound q f
-named-use s sound q f h l n =
-    named s sound q f h l
-    (or-cases (eqb (fieldOf s q f .role) register) _ n
-    (λ e. holds-register s q (fieldOf s q f) (eqb-true _ _ e))
-    (λ e. holds-signal s q (fieldOf s q f) (eqb-true _ _ e)))

@@ -19,12 +19,12 @@ use Rattle.prelude.proofs.Courses.{earlier, not-earlier}
 use Rattle.prelude.proofs.Counts.{count-found, count-one}
 use Rattle.script.specs.declared.fields.Field.{Field}
 use Rattle.script.specs.Layout.{mostParts, nameCount, expressionCount, nodeCount, partCount}
-use Rattle.script.specs.Roles.{expression, child, newRegister}
+use Rattle.script.specs.Roles.{expression, child, register, newRegister}
 use Rattle.script.specs.Entries.{nameOf, isSession, node, fieldCount, fieldOf}
 use Rattle.script.specs.Uses.{fieldAt, allFields, usedBy, used, timesUsed}
-use Rattle.script.specs.Reach.{within, inBody, inReach, isNew, opens}
+use Rattle.script.specs.Reach.{within, inBody, inReach, isUse, isNew, opens}
 use Rattle.script.specs.Refusals.{newOf, declares, kindFor, holds, holdsName, Sound, Joined}
-use Rattle.script.proofs.Holding.{holds-child, holds-new-register, holds-new-signal, right-field}
+use Rattle.script.proofs.Holding.{holds-child, holds-register, holds-signal, holds-new-register, holds-new-signal, right-field}
 use Rattle.script.proofs.Holding as fields
 
 module _ (s : List ℕ) where
@@ -204,6 +204,13 @@ module _ (s : List ℕ) (sound : Sound s) where
       (or-cases (eqb (fieldOf s q f .role) newRegister) _ n
       (λ e. holds-new-register s q (fieldOf s q f) (eqb-true _ _ e))
       (λ e. holds-new-signal s q (fieldOf s q f) (eqb-true _ _ e)))
+
+  pub named-use : (q f : ℕ) → q < partCount s → f < fieldCount → isUse (fieldOf s q f .role) ≡ true → Named q f
+  named-use q f h l n =
+      named q f h l
+      (or-cases (eqb (fieldOf s q f .role) register) _ n
+      (λ e. holds-register s q (fieldOf s q f) (eqb-true _ _ e))
+      (λ e. holds-signal s q (fieldOf s q f) (eqb-true _ _ e)))
 
 module _ (s : List ℕ) (x q : ℕ) where
   in-body :

@@ -20,12 +20,12 @@ use Rattle.script.specs.Roles.{expressionRows, nodeRows, roleIn}
 use Rattle.script.specs.Entries.{nameOf, partOf, node, fieldCount, fieldOf}
 use Rattle.script.specs.Uses.{used}
 use Rattle.script.specs.Reach.{inReach, isUse, isNew, isOutOfReach, missesName}
-use Rattle.script.specs.Refusals.{holds, holdsName, kindFor}
+use Rattle.script.specs.Refusals.{kindFor}
 use Rattle.script.specs.Checked.{Checked}
 use Rattle.script.specs.Tree.{constantOf, expressionsFrom, noExpression, expressionOf, processesFrom, processOf}
 use Rattle.script.proofs.Layouts.{few-parts}
-use Rattle.script.proofs.Holding.{holds-expression, holds-child, holds-register, holds-signal, right-field, right-kind}
-use Rattle.script.proofs.Reaching.{opens-of, used-of, used-child, used-expression, named, named-new, reach-used}
+use Rattle.script.proofs.Holding.{holds-expression, holds-child, right-field, right-kind}
+use Rattle.script.proofs.Reaching.{opens-of, used-of, used-child, used-expression, named-use, named-new, reach-used}
 
 -- the kind of a binary expression
 abbrev pub code : Operator → ℕ
@@ -126,17 +126,17 @@ module _ (s : List ℕ) where
 module _ (s : List ℕ) (ok : Checked s) where
   module _ (q : ℕ) (h : q < partCount s) (f : ℕ) (l : f < fieldCount) where
     uses-name :
-        (r : ℕ) → fieldOf s q f .role ≡ r → isUse r ≡ true → holds s q (fieldOf s q f) ≡ holdsName s q (fieldOf s q f) →
-        UsesName s q (fieldOf s q f .value) (kindFor r)
+        (r : ℕ) → fieldOf s q f .role ≡ r → isUse r ≡ true → UsesName s q (fieldOf s q f .value) (kindFor r)
     unfolding isOutOfReach
-    uses-name r e u g =
-        let n = named s (ok .joined .sound) q f h l g in
+    uses-name r e u =
+        let uses : isUse (fieldOf s q f .role) ≡ true = ap isUse e ∙ u in
+        let n = named-use s (ok .joined .sound) q f h l uses in
         record {
           known = n .known;
           kinded = n .kinded ∙ ap kindFor e;
           reach =
               not-false _
-              (sym (and-second (isUse (fieldOf s q f .role)) _ (ap isUse e ∙ u))
+              (sym (and-second (isUse (fieldOf s q f .role)) _ uses)
               ∙ none-of-any (missesName s q) fieldCount (ok .reach q h) f l);
         }
 
@@ -198,10 +198,10 @@ module _ (s : List ℕ) (ok : Checked s) where
     inside = omega arith
 
     a-register : fieldOf s q 0 .role ≡ roles.register → UsesName s q (fieldOf s q 0 .value) 0
-    a-register e = uses-name q inside 0 (omega arith) roles.register e refl (holds-register s q (fieldOf s q 0) e)
+    a-register e = uses-name q inside 0 (omega arith) roles.register e refl
 
     a-signal : fieldOf s q 0 .role ≡ roles.signal → UsesName s q (fieldOf s q 0 .value) 1
-    a-signal e = uses-name q inside 0 (omega arith) roles.signal e refl (holds-signal s q (fieldOf s q 0) e)
+    a-signal e = uses-name q inside 0 (omega arith) roles.signal e refl
 
     an-expression :
         (f : ℕ) → f < fieldCount → fieldOf s q f .role ≡ roles.expression → UsesExpression s q (fieldOf s q f .value)
@@ -370,7 +370,7 @@ module _ (s : List ℕ) (ok : Checked s) where
                         (tt, λ q. aConstant q (expression 0 q)),
                         λ q.
                             aRegister q (expression 1 q)
-                            (uses-name e within-parts 0 (omega arith) roles.register (role-in 1 q 0) refl (holds-register s e (fieldOf s e 0) (role-in 1 q 0))),
+                            (uses-name e within-parts 0 (omega arith) roles.register (role-in 1 q 0) refl),
                       ),
                       binary-view add refl refl (λ _. refl),
                     ),

@@ -3,6 +3,7 @@ use mathlib.Core.Path.{_≡_, ap, _∙_}
 use Prim.Native.Nat.{_+_}
 use borrow.Author.Tests.{lt-ltb, le-ltb, eq-eqb, ne-eqb}
 use Rattle.script.specs.Entries.{node, fieldOf}
+use Rattle.script.proofs.Layouts.{nodes-are}
 use borrow.Author.Needs.{needs}
 use Rattle.script.proofs.faults.declares.Statement.{statement}
 use Rattle.script.proofs.faults.declares.Tie as tie
@@ -18,7 +19,7 @@ read c =
     ∙ ap (λ z. fieldOf (start .args .s .now) (z .expressions + start .args .k) 0) (start .pre .same)
 
 returns : tie.Need-returns
-returns c = rw (← ap (λ z. z .nodes) (c .before .before .before .pre .same), le-ltb _ _ (c .if1 .taken))
+returns c = rw (← nodes-are (c .before .before .before .pre), le-ltb _ _ (c .if1 .taken))
 
 add-field-at : tie.Need-add-field-at
 add-field-at c = search needs
@@ -32,7 +33,7 @@ new-of-requires c κs = search needs
 returns-2 : tie.Need-returns-2
 returns-2 c =
     rw (
-      ← ap (λ z. z .nodes) (c .before .before .before .before .before .before .before .before .pre .same),
+      ← nodes-are (c .before .before .before .before .before .before .before .before .pre),
       lt-ltb _ _ (c .before .before .before .before .before .if1 .left),
       ← ap (λ z. z .role) (read (c .before .before .before)),
       ← c .before .before .new-of .ensures,
@@ -42,7 +43,7 @@ returns-2 c =
 returns-3 : tie.Need-returns-3
 returns-3 c =
     rw (
-      ← ap (λ z. z .nodes) (c .before .before .before .before .before .before .before .before .before .pre .same),
+      ← nodes-are (c .before .before .before .before .before .before .before .before .before .pre),
       lt-ltb _ _ (c .before .before .before .before .before .before .if1 .left),
       ← ap (λ z. z .role) (read (c .before .before .before .before)),
       ← c .before .before .before .new-of .ensures,

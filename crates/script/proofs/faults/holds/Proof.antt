@@ -1,9 +1,8 @@
 -- `holds`: each way out decides one test of the definition.
-use mathlib.Core.Path.{ap}
 use native.Mathlib.Omega.{arith}
 use borrow.Author.Tests.{lt-ltb, le-ltb, eq-eqb, ne-eqb}
 use Rattle.script.specs.Refusals.{holds}
-use Rattle.script.proofs.Layouts.{few-bounds}
+use Rattle.script.proofs.Layouts.{few-bounds, expressions-are}
 use borrow.Author.Needs.{needs}
 use Rattle.script.proofs.faults.holds.Statement.{statement}
 use Rattle.script.proofs.faults.holds.Tie as tie
@@ -23,7 +22,7 @@ returns-3 c =
       ne-eqb _ _ (c .before .before .before .before .if1 .left),
       ne-eqb _ _ (c .before .before .before .if2 .left),
       eq-eqb _ _ (c .before .before .if3 .taken),
-      ← ap (λ z. z .expressions) (c .before .before .before .before .before .before .pre .0 .same),
+      ← expressions-are (c .before .before .before .before .before .before .pre .0),
       lt-ltb _ _ (c .if4 .taken),
     )
 
@@ -34,7 +33,7 @@ returns-4 c =
       ne-eqb _ _ (c .before .before .before .before .if1 .left),
       ne-eqb _ _ (c .before .before .before .if2 .left),
       eq-eqb _ _ (c .before .before .if3 .taken),
-      ← ap (λ z. z .expressions) (c .before .before .before .before .before .before .pre .0 .same),
+      ← expressions-are (c .before .before .before .before .before .before .pre .0),
       le-ltb _ _ (c .if4 .left),
     )
 
@@ -51,7 +50,7 @@ returns-5 c =
       ne-eqb _ _ (c .before .before .before .if2 .left),
       ne-eqb _ _ (c .before .before .if3 .left),
       eq-eqb _ _ (c .before .if5 .taken),
-      ← ap (λ z. z .expressions) (c .before .before .before .before .before .before .pre .0 .same),
+      ← expressions-are (c .before .before .before .before .before .before .pre .0),
     )
 
 holds-name-requires : tie.Need-holds-name-requires

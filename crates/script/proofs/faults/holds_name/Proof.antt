@@ -3,14 +3,14 @@ use mathlib.Core.Path.{ap}
 use Prim.Native.Nat.{_+_, _*_}
 use native.Mathlib.Omega.{arith}
 use borrow.Author.Tests.{lt-ltb, le-ltb, eq-eqb, ne-eqb}
-use Rattle.script.proofs.Layouts.{few-bounds}
+use Rattle.script.proofs.Layouts.{few-bounds, expressions-are, names-are}
 use Rattle.script.proofs.Values.{word-fits}
 use borrow.Author.Needs.{needs}
 use Rattle.script.proofs.faults.holds_name.Statement.{statement}
 use Rattle.script.proofs.faults.holds_name.Tie as tie
 
 returns : tie.Need-returns
-returns c = rw (← ap (λ z. z .names) (c .before .before .before .pre .same), le-ltb _ _ (c .if1 .taken))
+returns c = rw (← names-are (c .before .before .before .pre), le-ltb _ _ (c .if1 .taken))
 
 name-at-requires : tie.Need-name-at-requires
 name-at-requires c κs = search needs
@@ -21,7 +21,7 @@ kind-for-requires c κs = search needs
 returns-2 : tie.Need-returns-2
 returns-2 c =
     rw (
-      ← ap (λ z. z .names) (c .before .before .before .before .before .before .before .pre .same),
+      ← names-are (c .before .before .before .before .before .before .before .pre),
       lt-ltb _ _ (c .before .before .before .before .if1 .left),
       ← ap (λ z. z .kind) (c .before .before .before .name-at .ensures),
       ← c .before .before .kind-for .ensures,
@@ -46,14 +46,14 @@ returns-3 : tie.Need-returns-3
 returns-3 c =
     let start = c .before .before .before .before .before .before .before .before .before .before .before in
     rw (
-      ← ap (λ z. z .names) (start .pre .same),
+      ← names-are (start .pre),
       lt-ltb _ _ (c .before .before .before .before .before .before .before .before .if1 .left),
       ← ap (λ z. z .kind) (c .before .before .before .before .before .before .before .name-at .ensures),
       ← c .before .before .before .before .before .before .kind-for .ensures,
       eq-eqb _ _ (c .before .before .before .before .if2 .left),
       ← c .before .before .before .is-new .ensures,
       c .before .before .if3 .taken,
-      ← ap (λ z. z .expressions) (start .pre .same),
+      ← expressions-are (start .pre),
       ← ap (λ z. z .owner) (c .before .before .before .before .before .before .before .name-at .ensures),
     )
 
@@ -61,7 +61,7 @@ returns-4 : tie.Need-returns-4
 returns-4 c =
     let start = c .before .before .before .before .before .before .before .before .before in
     rw (
-      ← ap (λ z. z .names) (start .pre .same),
+      ← names-are (start .pre),
       lt-ltb _ _ (c .before .before .before .before .before .before .if1 .left),
       ← ap (λ z. z .kind) (c .before .before .before .before .before .name-at .ensures),
       ← c .before .before .before .before .kind-for .ensures,

@@ -6,6 +6,7 @@ use borrow.Author.Tests.{lt-ltb, le-ltb, eq-eqb, ne-eqb}
 use Rattle.script.specs.Layout.{expressionCount}
 use Rattle.script.specs.Entries.{partOf}
 use Rattle.script.specs.Refusals.{kindsFor}
+use Rattle.script.proofs.Layouts.{expressions-are}
 use borrow.Author.Needs.{needs}
 use Rattle.script.proofs.faults.part_is_right.Statement.{statement}
 use Rattle.script.proofs.faults.part_is_right.Tie as tie
@@ -26,7 +27,7 @@ small :
     ≡ true
 small c =
     rw (
-      ← ap (λ z. z .expressions) (c .before .before .before .before .before .pre .0 .same),
+      ← expressions-are (c .before .before .before .before .before .pre .0),
       ← c .before .before .kinds-for .ensures,
       ← ap (λ z. z .kind) (c .before .before .before .part-at .ensures),
       lt-ltb _ _ (c .if1 .left),
@@ -35,7 +36,7 @@ small c =
 returns : tie.Need-returns
 returns c =
     rw (
-      ← ap (λ z. z .expressions) (c .before .before .before .before .before .pre .0 .same),
+      ← expressions-are (c .before .before .before .before .before .pre .0),
       ← c .before .before .kinds-for .ensures,
       ← ap (λ z. z .kind) (c .before .before .before .part-at .ensures),
       le-ltb _ _ (c .if1 .taken),

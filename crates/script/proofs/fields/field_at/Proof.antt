@@ -1,5 +1,6 @@
 -- `field_at`: the kind and the field's bytes lie in the file.
 use mathlib.Core.Path.{ap}
+use Rattle.script.proofs.Layouts.{expressions-are}
 use borrow.Author.Needs.{needs}
 use Rattle.script.proofs.fields.field_at.Statement.{statement}
 use Rattle.script.proofs.fields.field_at.Tie as tie
@@ -39,7 +40,7 @@ returns c =
       c .before .before .wide .ensures,
       c .word-at .ensures,
       ap (λ z. z .offset) (start .pre .0 .same),
-      ap (λ z. z .expressions) (start .pre .0 .same),
+      expressions-are (start .pre .0),
     )
 
 pub field-at-spec : {M : Type 1} → statement M

@@ -7,7 +7,8 @@ use borrow.Author.Tests.{not-true, not-false}
 use Rattle.script.specs.Layout.{nameCount}
 use Rattle.script.specs.Reach.{isUse}
 use Rattle.script.proofs.Layouts.{few-bounds, names-are, parts-are}
-use Rattle.script.proofs.Entering.{misses-none, misses-name, named-use}
+use Rattle.script.proofs.Reaching.{named-use}
+use Rattle.script.proofs.Entering.{misses-none, misses-name}
 use borrow.Author.Needs.{needs}
 use Rattle.script.proofs.reach.misses_name.Statement.{statement}
 use Rattle.script.proofs.reach.misses_name.Tie as tie

@@ -1,10 +1,10 @@
 -- `used_at`: the calls give the definition.
-use mathlib.Core.Path.{ap, _∙_}
+use mathlib.Core.Path.{_∙_}
 use Prim.Native.Nat.{_/_, _%_}
 use native.Mathlib.Omega.{arith}
 use Rattle.script.specs.Entries.{fieldCount}
 use Rattle.script.specs.Uses.{used}
-use Rattle.script.proofs.Layouts.{few-bounds}
+use Rattle.script.proofs.Layouts.{few-bounds, expressions-are}
 use Rattle.script.proofs.Values.{value-fits}
 use borrow.Author.Needs.{needs}
 use Rattle.script.proofs.uses.used_at.Statement.{statement}
@@ -25,7 +25,7 @@ used-by-requires c κs =
 returns : tie.Need-returns
 unfolding used
 returns c =
-    c .used-by .ensures ∙ rw (c .before .field-at .ensures, ap (λ z. z .expressions) (c .before .before .before .pre .0 .same))
+    c .used-by .ensures ∙ rw (c .before .field-at .ensures, expressions-are (c .before .before .before .pre .0))
 
 pub used-at-spec : {M : Type 1} → statement M
 used-at-spec = tie.close (tie.spec field-at-requires used-by-requires returns)
