@@ -1,19 +1,20 @@
 -- What a right field holds, role by role.
 -- Assumes nothing.
 use mathlib.Core.Path.{_≡_, sym, _∙_}
-use mathlib.Core.Bool.{true, _&&_}
+use mathlib.Core.Bool.{true, _&&_, _||_}
 use mathlib.Core.List.{List}
 use Prim.Native.Nat.{ℕ, _/_, _%_, _<_}
 use native.Mathlib.Omega.{arith}
 use lib.Dec.{eqb, ltb}
 use borrow.Author.Tests.{ltb-true, eqb-true}
-use Rattle.prelude.proofs.Bools.{and-left, and-right, by-cases}
+use Rattle.prelude.proofs.Bools.{or-cases, and-left, and-right, by-cases}
 use Rattle.prelude.proofs.Searches.{all-elim}
 use Rattle.script.specs.declared.fields.Field.{Field}
 use Rattle.script.specs.Layout.{mostParts, expressionCount, partCount}
 use Rattle.script.specs.Roles.{expression, child, register, signal, newRegister, newSignal}
 use Rattle.script.specs.Entries.{node, fieldCount, fieldOf, partOf}
 use Rattle.script.specs.Uses.{fieldAt, allFields, usedBy, used}
+use Rattle.script.specs.Reach.{isUse, isNew}
 use Rattle.script.specs.Refusals.{holds, holdsName, kindsFor, Sound}
 
 module _ (s : List ℕ) (q : ℕ) (x : Field) where
@@ -25,21 +26,17 @@ module _ (s : List ℕ) (q : ℕ) (x : Field) where
   unfolding holds
   holds-child e = rw e
 
-  pub holds-register : x .role ≡ register → holds s q x ≡ holdsName s q x
+  -- a field that uses or declares a name
+  pub holds-name : (isUse (x .role) || isNew (x .role)) ≡ true → holds s q x ≡ holdsName s q x
   unfolding holds
-  holds-register e = rw e
-
-  pub holds-signal : x .role ≡ signal → holds s q x ≡ holdsName s q x
-  unfolding holds
-  holds-signal e = rw e
-
-  pub holds-new-register : x .role ≡ newRegister → holds s q x ≡ holdsName s q x
-  unfolding holds
-  holds-new-register e = rw e
-
-  pub holds-new-signal : x .role ≡ newSignal → holds s q x ≡ holdsName s q x
-  unfolding holds
-  holds-new-signal e = rw e
+  holds-name h =
+      or-cases (isUse (x .role)) _ h
+      (λ u.
+      or-cases (eqb (x .role) register) _ u (λ e. rw (eqb-true (x .role) register e))
+      (λ e. rw (eqb-true (x .role) signal e)))
+      (λ n.
+      or-cases (eqb (x .role) newRegister) _ n (λ e. rw (eqb-true (x .role) newRegister e))
+      (λ e. rw (eqb-true (x .role) newSignal e)))
 
   -- what a right field uses comes before its part
   pub uses-earlier : holds s q x ≡ true → usedBy (expressionCount s) x < mostParts → usedBy (expressionCount s) x < q

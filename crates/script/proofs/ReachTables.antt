@@ -4,6 +4,7 @@ use mathlib.Core.Path.{_≡_, sym, ap, _∙_, subst}
 use mathlib.Core.Bool.{_||_}
 use mathlib.Core.List.{List}
 use Prim.Native.Nat.{ℕ, suc, _+_, _*_, _/_, _≤_, _<_}
+use native.Mathlib.Numerals.{lt-of-le-of-ne}
 use native.Mathlib.Omega.{arith}
 use native.Mathlib.Decide.{decLt, ℕ-discrete}
 use lib.ListN.{getD, length, set, length-set}
@@ -22,9 +23,6 @@ pub record Filled (s : List ℕ) (i : ℕ) (sets : List ℕ) : Type 0 where
   pub passed :
       (k : ℕ) → i ≤ k → k < allFields s → used s k < mostParts →
       IsSet (nameCount s) (λ x. inReach s x (used s k)) (getD sets (used s k) 0)
-
-past : (k m : ℕ) → k ≤ m → (k ≡ m → ⊥) → k < m
-past k m l e = elim (decLt k m) [ yes u ↦ u | no u ↦ absurd (e (omega arith)) ]
 
 module _ (s : List ℕ) (j : Joined s) (few : partCount s ≤ mostParts) where
   -- then so are those of all parts that only these fields can use
@@ -72,7 +70,7 @@ module _ (s : List ℕ) (j : Joined s) (few : partCount s ≤ mostParts) where
             λ m l u part.
             elim (ℕ-discrete k m) [
               | yes e ↦ absurd (omega (arith, ap (used s) e))
-              | no e ↦ h .passed m (omega (arith, past k m l e)) u part
+              | no e ↦ h .passed m (omega (arith, lt-of-le-of-ne l e)) u part
             ];
       }
 
@@ -102,6 +100,6 @@ module _ (s : List ℕ) (j : Joined s) (few : partCount s ≤ mostParts) where
                   rw
                   (getD-set-other sets v (used s m) more 0
                   (λ same. differ (used-once s j k m l high uses (sym (same ∙ e)))))
-                  (h .passed m (omega (arith, past k m low differ)) high part)
+                  (h .passed m (omega (arith, lt-of-le-of-ne low differ)) high part)
             ];
       }

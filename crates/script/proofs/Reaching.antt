@@ -19,13 +19,13 @@ use Rattle.prelude.proofs.Courses.{earlier, not-earlier}
 use Rattle.prelude.proofs.Counts.{count-found, count-one}
 use Rattle.script.specs.declared.fields.Field.{Field}
 use Rattle.script.specs.Layout.{mostParts, nameCount, expressionCount, nodeCount, partCount}
-use Rattle.script.specs.Roles.{expression, child, register, newRegister}
+use Rattle.script.specs.Roles.{expression, child}
 use Rattle.script.specs.Entries.{nameOf, isSession, node, fieldCount, fieldOf}
 use Rattle.script.specs.Uses.{fieldAt, allFields, usedBy, used, timesUsed}
 use Rattle.script.specs.Reach.{within, inBody, inReach, isUse, isNew, opens}
-use Rattle.script.specs.Refusals.{newOf, declares, kindFor, holds, holdsName, Sound, Joined}
-use Rattle.script.proofs.Holding.{holds-child, holds-register, holds-signal, holds-new-register, holds-new-signal, right-field}
-use Rattle.script.proofs.Holding as fields
+use Rattle.script.specs.Refusals.{newOf, declares, kindFor, holdsName, Sound, Joined}
+use Rattle.script.proofs.Holding.{holds-child, holds-name, right-field}
+use Rattle.script.proofs.Holding as holding
 
 module _ (s : List ℕ) where
   -- `within` at a part, from what it says of the parts before
@@ -103,7 +103,7 @@ used-child n x e = rw e
 module _ (s : List ℕ) (joined : Joined s) where
   -- what field i uses comes before the part that has the field
   pub used-earlier : (i : ℕ) → i < allFields s → used s i < mostParts → used s i < i / fieldCount
-  used-earlier = fields.used-earlier s (joined .sound)
+  used-earlier = holding.used-earlier s (joined .sound)
 
   -- each part but the last is used by a field
   pub user : (q : ℕ) → suc q < partCount s → (i : ℕ) × (i < allFields s) × (used s i ≡ q)
@@ -184,11 +184,12 @@ module _ (s : List ℕ) (sound : Sound s) where
     pub kinded : nameOf s (fieldOf s q f .value) .kind ≡ kindFor (fieldOf s q f .role)
     pub own : isNew (fieldOf s q f .role) ≡ true → node s (nameOf s (fieldOf s q f .value) .owner) ≡ q
 
-  pub named :
-      (q f : ℕ) → q < partCount s → f < fieldCount → holds s q (fieldOf s q f) ≡ holdsName s q (fieldOf s q f) → Named q f
+  named :
+      (q f : ℕ) → q < partCount s → f < fieldCount →
+      (isUse (fieldOf s q f .role) || isNew (fieldOf s q f .role)) ≡ true → Named q f
   named q f h l e =
       let x : ℕ = fieldOf s q f .value in
-      let t : holdsName s q (fieldOf s q f) ≡ true = sym e ∙ right-field s sound q f h l in
+      let t : holdsName s q (fieldOf s q f) ≡ true = sym (holds-name s q (fieldOf s q f) e) ∙ right-field s sound q f h l in
       let k : Bool = eqb (nameOf s x .kind) (kindFor (fieldOf s q f .role)) in
       let right = and-right (ltb x (nameCount s)) _ t in
       record {
@@ -197,20 +198,11 @@ module _ (s : List ℕ) (sound : Sound s) where
         own = λ n. eqb-true _ _ (sym (or-second (not (isNew (fieldOf s q f .role))) _ (ap not n)) ∙ and-right k _ right);
       }
 
-  -- so the part that declares x owns it
   pub named-new : (q f : ℕ) → q < partCount s → f < fieldCount → isNew (fieldOf s q f .role) ≡ true → Named q f
-  named-new q f h l n =
-      named q f h l
-      (or-cases (eqb (fieldOf s q f .role) newRegister) _ n
-      (λ e. holds-new-register s q (fieldOf s q f) (eqb-true _ _ e))
-      (λ e. holds-new-signal s q (fieldOf s q f) (eqb-true _ _ e)))
+  named-new q f h l n = named q f h l (or-true (isUse (fieldOf s q f .role)) _ n)
 
   pub named-use : (q f : ℕ) → q < partCount s → f < fieldCount → isUse (fieldOf s q f .role) ≡ true → Named q f
-  named-use q f h l n =
-      named q f h l
-      (or-cases (eqb (fieldOf s q f .role) register) _ n
-      (λ e. holds-register s q (fieldOf s q f) (eqb-true _ _ e))
-      (λ e. holds-signal s q (fieldOf s q f) (eqb-true _ _ e)))
+  named-use q f h l u = named q f h l (or-first (isUse (fieldOf s q f .role)) _ u)
 
 module _ (s : List ℕ) (x q : ℕ) where
   in-body :

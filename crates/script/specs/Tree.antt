@@ -84,7 +84,7 @@ processOf s =
 abbrev pub tree : List ℕ → Proc ℕ
 tree s = processOf s (nodeCount s - 1)
 
--- the nodes of a process: the runner keeps a mark for each
+-- how many nodes a process has
 unfoldable pub size : {L : Type 0} → Proc L → ℕ
 size nil = 1
 size (assign x e) = 1
@@ -102,6 +102,6 @@ size (parallel p q) = suc (size p + size q)
 abbrev pub childSize : List ℕ → Field → ℕ
 childSize s x = cond (eqb (x .role) child) (size (processOf s (x .value))) 0
 
--- a table that keeps for each of the first n nodes the size of its process
+-- a table that keeps for each of the first n nodes the size of its process; what stands past them is left free
 abbrev pub KeepsSizes : List ℕ → ℕ → List ℕ → Type 0
 KeepsSizes s n sizes = (k : ℕ) → k < n → getD sizes k 0 ≡ size (processOf s k)

@@ -37,7 +37,7 @@ fn size_at(s: &[u8], c: Script, sizes: &[u16; Script::MAX_NODES], k: usize) -> u
     total
 }
 
-// The size of the process of each node.
+// The size of the process of each node. What stands past the nodes is left free.
 pub fn find_sizes(s: &[u8], c: Script) -> [u16; Script::MAX_NODES]
     requires { ⌜ Laid (now s) c × Checked (now s) ⌝ }
     ensures { λ r. ⌜ KeepsSizes (now (s .entry)) (c .nodes) r ⌝ }

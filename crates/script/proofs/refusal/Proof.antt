@@ -13,7 +13,7 @@ use Rattle.script.specs.declared.layout.Script.{Script}
 use Rattle.script.specs.Layout.{mostNames, mostExpressions, mostNodes, tailIsRight, countsAreRight, layoutOf, nameCount, expressionCount, nodeCount, Laid}
 use Rattle.script.specs.Entries.{node}
 use Rattle.script.specs.Refusals.{nameIsRight, partIsRight, refusal}
-use Rattle.script.proofs.Layouts.{few-bounds}
+use Rattle.script.proofs.Layouts.{few-bounds, names-are, expressions-are, nodes-are}
 use Rattle.script.proofs.Layouts as layouts
 use Rattle.script.proofs.Refusing.{past-test, missed, at-first, past-first, sound, over-expressions, over-nodes}
 use borrow.Author.Needs.{needs}
@@ -65,13 +65,13 @@ few :
 few c = few-bounds (layout c) (laid c .few)
 
 names : (c : tie.Else2) → layout c .names ≡ nameCount (file (start2 c))
-names c = ap (λ d. d .names) (read c)
+names c = names-are (laid c)
 
 expressions : (c : tie.Else2) → layout c .expressions ≡ expressionCount (file (start2 c))
-expressions c = ap (λ d. d .expressions) (read c)
+expressions c = expressions-are (laid c)
 
 nodes : (c : tie.Else2) → layout c .nodes ≡ nodeCount (file (start2 c))
-nodes c = ap (λ d. d .nodes) (read c)
+nodes c = nodes-are (laid c)
 
 -- what each search finds, by the definition, and what it leaves
 wrong-name :
