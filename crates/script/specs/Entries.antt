@@ -8,7 +8,7 @@ use Rattle.script.specs.declared.entries.Name.{Name}
 use Rattle.script.specs.declared.entries.Part.{Part}
 use Rattle.script.specs.declared.fields.Field.{Field}
 use Rattle.script.specs.Layout.{wordAt, expressionsAt, expressionCount}
-use Rattle.script.specs.Roles.{expressionRows, nodeRows, roleIn}
+use Rattle.script.specs.Roles.{expressionRows, nodeRows, roleIn, child}
 
 -- 'Name, 4 bytes: kind (0 register, 1 signal), level, owner.'
 abbrev pub nameOf : List ℕ → ℕ → Name
@@ -56,3 +56,13 @@ roleOf expressions q kind f = cond (ltb q expressions) (roleIn expressionRows ki
 -- field f of part q
 abbrev pub fieldOf : List ℕ → ℕ → ℕ → Field
 fieldOf s q f = record { role = roleOf (expressionCount s) q (partOf s q .kind) f; value = valueOf s q f }
+
+-- the children of a node: a first child stands in the first field that holds one, a second in the field after it
+abbrev pub holdsChild : Part → ℕ → Bool
+holdsChild p f = eqb (roleIn nodeRows (p .kind) f) child
+
+unfoldable pub firstChild : Part → ℕ
+firstChild p = cond (holdsChild p 0) (p .a) (cond (holdsChild p 1) (p .b) (p .c))
+
+unfoldable pub secondChild : Part → ℕ
+secondChild p = cond (holdsChild p 0) (p .b) (cond (holdsChild p 1) (p .c) 0)

@@ -8,6 +8,7 @@ mod faults; // faults.rt: refusals 6, 7 and 8
 mod uses; // uses.rt: refusal 9
 mod reach; // reach.rt: refusal 10
 pub mod sizes; // sizes.rt: how many nodes each process has
+pub mod children; // children.rt: the children of a node
 
 use crate::layout::Script;
 use prelude::Refusal;
