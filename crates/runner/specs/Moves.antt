@@ -1,0 +1,119 @@
+-- Moves within an instant, one after the other, with the lines that they write.
+use mathlib.Core.Path.{_≡_}
+use mathlib.Core.Bool.{Bool, true, false}
+use mathlib.Core.Option.{Option, none, some}
+use mathlib.Core.List.{List, [], _∷_}
+use Prim.Native.Nat.{ℕ, suc, _+_, _*_, _≤_, _<_}
+use lib.Dec.{ltb}
+use lib.IntN.{ℤ}
+use lib.ListN.{set}
+use mir.Syntax.{w32}
+use mir.Val.{ofZ}
+use Rattle.language.specs.Syntax.{Proc, isNil}
+use Rattle.language.specs.Steps.{suspended, move}
+use Rattle.language.specs.Calls.{Line, System, calledFor}
+
+-- a script that runs, and its log: what is left of it, the values, the words of the log, and what has been counted
+pub record Running (L : Type 0) : Type 0 where
+  pub process : Proc L
+  pub values : List ℤ
+  pub log : List ℕ
+  pub steps : ℕ
+  pub instants : ℕ
+  pub lines : ℕ
+
+-- 'Four words make a line: step, instant, name, value as two's complement.' Line n of a log.
+abbrev pub putLine : Line → ℕ → List ℕ → List ℕ
+putLine l n log =
+    set
+    (set (set (set log (4 * n) (l .step)) (4 * n + 1) (l .instant)) (4 * n + 2) (l .name))
+    (4 * n + 3)
+    (ofZ w32 (l .value))
+
+-- the log, and the number of its lines, after a step that calls for this line
+abbrev pub logAfter : Option Line → ℕ → List ℕ → List ℕ
+logAfter none n log = log
+logAfter (some l) n log = putLine l n log
+
+abbrev pub linesAfter : Option Line → ℕ → ℕ
+linesAfter none n = n
+linesAfter (some l) n = suc n
+
+-- there is room for the line that a step calls for: a log has room for so many lines
+abbrev pub hasRoom : ℕ → Option Line → ℕ → Bool
+hasRoom room none n = true
+hasRoom room (some l) n = ltb n room
+
+module _ {L : Type 0} where
+  abbrev pub system : Running L → System L
+  system at =
+      record { process = at .process; values = at .values; steps = at .steps; instants = at .instants }
+
+  -- the same with this process
+  abbrev pub withProcess : Proc L → Running L → Running L
+  withProcess p at =
+      record {
+        process = p;
+        values = at .values;
+        log = at .log;
+        steps = at .steps;
+        instants = at .instants;
+        lines = at .lines;
+      }
+
+module _ {L : Type 0} (seen : ℕ → Bool) where
+  -- the line that the next move calls for
+  abbrev pub nextLine : Running L → Option Line
+  nextLine at = calledFor seen (system at) (move (at .process) (at .values) .output)
+
+  -- after the next move
+  unfoldable pub moved : Running L → Running L
+  moved at =
+      record {
+        process = move (at .process) (at .values) .process;
+        values = move (at .process) (at .values) .values;
+        log = logAfter (nextLine at) (at .lines) (at .log);
+        steps = suc (at .steps);
+        instants = at .instants;
+        lines = linesAfter (nextLine at) (at .lines);
+      }
+
+-- neither nil nor suspended
+pub record Live {L : Type 0} (p : Proc L) (s : List ℤ) : Type 0 where
+  pub some : isNil p ≡ false
+  pub awake : suspended p s ≡ false
+
+-- Why there is no move: it is nil, it is suspended, the limit is reached, or the line of the next move has no room.
+abbrev pub isGone : ℕ
+isGone = 1
+
+abbrev pub isSuspended : ℕ
+isSuspended = 2
+
+abbrev pub isSpent : ℕ
+isSpent = 3
+
+abbrev pub isFull : ℕ
+isFull = 4
+
+module _ {L : Type 0} (seen : ℕ → Bool) (limit room : ℕ) where
+  -- 'Before each step: finished if the script is nil; else spent if the limit is reached; else log full if this step
+  -- needs a line and no four words are left.' A move that none of these forbids.
+  pub record Ready (at : Running L) : Type 0 where
+    pub live : Live (at .process) (at .values)
+    pub time : at .steps < limit
+    pub space : hasRoom room (nextLine seen at) (at .lines) ≡ true
+
+  -- any number of moves
+  pub data Path : Running L → Running L → Type 0 where
+    stays : {at : Running L} → Path at at
+    moves : {at to : Running L} → Ready at → Path (moved seen at) to → Path at to
+
+  -- at stands where there is no move, for this reason
+  pub data Ends (at : Running L) (why : ℕ) : Type 0 where
+    gone : why ≡ isGone → isNil (at .process) ≡ true → Ends at why
+    waits : why ≡ isSuspended → suspended (at .process) (at .values) ≡ true → Ends at why
+    spent : why ≡ isSpent → Live (at .process) (at .values) → at .steps ≡ limit → Ends at why
+    full :
+        why ≡ isFull → Live (at .process) (at .values) → at .steps < limit →
+        hasRoom room (nextLine seen at) (at .lines) ≡ false → Ends at why
