@@ -1,9 +1,9 @@
 -- The forms of each kind of node, in the order of specs/Residual.antt: what is in front, and what stands around it.
 use mathlib.Core.Bool.{Bool, cond, _||_}
 use mathlib.Core.List.{List, [], _∷_}
-use Prim.Native.Nat.{ℕ, _+_}
+use Prim.Native.Nat.{ℕ, _+_, _-_}
 use lib.Dec.{eqb, leb}
-use lib.ListN.{getD}
+use lib.ListN.{getD, take, drop}
 use Rattle.script.specs.Entries.{partOf, node, firstChild, secondChild}
 use Rattle.script.specs.Tree.{processOf, size}
 use Rattle.runner.specs.declared.forms.Front.{Front}
@@ -79,3 +79,7 @@ frontOf s k tag len =
     (fromSecond form)
     (record { form = form; child = two; from = middle; to = len })
     (record { form = form; child = one; from = 1; to = middle }))
+
+-- the bytes of the part in front
+abbrev pub partIn : Front → List ℕ → List ℕ
+partIn f st = take (f .to - f .from) (drop (f .from) st)

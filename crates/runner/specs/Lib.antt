@@ -4,4 +4,4 @@ pub mod Forms
 pub mod Frames
 pub mod Moves
 pub mod Outcome
-pub mod Asks
+pub mod Contracts

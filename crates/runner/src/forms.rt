@@ -1,7 +1,113 @@
-// The form of a node.
+// The form that a node has come to: what is in front, and what stands around it.
+use script::layout::Script;
+ghost use mathlib.Core.Path.{_≡_};
+ghost use Prim.Native.Nat.{_<_};
+ghost use lib.ListN.{getD};
+ghost use Rattle.script.specs.Layout.{nodeCount, Laid};
+ghost use Rattle.script.specs.Tree.{KeepsSizes};
+ghost use Rattle.script.specs.Checked.{Checked};
+ghost use Rattle.runner.specs.Forms.{formOf, frontOf};
+
+// Nil.
+pub const GONE: u8 = 0;
+// The node's own move is next.
+pub const MOVER: u8 = 1;
+// The first part alone, or the second.
+pub const FIRST: u8 = 2;
+
+pub const SECOND: u8 = 3;
+// The first part, and after it something else.
+pub const BEFORE: u8 = 4;
+// The first part, watching a signal, or under a when.
+pub const WATCHED: u8 = 5;
+
+pub const GUARDED: u8 = 6;
+// The first part in parallel with the second, or the other way round.
+pub const BESIDE: u8 = 7;
+
+pub const TURNED: u8 = 8;
+
+// The forms of each kind of node, by the node's own byte of state. Past them a node is nil.
+const FORM_ROWS: [[u8; 4]; 11] = [
+    [GONE, GONE, GONE, GONE],
+    [MOVER, GONE, GONE, GONE],
+    [MOVER, FIRST, GONE, GONE],
+    [MOVER, FIRST, SECOND, GONE],
+    [MOVER, BEFORE, GONE, GONE],
+    [BEFORE, SECOND, GONE, GONE],
+    [MOVER, GONE, GONE, GONE],
+    [MOVER, FIRST, GONE, GONE],
+    [WATCHED, GONE, GONE, GONE],
+    [GUARDED, GONE, GONE, GONE],
+    [BESIDE, TURNED, FIRST, SECOND],
+];
+
+// A byte past all forms: the node is nil.
+pub const NIL: u8 = 4;
+
+// The part in front: its node, and where its bytes stand among those of its parent.
 pub struct Front {
     pub form: u8,
     pub child: usize,
     pub from: usize,
     pub to: usize,
+}
+
+fn form_of(kind: usize, tag: u8) -> u8
+    requires { ⌜ kind < 11 ⌝ }
+    ensures { λ r. ⌜ r ≡ formOf kind tag ⌝ }
+{
+    if NIL <= tag {
+        return GONE;
+    }
+    let t = prelude::wide(tag);
+    FORM_ROWS[kind][t]
+}
+
+fn size_at(sizes: &[u16; Script::MAX_NODES], k: usize) -> usize
+    requires { ⌜ k < 256 ⌝ }
+    ensures { λ r. ⌜ r ≡ getD (now (sizes .entry)) k 0 ⌝ }
+{
+    sizes[k] as usize
+}
+
+// The form of node k whose own byte is `tag` and which has so many bytes.
+pub fn find_front(
+    s: &[u8],
+    c: Script,
+    sizes: &[u16; Script::MAX_NODES],
+    k: usize,
+    tag: u8,
+    len: usize,
+) -> Front
+    requires { ⌜ Laid (now s) c × (Checked (now s) × (KeepsSizes (now s) (nodeCount (now s)) (now sizes) × (k < nodeCount (now s)))) ⌝ }
+    ensures { λ r. ⌜ r ≡ frontOf (now (s .entry)) k tag len ⌝ }
+{
+    let p = script::entries::part_at(s, c, c.expressions + k);
+    let form = form_of(p.kind, tag);
+    if form <= MOVER {
+        return Front {
+            form,
+            child: 0,
+            from: 0,
+            to: 0,
+        };
+    }
+    let parts = script::children::children_of(p);
+    let first = parts.first;
+    let middle = 1 + size_at(sizes, first);
+    if form == SECOND || form == TURNED {
+        return Front {
+            form,
+            child: parts.second,
+            from: middle,
+            to: len,
+        };
+    }
+    Front {
+        form,
+        child: first,
+        from: 1,
+        to: middle,
+    }
 }

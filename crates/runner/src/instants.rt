@@ -1,0 +1,80 @@
+// Instant changes, and what an instant begins with.
+use crate::forms;
+use crate::forms::find_front;
+use crate::values;
+use script::layout::Script;
+ghost use mathlib.Core.Path.{_≡_};
+ghost use lib.ListN.{length};
+ghost use Rattle.language.specs.Steps.{change, instantStart};
+ghost use Rattle.language.specs.Calls.{givenBack};
+ghost use Rattle.script.specs.Layout.{nodeCount};
+ghost use Rattle.script.specs.Tree.{namesOf, KeepsSizes};
+ghost use Rattle.runner.specs.Contracts.{Valued, At, left};
+
+// The instant change of node k, which goes into what is in front and reads the signals of the instant that ends.
+pub fn change_instant(
+    s: &[u8],
+    c: Script,
+    sizes: &[u16; Script::MAX_NODES],
+    values: &[i32],
+    state: &mut [u8],
+    k: usize,
+)
+    requires { ⌜ Valued (now s) c (now values) × (KeepsSizes (now s) (nodeCount (now s)) (now sizes) × At (now s) k (now state)) ⌝ }
+    ensures { λ _. ⌜ left (now (s .entry)) k (now (state .exit)) ≡ change (left (now (s .entry)) k (now (state .entry))) (now (values .entry)) ⌝ }
+{
+    let tag = state[0];
+    let len = state.len();
+    let f = find_front(s, c, sizes, k, tag, len);
+    if f.form <= forms::MOVER {
+        return;
+    }
+    if f.form == forms::WATCHED && values::signal_is_present(s, c, values, k) {
+        state[0] = forms::NIL;
+        return;
+    }
+    if f.form == forms::GUARDED && !values::signal_is_present(s, c, values, k) {
+        return;
+    }
+    let from = f.from;
+    let to = f.to;
+    change_instant(s, c, sizes, values, &mut state[from..to], f.child);
+    if forms::BESIDE <= f.form {
+        let g = find_front(s, c, sizes, k, 1 - tag, len);
+        let start = g.from;
+        let end = g.to;
+        change_instant(s, c, sizes, values, &mut state[start..end], g.child);
+    }
+}
+
+// Every signal is absent.
+pub fn clear_signals(s: &[u8], c: Script, values: &mut [i32])
+    requires { ⌜ Valued (now s) c (now values) ⌝ }
+    ensures { λ _. ⌜ now (values .exit) ≡ instantStart (namesOf (now (s .entry))) (now (values .entry)) ⌝ }
+{
+    let n = c.names;
+    let mut x: usize = 0;
+    while x < n {
+        let name = script::entries::name_at(s, c, x);
+        if name.kind == 1 {
+            values[x] = 0;
+        }
+        x += 1;
+    }
+}
+
+// Every owned name is 0.
+pub fn clear_owned(s: &[u8], c: Script, values: &mut [i32])
+    requires { ⌜ Valued (now s) c (now values) ⌝ }
+    ensures { λ _. ⌜ now (values .exit) ≡ givenBack (namesOf (now (s .entry))) (now (values .entry)) ⌝ }
+{
+    let n = c.names;
+    let mut x: usize = 0;
+    while x < n {
+        let name = script::entries::name_at(s, c, x);
+        if name.owner != script::entries::SESSION {
+            values[x] = 0;
+        }
+        x += 1;
+    }
+}

@@ -1,0 +1,72 @@
+// Whether what is left of a node is suspended.
+use crate::forms;
+use crate::forms::find_front;
+use crate::values;
+use script::layout::Script;
+ghost use mathlib.Core.Path.{_≡_};
+ghost use Prim.Native.Nat.{_-_};
+ghost use lib.ListN.{length};
+ghost use Rattle.language.specs.Steps.{suspended};
+ghost use Rattle.script.specs.Layout.{nodeCount};
+ghost use Rattle.script.specs.Tree.{KeepsSizes};
+ghost use Rattle.runner.specs.Residual.{own};
+ghost use Rattle.runner.specs.Forms.{beside, frontOf};
+ghost use Rattle.runner.specs.Contracts.{Valued, At, left, RearWaits};
+
+// Only a parallel asks two parts: it is suspended if both are.
+pub fn is_suspended(
+    s: &[u8],
+    c: Script,
+    sizes: &[u16; Script::MAX_NODES],
+    values: &[i32],
+    state: &[u8],
+    k: usize,
+) -> bool
+    requires { ⌜ Valued (now s) c (now values) × (KeepsSizes (now s) (nodeCount (now s)) (now sizes) × At (now s) k (now state)) ⌝ }
+    ensures { λ r. ⌜ r ≡ suspended (left (now (s .entry)) k (now (state .entry))) (now (values .entry)) ⌝ }
+{
+    let tag = state[0];
+    let len = state.len();
+    let f = find_front(s, c, sizes, k, tag, len);
+    if f.form <= forms::MOVER {
+        return false;
+    }
+    if f.form == forms::GUARDED && !values::signal_is_present(s, c, values, k) {
+        return true;
+    }
+    let from = f.from;
+    let to = f.to;
+    let waits = is_suspended(s, c, sizes, values, &state[from..to], f.child);
+    if !waits || f.form < forms::BESIDE {
+        return waits;
+    }
+    let g = find_front(s, c, sizes, k, 1 - tag, len);
+    let start = g.from;
+    let end = g.to;
+    is_suspended(s, c, sizes, values, &state[start..end], g.child)
+}
+
+// Whether nothing behind the part in front of node k could move in its place: k is no parallel, or its other part
+// is suspended.
+pub fn rear_waits(
+    s: &[u8],
+    c: Script,
+    sizes: &[u16; Script::MAX_NODES],
+    values: &[i32],
+    state: &[u8],
+    k: usize,
+    form: u8,
+) -> bool
+    requires { ⌜ Valued (now s) c (now values) × (KeepsSizes (now s) (nodeCount (now s)) (now sizes) × At (now s) k (now state)) ⌝ }
+    requires { ⌜ form ≡ frontOf (now s) k (own (now state)) (length (now state)) .form ⌝ }
+    ensures { λ r. ⌜ RearWaits (now (s .entry)) k (now (state .entry)) (now (values .entry)) form r ⌝ }
+{
+    if form < forms::BESIDE {
+        return true;
+    }
+    let tag = state[0];
+    let g = find_front(s, c, sizes, k, 1 - tag, state.len());
+    let start = g.from;
+    let end = g.to;
+    is_suspended(s, c, sizes, values, &state[start..end], g.child)
+}
