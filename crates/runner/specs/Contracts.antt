@@ -153,13 +153,13 @@ pub record Rests (s : List ℕ) (k : ℕ) (st : List ℕ) (values : List ℤ) (f
 -- A process whose part in front rests: it rests for that reason, or the limit is reached, or it has made a move.
 pub data Settles
     (limit : ℕ) (p : Proc ℕ) (s : List ℤ) (p′ : Proc ℕ) (steps lines why : ℕ) (how steps′ lines′ : ℕ) : Type 0 where
-  rested :
+  restsOn :
       how ≡ why → p′ ≡ p → steps′ ≡ steps → lines′ ≡ lines → (why ≡ isGone → isNil p ≡ true) →
       (why ≡ isSuspended → suspended p s ≡ true) → Settles limit p s p′ steps lines why how steps′ lines′
-  spent :
+  atLimit :
       how ≡ isSpent → p′ ≡ p → steps′ ≡ steps → lines′ ≡ lines → Live p s → steps ≡ limit →
       Settles limit p s p′ steps lines why how steps′ lines′
-  moved :
+  makesMove :
       how ≡ 0 → steps′ ≡ suc steps → lines′ ≡ lines → steps < limit → Leaves p s p′ s →
       Settles limit p s p′ steps lines why how steps′ lines′
 
