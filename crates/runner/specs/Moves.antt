@@ -9,8 +9,8 @@ use lib.IntN.{ℤ}
 use lib.ListN.{set}
 use mir.Syntax.{w32}
 use mir.Val.{ofZ}
-use Rattle.language.specs.Syntax.{Proc, isNil}
-use Rattle.language.specs.Steps.{suspended, move}
+use Rattle.language.specs.Syntax.{Names, Proc, isNil}
+use Rattle.language.specs.Steps.{suspended, move, change, instantStart}
 use Rattle.language.specs.Calls.{Line, System, calledFor}
 
 -- a script that runs, and its log: what is left of it, the values, the words of the log, and what has been counted
@@ -60,6 +60,18 @@ module _ {L : Type 0} where
         instants = at .instants;
         lines = at .lines;
       }
+
+-- after an instant change, which is a step, and writes no line
+abbrev pub changed : {L : Type 0} → Names L → Running L → Running L
+changed names at =
+    record {
+      process = change (at .process) (at .values);
+      values = instantStart names (at .values);
+      log = at .log;
+      steps = suc (at .steps);
+      instants = suc (at .instants);
+      lines = at .lines;
+    }
 
 module _ {L : Type 0} (seen : ℕ → Bool) where
   -- the line that the next move calls for

@@ -1,11 +1,13 @@
 -- What a run leaves: the numbers that it returns, the values, and the log.
-use mathlib.Core.List.{List, [], _∷_}
+use mathlib.Core.List.{List, [], _∷_, _++_}
 use Prim.Native.Nat.{ℕ, suc, _+_, _-_}
 use mathlib.Core.Bool.{Bool}
 use lib.IntN.{ℤ}
 use lib.ListN.{length}
+use mir.Syntax.{w32}
+use mir.Val.{ofZ}
 use Rattle.language.specs.Syntax.{Names}
-use Rattle.language.specs.Calls.{Line, Ending, Run, run}
+use Rattle.language.specs.Calls.{Line, Ending, Run, givenBack, run}
 use Rattle.runner.specs.Moves.{Running, system, putLine}
 
 pub record Outcome : Type 0 where
@@ -20,6 +22,14 @@ pub record Outcome : Type 0 where
 unfoldable pub written : List Line → ℕ → List ℕ → List ℕ
 written [] n log = log
 written (l ∷ ls) n log = written ls (suc n) (putLine l n log)
+
+-- the words that putLine writes
+abbrev pub lineWords : Line → List ℕ
+lineWords l = l .step ∷ l .instant ∷ l .name ∷ ofZ w32 (l .value) ∷ []
+
+unfoldable pub words : List Line → List ℕ
+words [] = []
+words (l ∷ ls) = lineWords l ++ words ls
 
 -- a run that begins with n lines in this log
 abbrev pub recorded : ℕ → List ℕ → Run → Outcome
@@ -37,3 +47,15 @@ recorded n log r =
 unfoldable pub outcome : {L : Type 0} → Names L → (ℕ → Bool) → ℕ → ℕ → Running L → Outcome
 outcome names seen limit room at =
     recorded (at .lines) (at .log) (run names seen (limit - at .steps) (room - at .lines) (system at))
+
+-- a script that stops here
+abbrev pub stopped : {L : Type 0} → Names L → Ending → Running L → Outcome
+stopped names how at =
+    record {
+      ending = how;
+      steps = at .steps;
+      instants = at .instants;
+      lines = at .lines;
+      values = givenBack names (at .values);
+      log = at .log;
+    }
