@@ -30,13 +30,9 @@ take-zeros (suc i) zero h = absurd (not-suc-le-zero h)
 take-zeros (suc i) (suc n) h = ap (λ l. 0 ∷ l) (take-zeros i n (le-of-suc-le-suc h))
 
 module _ {L : Type 0} where
-  -- the parts of cleared bytes are cleared
-  module _ (p : Proc L) (n : ℕ) where
-    first-zeros : suc (size p) ≤ n → firstOf p (replicate n 0) ≡ replicate (size p) 0
-    first-zeros h = ap (take (size p)) (drop-zeros 1 n) ∙ take-zeros (size p) (n - 1) (omega arith)
-
-    second-zeros : secondOf p (replicate n 0) ≡ replicate (n - suc (size p)) 0
-    second-zeros = drop-zeros (suc (size p)) n
+  -- the first part of cleared bytes is cleared
+  first-zeros : (p : Proc L) (n : ℕ) → suc (size p) ≤ n → firstOf p (replicate n 0) ≡ replicate (size p) 0
+  first-zeros p n h = ap (take (size p)) (drop-zeros 1 n) ∙ take-zeros (size p) (n - 1) (omega arith)
 
   pub zeros : (p : Proc L) (n : ℕ) → size p ≤ n → residual p (replicate n 0) ≡ p
   unfolding residual size
@@ -47,13 +43,13 @@ module _ {L : Type 0} where
       rw (own-zeros n)
       (ap₂ (ifThenElse e)
       (rw (first-zeros p n (omega arith)) (zeros p (size p) (omega arith)))
-      (rw (second-zeros p n) (zeros q (n - suc (size p)) (omega arith))))
+      (rw (drop-zeros (suc (size p)) n) (zeros q (n - suc (size p)) (omega arith))))
   zeros (while e p) n h = rw (own-zeros n)
   zeros (sequence p q) n h =
       rw (own-zeros n)
       (ap₂ sequence
       (rw (first-zeros p n (omega arith)) (zeros p (size p) (omega arith)))
-      (rw (second-zeros p n) (zeros q (n - suc (size p)) (omega arith))))
+      (rw (drop-zeros (suc (size p)) n) (zeros q (n - suc (size p)) (omega arith))))
   zeros (emit a) n h = rw (own-zeros n)
   zeros (local x δ p) n h = rw (own-zeros n) (ap (local x δ) (rw (first-zeros p n h) (zeros p (size p) (omega arith))))
   zeros (watching a p) n h = rw (own-zeros n) (ap (watching a) (rw (first-zeros p n h) (zeros p (size p) (omega arith))))
@@ -62,7 +58,7 @@ module _ {L : Type 0} where
       rw (own-zeros n)
       (ap₂ parallel
       (rw (first-zeros p n (omega arith)) (zeros p (size p) (omega arith)))
-      (rw (second-zeros p n) (zeros q (n - suc (size p)) (omega arith))))
+      (rw (drop-zeros (suc (size p)) n) (zeros q (n - suc (size p)) (omega arith))))
 
   module _ (a : ℕ) where
     -- each of these processes leaves a alone
