@@ -1,3 +1,6 @@
 -- Laws that the proofs of several functions use.
 pub mod Framing
 pub mod Outcomes
+pub mod Residuals
+pub mod Scopes
+pub mod Sights

@@ -65,7 +65,7 @@ module _ (s : List ℕ) where
           ]
 
   -- a part has no greater number than the part in which it lies
-  within-below : (n p q : ℕ) → p < n → within s p q ≡ true → q ≤ p
+  pub within-below : (n p q : ℕ) → p < n → within s p q ≡ true → q ≤ p
   within-below zero p q h e = absurd (not-suc-le-zero h)
   within-below (suc n) p q h e =
       within-cases p q e (λ t. omega arith)
@@ -213,7 +213,7 @@ module _ (s : List ℕ) (x q : ℕ) where
       any-some _ fieldCount f h
       (and-intro (eqb (fieldOf s (node s (nameOf s x .owner)) f .role) child) _ e w)
 
-  body-of :
+  pub body-of :
       {M : Type 0} → inBody s x q ≡ true →
       ((f : ℕ) → f < fieldCount → eqb (fieldOf s (node s (nameOf s x .owner)) f .role) child ≡ true →
       within s (used s (fieldCount * node s (nameOf s x .owner) + f)) q ≡ true → M) → M
@@ -225,7 +225,7 @@ module _ (s : List ℕ) (x q : ℕ) where
 
 module _ (s : List ℕ) (joined : Joined s) where
   -- a child comes before its parent
-  child-used :
+  pub child-used :
       (d f : ℕ) → d < partCount s → f < fieldCount → eqb (fieldOf s d f .role) child ≡ true → used s (fieldCount * d + f) < d
   child-used d f h l e =
       let c = eqb-true (fieldOf s d f .role) child e in
