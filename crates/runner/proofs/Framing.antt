@@ -16,7 +16,7 @@ use Rattle.language.specs.Syntax.{Proc, nil, assign, letIn, ifThenElse, while, 
 use Rattle.language.specs.Steps.{present, test, value, Outcome, leaves, inside, suspended, move}
 use Rattle.language.specs.Calls.{calledFor}
 use Rattle.runner.specs.Frames.{Frame, alone, beforeThe, watchedBy, guardedBy, besideThe, around, leavesAlone, Open}
-use Rattle.runner.specs.Moves.{Running, withProcess, nextLine, hasRoom, moved, Live, isSpent, Path, stays, moves, Ends, gone, waits, spent, full}
+use Rattle.runner.specs.Moves.{Running, withProcess, nextLine, hasRoom, moved, Live, Silent, isSpent, Path, stays, moves, Ends, gone, waits, spent, full}
 
 parts : (b c : Bool) → (b && c) ≡ true → (b ≡ true) × (c ≡ true)
 parts b c h = (and-left b c h, and-right b c h)
@@ -120,10 +120,6 @@ module _ {L : Type 0} where
   move-around (watchedBy a) l = rw (l .some)
   move-around (guardedBy a) l = rw (l .some)
   move-around (besideThe q) l = rw (l .some, l .awake)
-
-  -- a move that writes nothing for a reader to see, and what it leaves
-  abbrev pub Silent : Proc L → List ℤ → Proc L → List ℤ → Type 0
-  Silent p s p′ s′ = Live p s × (move p s ≡ leaves p′ s′)
 
   module _ {p : Proc L} (s : List ℤ) (h : isNil p ≡ true) where
     pub drop-before : (q : Proc L) → Silent (sequence p q) s q s

@@ -9,7 +9,7 @@ use lib.Dec.{eqb, ltb}
 use lib.IntN.{ℤ}
 use lib.ListN.{getD, set, length}
 use Rattle.language.specs.Syntax.{Operator, add, subtract, multiply, divide, less, equal, Proc, nil, isNil}
-use Rattle.language.specs.Steps.{present, apply, leaves, suspended, move}
+use Rattle.language.specs.Steps.{present, apply, suspended, move}
 use Rattle.language.specs.Calls.{Line, System, Ending, finished, spent, logFull, lineFor, calledFor}
 use Rattle.script.specs.declared.layout.Script.{Script}
 use Rattle.script.specs.Layout.{nameCount, nodeCount, Laid}
@@ -21,7 +21,7 @@ use Rattle.runner.specs.declared.log.Noted.{Noted}
 use Rattle.runner.specs.declared.Ran.{Ran}
 use Rattle.runner.specs.Residual.{own, residual}
 use Rattle.runner.specs.Forms.{mover, before, guarded, beside, frontOf, partIn}
-use Rattle.runner.specs.Moves.{Running, logAfter, linesAfter, hasRoom, Live, isGone, isSuspended, isSpent, isFull, Path, Ends}
+use Rattle.runner.specs.Moves.{Running, logAfter, linesAfter, hasRoom, Live, Silent, isGone, isSuspended, isSpent, isFull, Path, Ends}
 use Rattle.runner.specs.Outcome.{Outcome}
 
 -- 'a step limit to 1,000,000'
@@ -75,11 +75,6 @@ pub record Notes (room : ℕ) (l : Option Line) (n : ℕ) (log : List ℕ) (r : 
   pub written : r .fits ≡ true → after ≡ logAfter l n log
   pub lines : r .fits ≡ true → r .lines ≡ linesAfter l n
   pub full : r .fits ≡ false → after ≡ log
-
--- a move that writes nothing for a reader to see
-pub record Leaves (p : Proc ℕ) (s : List ℤ) (p′ : Proc ℕ) (s′ : List ℤ) : Type 0 where
-  pub live : Live p s
-  pub moved : move p s ≡ leaves p′ s′
 
 -- let, if, while and local write no line
 abbrev pub IsSilent : ℕ → Type 0
@@ -160,7 +155,7 @@ pub data Settles
       how ≡ isSpent → p′ ≡ p → steps′ ≡ steps → lines′ ≡ lines → Live p s → steps ≡ limit →
       Settles limit p s p′ steps lines why how steps′ lines′
   makesMove :
-      how ≡ 0 → steps′ ≡ suc steps → lines′ ≡ lines → steps < limit → Leaves p s p′ s →
+      how ≡ 0 → steps′ ≡ suc steps → lines′ ≡ lines → steps < limit → Silent p s p′ s →
       Settles limit p s p′ steps lines why how steps′ lines′
 
 -- a script at its start, with nothing counted

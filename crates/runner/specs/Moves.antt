@@ -10,7 +10,7 @@ use lib.ListN.{set}
 use mir.Syntax.{w32}
 use mir.Val.{ofZ}
 use Rattle.language.specs.Syntax.{Names, Proc, isNil}
-use Rattle.language.specs.Steps.{suspended, move, change, instantStart}
+use Rattle.language.specs.Steps.{leaves, suspended, move, change, instantStart}
 use Rattle.language.specs.Calls.{Line, System, calledFor}
 
 -- a script that runs, and its log: what is left of it, the values, the words of the log, and what has been counted
@@ -94,6 +94,10 @@ module _ {L : Type 0} (seen : ℕ → Bool) where
 pub record Live {L : Type 0} (p : Proc L) (s : List ℤ) : Type 0 where
   pub some : isNil p ≡ false
   pub awake : suspended p s ≡ false
+
+-- a move that writes nothing for a reader to see
+abbrev pub Silent : {L : Type 0} → Proc L → List ℤ → Proc L → List ℤ → Type 0
+Silent p s p′ s′ = Live p s × (move p s ≡ leaves p′ s′)
 
 -- Why there is no move: it is nil, it is suspended, the limit is reached, or the line of the next move has no room.
 abbrev pub isGone : ℕ

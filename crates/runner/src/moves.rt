@@ -9,7 +9,8 @@ ghost use lib.ListN.{length, replicate};
 ghost use Rattle.script.specs.Entries.{partOf, node};
 ghost use Rattle.runner.specs.Residual.{own};
 ghost use Rattle.runner.specs.Forms.{mover, formOf};
-ghost use Rattle.runner.specs.Contracts.{Valued, At, Counted, left, seenIn, IsSilent, Leaves, Writes, runningAt, Advances};
+ghost use Rattle.runner.specs.Moves.{Silent};
+ghost use Rattle.runner.specs.Contracts.{Valued, At, Counted, left, seenIn, IsSilent, Writes, runningAt, Advances};
 
 // Why a node made no further move: it has made one and can go on; it is nil; it is suspended; the limit is reached;
 // the next line has no room.
@@ -53,7 +54,7 @@ fn clear(state: &mut [u8])
 // A let sets its name and leaves its body.
 fn move_let(s: &[u8], c: Script, values: &mut [i32], state: &mut [u8], k: usize)
     requires { ⌜ Valued (now s) c (now values) × (At (now s) k (now state) × ((partOf (now s) (node (now s) k) .kind ≡ 2) × (own (now state) ≡ 0))) ⌝ }
-    ensures { λ _. ⌜ Leaves (left (now (s .entry)) k (now (state .entry))) (now (values .entry)) (left (now (s .entry)) k (now (state .exit))) (now (values .exit)) ⌝ }
+    ensures { λ _. ⌜ Silent (left (now (s .entry)) k (now (state .entry))) (now (values .entry)) (left (now (s .entry)) k (now (state .exit))) (now (values .exit)) ⌝ }
 {
     let p = script::entries::part_at(s, c, c.expressions + k);
     let x = p.a;
@@ -65,7 +66,7 @@ fn move_let(s: &[u8], c: Script, values: &mut [i32], state: &mut [u8], k: usize)
 // A local makes its signal absent and leaves its body.
 fn move_local(s: &[u8], c: Script, values: &mut [i32], state: &mut [u8], k: usize)
     requires { ⌜ Valued (now s) c (now values) × (At (now s) k (now state) × ((partOf (now s) (node (now s) k) .kind ≡ 7) × (own (now state) ≡ 0))) ⌝ }
-    ensures { λ _. ⌜ Leaves (left (now (s .entry)) k (now (state .entry))) (now (values .entry)) (left (now (s .entry)) k (now (state .exit))) (now (values .exit)) ⌝ }
+    ensures { λ _. ⌜ Silent (left (now (s .entry)) k (now (state .entry))) (now (values .entry)) (left (now (s .entry)) k (now (state .exit))) (now (values .exit)) ⌝ }
 {
     let p = script::entries::part_at(s, c, c.expressions + k);
     let a = p.a;
@@ -76,7 +77,7 @@ fn move_local(s: &[u8], c: Script, values: &mut [i32], state: &mut [u8], k: usiz
 // An if leaves a branch.
 fn move_if(s: &[u8], c: Script, values: &[i32], state: &mut [u8], k: usize)
     requires { ⌜ Valued (now s) c (now values) × (At (now s) k (now state) × ((partOf (now s) (node (now s) k) .kind ≡ 3) × (own (now state) ≡ 0))) ⌝ }
-    ensures { λ _. ⌜ Leaves (left (now (s .entry)) k (now (state .entry))) (now (values .entry)) (left (now (s .entry)) k (now (state .exit))) (now (values .entry)) ⌝ }
+    ensures { λ _. ⌜ Silent (left (now (s .entry)) k (now (state .entry))) (now (values .entry)) (left (now (s .entry)) k (now (state .exit))) (now (values .entry)) ⌝ }
 {
     let p = script::entries::part_at(s, c, c.expressions + k);
     if values::test_holds(s, c, values, p.a) {
@@ -89,7 +90,7 @@ fn move_if(s: &[u8], c: Script, values: &[i32], state: &mut [u8], k: usize)
 // A while leaves its body, as it is written, and then itself; or nil.
 fn move_while(s: &[u8], c: Script, values: &[i32], state: &mut [u8], k: usize)
     requires { ⌜ Valued (now s) c (now values) × (At (now s) k (now state) × ((partOf (now s) (node (now s) k) .kind ≡ 4) × (own (now state) ≡ 0))) ⌝ }
-    ensures { λ _. ⌜ Leaves (left (now (s .entry)) k (now (state .entry))) (now (values .entry)) (left (now (s .entry)) k (now (state .exit))) (now (values .entry)) ⌝ }
+    ensures { λ _. ⌜ Silent (left (now (s .entry)) k (now (state .entry))) (now (values .entry)) (left (now (s .entry)) k (now (state .exit))) (now (values .entry)) ⌝ }
 {
     let p = script::entries::part_at(s, c, c.expressions + k);
     if values::test_holds(s, c, values, p.a) {
@@ -104,7 +105,7 @@ fn move_while(s: &[u8], c: Script, values: &[i32], state: &mut [u8], k: usize)
 fn move_silently(s: &[u8], c: Script, values: &mut [i32], state: &mut [u8], k: usize, kind: usize)
     requires { ⌜ Valued (now s) c (now values) × (At (now s) k (now state) × ((kind ≡ partOf (now s) (node (now s) k) .kind) × (own (now state) ≡ 0))) ⌝ }
     requires { ⌜ IsSilent kind ⌝ }
-    ensures { λ _. ⌜ Leaves (left (now (s .entry)) k (now (state .entry))) (now (values .entry)) (left (now (s .entry)) k (now (state .exit))) (now (values .exit)) ⌝ }
+    ensures { λ _. ⌜ Silent (left (now (s .entry)) k (now (state .entry))) (now (values .entry)) (left (now (s .entry)) k (now (state .exit))) (now (values .exit)) ⌝ }
 {
     if kind == 2 {
         move_let(s, c, values, state, k);
