@@ -41,22 +41,19 @@ beside = 7
 abbrev pub turned : ℕ
 turned = 8
 
-abbrev pub forms : ℕ → ℕ → ℕ → ℕ → List ℕ
-forms a b c d = a ∷ b ∷ c ∷ d ∷ []
-
 abbrev pub formRows : List (List ℕ)
 formRows =
-    forms gone gone gone gone
-    ∷ forms mover gone gone gone
-    ∷ forms mover first gone gone
-    ∷ forms mover first second gone
-    ∷ forms mover before gone gone
-    ∷ forms before second gone gone
-    ∷ forms mover gone gone gone
-    ∷ forms mover first gone gone
-    ∷ forms watched gone gone gone
-    ∷ forms guarded gone gone gone
-    ∷ forms beside turned first second
+    []
+    ∷ (mover ∷ [])
+    ∷ (mover ∷ first ∷ [])
+    ∷ (mover ∷ first ∷ second ∷ [])
+    ∷ (mover ∷ before ∷ [])
+    ∷ (before ∷ second ∷ [])
+    ∷ (mover ∷ [])
+    ∷ (mover ∷ first ∷ [])
+    ∷ (watched ∷ [])
+    ∷ (guarded ∷ [])
+    ∷ (beside ∷ turned ∷ first ∷ second ∷ [])
     ∷ []
 
 -- the form of a node of this kind with this byte of its own
