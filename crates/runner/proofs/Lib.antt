@@ -4,3 +4,4 @@ pub mod Outcomes
 pub mod Residuals
 pub mod Scopes
 pub mod Sights
+pub mod Fronts
