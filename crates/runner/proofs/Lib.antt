@@ -1,3 +1,4 @@
 -- Laws that the proofs of several functions use.
+pub mod Bits
 pub mod Framing
 pub mod Outcomes
