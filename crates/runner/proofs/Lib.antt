@@ -6,3 +6,5 @@ pub mod Residuals
 pub mod Scopes
 pub mod Sights
 pub mod Fronts
+pub mod Movers
+pub mod Advancing
