@@ -8,3 +8,5 @@ pub mod Sights
 pub mod Fronts
 pub mod Movers
 pub mod Advancing
+pub mod Resting
+pub mod Turning
