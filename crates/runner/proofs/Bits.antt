@@ -3,6 +3,7 @@
 use mathlib.Core.Path.{_≡_, refl, sym, ap, _∙_, subst}
 use mathlib.Core.Bool.{Bool, true, false, not, true≢false}
 use Prim.Native.Nat.{ℕ, suc, _-_, _^_, _≤_, _<_}
+use native.Mathlib.Decide.{ℕ-discrete}
 use native.Mathlib.Omega.{arith}
 use lib.Dec.{T, eqb}
 use lib.IntN.{ℤ, pos, negsuc, natAbs, _+ℤ_, _-ℤ_}
@@ -10,8 +11,9 @@ use lib.Signed.{mag, ltZ, nonNeg}
 use mir.Syntax.{w32, w64}
 use mir.Val.{Fits, SFits, hbits, toZ, ofZ}
 use mir.Facts.{sfits-toZ, sfits-widen, toZ-ofZ, toZ-pos}
-use borrow.Author.Tests.{ltb-true, lt-ltb, le-ltb}
-use Rattle.language.proofs.Signed.{readBack, widened, widens}
+use borrow.Author.Tests.{ltb-true, lt-ltb, le-ltb, eq-eqb, ne-eqb}
+use Rattle.language.specs.Values.{isZero, holds}
+use Rattle.language.proofs.Signed.{readBack, widened, widens, zero-by-bits, nonzero-by-bits}
 
 -- what a cast to an unsigned word asks
 abbrev IsWord : ℤ → Type 0
@@ -76,6 +78,16 @@ module _ {x : ℕ} (h : 2 ^ 31 ≤ x) (f : Fits w32 x) where
   pub lowered-value : readBack w32 (readBack w64 (toZ w64 x -ℤ pos (2 ^ 32))) ≡ toZ w32 x
   lowered-value = toZ-ofZ lowered-casts ∙ lowered-back
 
--- what a call that ends in a signed value gives
+-- a signed value that a call gave, as it is read back
 pub given-back : {r z : ℤ} → mag r < 2 ^ hbits w32 → r ≡ z → readBack w32 r ≡ z
 given-back h e = toZ-ofZ {w = w32} (record { sfits = h }) ∙ e
+
+-- the machine's test of a value, which is one of its bits
+pub test-by-bits : (z : ℤ) → mag z < 2 ^ hbits w32 → not (eqb (ofZ w32 z) 0) ≡ holds z
+test-by-bits z h =
+    let e : eqb (ofZ w32 z) 0 ≡ isZero z =
+    elim (ℕ-discrete (ofZ w32 z) 0) [
+      | yes e ↦ eq-eqb (ofZ w32 z) 0 e ∙ sym (zero-by-bits {a = z} (record { sfits = h }) e)
+      | no n ↦ ne-eqb (ofZ w32 z) 0 n ∙ sym (nonzero-by-bits z n)
+    ] in
+    ap not e
