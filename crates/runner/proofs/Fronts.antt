@@ -10,12 +10,10 @@ use lib.ListN.{getD}
 use borrow.Author.Tests.{le-leb, lt-leb, eqb-true}
 use Rattle.prelude.specs.Search.{all}
 use Rattle.prelude.proofs.Searches.{all-elim}
-use Rattle.script.specs.declared.layout.Script.{Script}
-use Rattle.script.specs.Layout.{nodeCount, Laid}
+use Rattle.script.specs.Layout.{nodeCount}
 use Rattle.script.specs.Entries.{partOf, node, firstChild, secondChild}
 use Rattle.script.specs.Tree.{processOf, size}
 use Rattle.script.specs.Checked.{Checked}
-use Rattle.script.proofs.Layouts.{expressions-are}
 use Rattle.script.proofs.Views.{NodeView, aNil, anAssign, aLet, anIf, aWhile, aSequence, anEmit, aLocal, aWatching, aWhen, aParallel, node-view}
 use Rattle.script.specs.declared.entries.Part.{Part}
 use Rattle.runner.specs.declared.forms.Front.{Front}
@@ -99,8 +97,3 @@ module _ (s : List ℕ) (k tag len : ℕ) (p : Part) (e : p ≡ partOf s (node s
       front-first t =
           rw
           (form-is f, more, ap fromSecond (sym (form-is f)) ∙ t, a ∙ ap firstChild e, middle-is)
-
--- the entry of node k, as it is read
-pub read-node :
-    {s : List ℕ} {c : Script} {p : Part} (k : ℕ) → Laid s c → p ≡ partOf s (c .expressions + k) → p ≡ partOf s (node s k)
-read-node {s} k l e = e ∙ ap (λ n. partOf s (n + k)) (expressions-are l)

@@ -1,5 +1,6 @@
 -- Laws that the proofs of several functions use.
 pub mod Bits
+pub mod Reading
 pub mod Framing
 pub mod Outcomes
 pub mod Residuals

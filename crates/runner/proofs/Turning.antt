@@ -95,7 +95,7 @@ module _ {s : List ℕ} {k : ℕ} {st : List ℕ} {f : Front} {vs : List ℤ} (g
       goes = rw (g .inside .whole, g .inside .after ys l) (lift (g .frame) (g .opened) (r .path))
 
       stays-open : Open (g .frame) (left s (f .child) ys) ws
-      stays-opened = open-path (g .frame) (g .opened) (r .path)
+      stays-open = open-path (g .frame) (g .opened) (r .path)
 
       stopped : Ends seen limit room (runningAt s (f .child) ys ws log′ steps′ instant lines′) why
       stopped = r .ends (λ e. omega (arith, some, e))

@@ -11,9 +11,10 @@ use Rattle.script.specs.declared.entries.Part.{Part}
 use Rattle.script.specs.Layout.{nodeCount, layoutOf}
 use Rattle.script.specs.Entries.{partOf, node, firstChild}
 use Rattle.script.specs.Tree.{processOf, size}
-use Rattle.script.proofs.Layouts.{few-bounds, expressions-are, nodes-are}
+use Rattle.script.proofs.Layouts.{few-bounds, nodes-are}
 use Rattle.script.proofs.NodeSizes.{size-within}
 use Rattle.runner.specs.Forms.{mover, second, turned, formOf, fromSecond}
+use Rattle.runner.proofs.Reading.{node-read}
 use Rattle.runner.proofs.Fronts.{kind-known, child-known, front-none, front-second, front-first}
 use borrow.Author.Needs.{needs, fits-under}
 use Rattle.runner.proofs.forms.find_front.Statement.{statement}
@@ -32,10 +33,7 @@ read :
     (c : tie.After-part-at) →
     let start = c .before .before .before in
     c .part-at .result ≡ partOf (start .args .s .now) (node (start .args .s .now) (start .args .k))
-read c =
-    let start = c .before .before .before in
-    c .part-at .ensures
-    ∙ ap (λ n. partOf (start .args .s .now) (n + start .args .k)) (expressions-are (start .pre .0))
+read c = let start = c .before .before .before in node-read (start .args .k) (start .pre .0) (c .part-at .ensures)
 
 form-of-requires : tie.Need-form-of-requires
 form-of-requires c κs =

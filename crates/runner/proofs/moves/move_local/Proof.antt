@@ -7,9 +7,10 @@ use lib.ListN.{length, set}
 use lib.IntN.{pos}
 use Rattle.script.specs.declared.entries.Part.{Part}
 use Rattle.script.specs.Entries.{partOf, node}
-use Rattle.script.proofs.Layouts.{few-bounds, expressions-are, names-are, nodes-are}
+use Rattle.script.proofs.Layouts.{few-bounds, names-are, nodes-are}
 use Rattle.runner.specs.Moves.{Silent}
 use Rattle.runner.specs.Contracts.{left}
+use Rattle.runner.proofs.Reading.{node-read}
 use Rattle.runner.proofs.Advancing.{some-bytes}
 use Rattle.runner.proofs.Movers.{known, local-moves}
 use borrow.Author.Needs.{needs, fits-under}
@@ -29,10 +30,7 @@ read :
     (c : tie.After-part-at) →
     let start = c .before .before .before .before in
     c .part-at .result ≡ partOf (now (start .args .s)) (node (now (start .args .s)) (start .args .k))
-read c =
-    let start = c .before .before .before .before in
-    c .part-at .ensures
-    ∙ ap (λ n. partOf (now (start .args .s)) (n + start .args .k)) (expressions-are (start .pre .0 .laid))
+read c = let start = c .before .before .before .before in node-read (start .args .k) (start .pre .0 .laid) (c .part-at .ensures)
 
 -- the signal is in the table
 in-table : (c : tie.After-part-at) → c .part-at .result .a < length (now (c .before .before .before .before .args .values))
