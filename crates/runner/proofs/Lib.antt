@@ -11,3 +11,4 @@ pub mod Movers
 pub mod Advancing
 pub mod Resting
 pub mod Turning
+pub mod Evaluating
