@@ -1,6 +1,7 @@
 -- Laws that the proofs of several functions use.
 pub mod Bits
 pub mod Reading
+pub mod Clearing
 pub mod Framing
 pub mod Outcomes
 pub mod Residuals
