@@ -94,7 +94,7 @@ module _ (n m : ℕ) (e : m ≡ suc n) (st : List ℕ) where
 
   -- bytes of the first part are put back
   module _ (ys : List ℕ) (h : m ≤ length st) where
-    first-put : length ys ≡ n → take n (drop 1 (putMid 1 (m - 1) st ys)) ≡ ys
+    pub first-put : length ys ≡ n → take n (drop 1 (putMid 1 (m - 1) st ys)) ≡ ys
     first-put l =
         ap (take n) (drop-at (take 1 st) (ys ++ drop (m - 1) (drop 1 st)) 1 (length-take-le 1 st (omega arith)))
         ∙ take-at ys (drop (m - 1) (drop 1 st)) n l

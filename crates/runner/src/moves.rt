@@ -8,7 +8,7 @@ ghost use Prim.Native.Nat.{_/_, _≤_, _<_};
 ghost use lib.ListN.{length, replicate};
 ghost use Rattle.script.specs.Entries.{partOf, node};
 ghost use Rattle.runner.specs.Residual.{own};
-ghost use Rattle.runner.specs.Forms.{mover, formOf};
+ghost use Rattle.runner.specs.Forms.{mover, frontOf};
 ghost use Rattle.runner.specs.Moves.{Silent};
 ghost use Rattle.runner.specs.Contracts.{Valued, At, Counted, left, seenIn, IsSilent, Writes, runningAt, Advances};
 
@@ -161,7 +161,7 @@ pub fn move_own(
     at: Counts,
     k: usize,
 ) -> Done
-    requires { ⌜ Valued (now s) c (now values) × (At (now s) k (now state) × (Counted (limits .steps) (now log) (at .steps) (at .lines) × ((length (now values) ≤ length (now seen)) × (formOf (partOf (now s) (node (now s) k) .kind) (own (now state)) ≡ mover)))) ⌝ }
+    requires { ⌜ Valued (now s) c (now values) × (At (now s) k (now state) × (Counted (limits .steps) (now log) (at .steps) (at .lines) × ((length (now values) ≤ length (now seen)) × (frontOf (now s) k (own (now state)) (length (now state)) .form ≡ mover)))) ⌝ }
     ensures { λ r. ⌜ Advances (seenIn (now (seen .entry))) (limits .steps) (length (now (log .entry)) / 4) (runningAt (now (s .entry)) k (now (state .entry)) (now (values .entry)) (now (log .entry)) (at .steps) (limits .instant) (at .lines)) (runningAt (now (s .entry)) k (now (state .exit)) (now (values .exit)) (now (log .exit)) (r .at .steps) (limits .instant) (r .at .lines)) (r .why) ⌝ }
 {
     if limits.steps <= at.steps {
