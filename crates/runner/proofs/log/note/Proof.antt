@@ -1,8 +1,8 @@
 -- `note`: a line is written where a reader sees the name and there is room.
 use mathlib.Core.Path.{_≡_, refl, sym, ap, ap₂, _∙_}
+use mathlib.Core.Bool.{true≢false, false≢true}
 use mathlib.Core.List.{List}
 use Prim.Native.Nat.{ℕ, suc, _+_, _*_}
-use mathlib.Core.Bool.{true≢false, false≢true}
 use native.Mathlib.Numerals.{add-one}
 use lib.IntN.{ℤ}
 use mir.Syntax.{w32}

@@ -1,8 +1,7 @@
 -- `value_of`: the operands of an expression have smaller numbers, so e falls.
-use mathlib.Core.Path.{_≡_, sym, ap, ap₂, _∙_}
+use mathlib.Core.Path.{ap, ap₂, _∙_}
+use Prim.Native.Nat.{ℕ, _+_, _<_}
 use native.Mathlib.Omega.{arith}
-use lib.IntN.{pos}
-use lib.ListN.{getD}
 use Rattle.language.specs.Values.{negation}
 use Rattle.script.specs.Entries.{partAt}
 use Rattle.script.proofs.Layouts.{few-bounds, names-are, parts-are}
@@ -11,7 +10,6 @@ use Rattle.runner.specs.Contracts.{applied}
 use Rattle.runner.proofs.Bits.{given-back}
 use Rattle.runner.proofs.Evaluating.{Evaluates, evaluates}
 use borrow.Author.Needs.{fits-under}
-use Prim.Native.Nat.{ℕ, _+_, _<_}
 use borrow.Fn.Kinds.{In}
 use borrow.Fn.PlainCycle.{Measures, is, falls, and}
 use Rattle.runner.proofs.values.value_of.Reads as value-of
@@ -35,9 +33,20 @@ value-of-below t =
     and 2 value-of-kinds.ps (falls 2 value-of-kinds.ps _<_ μ-value-of t) value-of.Pre
 
 abbrev R : ℕ → value-of-lts.Claims
-R t = (part-at-reads.Asked, part-at-reads.Learnt, constant-of-reads.Asked, constant-of-reads.Learnt, value-of-below t, value-of.Post, not-reads.Asked, not-reads.Learnt, operate-reads.Asked, operate-reads.Learnt)
+R t = (
+  part-at-reads.Asked,
+  part-at-reads.Learnt,
+  constant-of-reads.Asked,
+  constant-of-reads.Learnt,
+  value-of-below t,
+  value-of.Post,
+  not-reads.Asked,
+  not-reads.Learnt,
+  operate-reads.Asked,
+  operate-reads.Learnt,
+)
 
--- the start, and what is known of the part that was read
+-- what the part that was read tells
 tells :
     (t : ℕ) (c : value-of-lts.After-part-at (R t) (value-of-at t) value-of.Post) →
     let a = c .before .before .args in Evaluates (a .s .now) (a .values .now) (a .e) (c .part-at .result)

@@ -8,8 +8,8 @@ use mir.Val.{SFits, hbits}
 use mir.Facts.{toZ-ofZ}
 use Rattle.language.specs.Syntax.{Operator, add, subtract, multiply, divide, less, equal}
 use Rattle.language.specs.Steps.{apply}
-use Rattle.runner.specs.Contracts.{operatorOf, applied}
 use Rattle.language.proofs.Signed.{readBack}
+use Rattle.runner.specs.Contracts.{operatorOf, applied}
 use Rattle.runner.proofs.Bits.{given-back}
 use borrow.Author.Needs.{needs}
 use Rattle.runner.proofs.values.operate.Statement.{statement}
@@ -24,7 +24,7 @@ operated kind o {a} {b} fa fb q h e =
     ∙ ap₂ (apply o) (toZ-ofZ fa) (toZ-ofZ fb)
     ∙ ap (λ o. apply o a b) (sym q)
 
--- any other kind
+-- every kind but 2 to 6 is taken for equality
 any-other :
     (kind : ℕ) → (kind ≡ 2 → ⊥) → (kind ≡ 3 → ⊥) → (kind ≡ 4 → ⊥) → (kind ≡ 5 → ⊥) → (kind ≡ 6 → ⊥) →
     operatorOf kind ≡ equal
