@@ -53,9 +53,10 @@ fn enter(
     }
     if f.form == forms::MOVER {
         let done = moves::move_own(s, c, seen, values, state, log, limits, at, k);
+        let next = done.at;
         return Entered {
             why: done.why,
-            at: done.at,
+            at: next,
             front: f,
         };
     }
@@ -147,25 +148,29 @@ pub fn advance(
     let mut now = at;
     loop {
         let e = enter(s, c, sizes, seen, values, state, log, limits, now, k);
+        let entered = e.at;
         if e.why == INTO {
-            let from = e.front.from;
-            let to = e.front.to;
+            let f = e.front;
+            let from = f.from;
+            let to = f.to;
+            let part = &mut state[from..to];
             let r = advance(
                 s,
                 c,
                 sizes,
                 seen,
                 values,
-                &mut state[from..to],
+                part,
                 log,
                 limits,
-                e.at,
-                e.front.child,
+                entered,
+                f.child,
             );
             if moves::SPENT <= r.why {
                 return r;
             }
-            let l = leave(s, c, sizes, values, state, limits, r.at, k, e.front, r.why);
+            let advanced = r.at;
+            let l = leave(s, c, sizes, values, state, limits, advanced, k, f, r.why);
             if l.why != moves::AGAIN {
                 return l;
             }
@@ -174,10 +179,10 @@ pub fn advance(
             if e.why != moves::AGAIN {
                 return Done {
                     why: e.why,
-                    at: e.at,
+                    at: entered,
                 };
             }
-            now = e.at;
+            now = entered;
         }
     }
 }

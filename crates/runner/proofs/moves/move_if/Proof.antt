@@ -45,10 +45,17 @@ part-at-requires c κs =
 
 test-holds-requires : tie.Need-test-holds-requires
 test-holds-requires c κs =
-    let start = c .before .before .before .before in
-    (start .pre .0 .laid, (start .pre .0 .checked, (start .pre .0 .named,
-    subst (λ (p : Part). p .a < expressionCount (now (start .args .s))) (sym (read c))
-    (known (now (start .args .s)) (start .pre .0 .checked) (start .args .k) (start .pre .1 .0 .known) (start .pre .1 .1 .0) .1 .known))))
+    let start = c .before .before .before .before in (
+      start .pre .0 .laid,
+      (
+        start .pre .0 .checked,
+        (
+          start .pre .0 .named,
+          subst (λ (p : Part). p .a < expressionCount (now (start .args .s))) (sym (read c))
+              (known (now (start .args .s)) (start .pre .0 .checked) (start .args .k) (start .pre .1 .0 .known) (start .pre .1 .1 .0) .1 .known),
+        ),
+      ),
+    )
 
 slice-write-state : tie.Need-slice-write-state
 slice-write-state c =

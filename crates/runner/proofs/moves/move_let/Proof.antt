@@ -45,10 +45,17 @@ part-at-requires c κs =
 
 value-of-requires : tie.Need-value-of-requires
 value-of-requires c κs =
-    let start = c .before .before .before .before .before in
-    (start .pre .0 .laid, (start .pre .0 .checked, (start .pre .0 .named,
-    subst (λ (p : Part). p .b < expressionCount (now (start .args .s))) (sym (read (c .before)))
-    (known (now (start .args .s)) (start .pre .0 .checked) (start .args .k) (start .pre .1 .0 .known) (start .pre .1 .1 .0) .1 .1 .known))))
+    let start = c .before .before .before .before .before in (
+      start .pre .0 .laid,
+      (
+        start .pre .0 .checked,
+        (
+          start .pre .0 .named,
+          subst (λ (p : Part). p .b < expressionCount (now (start .args .s))) (sym (read (c .before)))
+              (known (now (start .args .s)) (start .pre .0 .checked) (start .args .k) (start .pre .1 .0 .known) (start .pre .1 .1 .0) .1 .1 .known),
+        ),
+      ),
+    )
 
 mul-v : tie.Need-mul-v
 mul-v c =
