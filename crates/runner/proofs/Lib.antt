@@ -1,4 +1,6 @@
 -- Laws that the proofs of several functions use.
+pub mod Bits
+pub mod Reading
 pub mod Clearing
 pub mod Framing
 pub mod Deciding
@@ -6,3 +8,9 @@ pub mod Outcomes
 pub mod Residuals
 pub mod Scopes
 pub mod Sights
+pub mod Fronts
+pub mod Movers
+pub mod Advancing
+pub mod Resting
+pub mod Turning
+pub mod Evaluating

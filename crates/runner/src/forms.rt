@@ -64,11 +64,17 @@ fn form_of(kind: usize, tag: u8) -> u8
     FORM_ROWS[kind][t]
 }
 
+fn wide(x: u16) -> usize
+    ensures { λ r. ⌜ r ≡ x ⌝ }
+{
+    x as usize
+}
+
 fn size_at(sizes: &[u16; Script::MAX_NODES], k: usize) -> usize
     requires { ⌜ k < 256 ⌝ }
     ensures { λ r. ⌜ r ≡ getD (now (sizes .entry)) k 0 ⌝ }
 {
-    sizes[k] as usize
+    wide(sizes[k])
 }
 
 // The form of node k whose own byte is `tag` and which has so many bytes.

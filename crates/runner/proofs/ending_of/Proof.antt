@@ -1,19 +1,16 @@
+-- `ending_of`: by the tests.
+use borrow.Author.Tests.{eq-eqb, ne-eqb}
 use Rattle.runner.proofs.ending_of.Statement.{statement}
 use Rattle.runner.proofs.ending_of.Tie as tie
-use Rattle.runner.proofs.ending_of.Reads as reads
-use Rattle.runner.proofs.ending_of.Lts as lts
 
--- src/lib.rt:35:9
 returns : tie.Need-returns
-returns c = ?
+returns c = rw (eq-eqb _ _ (c .if1 .taken))
 
--- src/lib.rt:38:9
 returns-2 : tie.Need-returns-2
-returns-2 c = ?
+returns-2 c = rw (ne-eqb _ _ (c .before .if1 .left), eq-eqb _ _ (c .if2 .taken))
 
--- src/lib.rt:31:1
 returns-3 : tie.Need-returns-3
-returns-3 c = ?
+returns-3 c = rw (ne-eqb _ _ (c .before .if1 .left), ne-eqb _ _ (c .if2 .left))
 
 pub ending-of-spec : {M : Type 1} → statement M
 ending-of-spec = tie.close (tie.spec returns returns-2 returns-3)

@@ -1,33 +1,76 @@
+-- `form_of`: the rows of the code are those of the definition, filled up with GONE.
+use mathlib.Core.Path.{_≡_, refl, sym, ap, _∙_}
+use mathlib.Core.Bool.{true}
+use mathlib.Core.List.{List, [], _∷_}
+use Prim.Native.Nat.{ℕ, _≤_, _<_}
+use native.Mathlib.Omega.{arith}
+use native.Mathlib.Nat.{le-trans}
+use lib.Dec.{eqb, leb}
+use lib.ListN.{getD, length, List·getD-eq-default}
+use borrow.Author.Tests.{eqb-true, leb-true}
+use Rattle.prelude.specs.Search.{all, any, firstFrom}
+use Rattle.prelude.specs.Search as search-for
+use Rattle.prelude.proofs.Searches.{all-elim}
+use Rattle.runner.specs.Forms.{gone, mover, first, second, before, watched, guarded, beside, turned, formRows, formOf}
 use borrow.Author.Needs.{needs}
 use Rattle.runner.proofs.forms.form_of.Statement.{statement}
 use Rattle.runner.proofs.forms.form_of.Tie as tie
-use Rattle.runner.proofs.forms.form_of.Reads as reads
-use Rattle.runner.proofs.forms.form_of.Lts as lts
-use Rattle.prelude.proofs.wide.Reads as wide-reads
 
--- src/forms.rt:61:9
+abbrev row : ℕ → ℕ → ℕ → ℕ → List ℕ
+row a b c d = a ∷ b ∷ c ∷ d ∷ []
+
+-- as the code has them
+abbrev filled : List (List ℕ)
+filled =
+    row gone gone gone gone
+    ∷ row mover gone gone gone
+    ∷ row mover first gone gone
+    ∷ row mover first second gone
+    ∷ row mover before gone gone
+    ∷ row before second gone gone
+    ∷ row mover gone gone gone
+    ∷ row mover first gone gone
+    ∷ row watched gone gone gone
+    ∷ row guarded gone gone gone
+    ∷ row beside turned first second
+    ∷ []
+
+-- no row is longer than four
+short : (kind : ℕ) → kind < 11 → length (getD formRows kind []) ≤ 4
+unfolding all any search-for.first firstFrom
+short kind h = leb-true _ _ (all-elim (λ k. leb (length (getD formRows k [])) 4) 11 refl kind h)
+
+same : (kind tag : ℕ) → kind < 11 → tag < 4 → getD (getD filled kind []) tag 0 ≡ formOf kind tag
+unfolding all any search-for.first firstFrom
+same kind tag h l =
+    eqb-true _ _
+    (all-elim (λ t. eqb (getD (getD filled kind []) t 0) (formOf kind t)) 4
+    (all-elim (λ k. all (λ t. eqb (getD (getD filled k []) t 0) (formOf k t)) 4) 11 refl kind h)
+    tag l)
+
 returns : tie.Need-returns
-returns c = ?
+returns c =
+    sym
+    (List·getD-eq-default {A = ℕ} (getD formRows (c .before .args .kind) []) gone {n = c .before .args .tag}
+    (le-trans (short (c .before .args .kind) (c .before .pre)) (c .if1 .taken)))
 
--- src/forms.rt:63:9
 wide-requires : tie.Need-wide-requires
 wide-requires c κs = search needs
 
--- src/forms.rt:64:5
 mul-result : tie.Need-mul-result
 mul-result c = search needs
 
--- src/forms.rt:64:5
 index-1-result : tie.Need-index-1-result
 index-1-result c = search needs
 
--- src/forms.rt:64:5
 index-2-result : tie.Need-index-2-result
 index-2-result c = search needs
 
--- src/forms.rt:56:1
 returns-2 : tie.Need-returns-2
-returns-2 c = ?
+returns-2 c =
+    let start = c .before .before .before in
+    ap (λ t. getD (getD filled (start .args .kind) []) t 0) (c .before .wide .ensures)
+    ∙ same (start .args .kind) (start .args .tag) (start .pre) (c .before .before .if1 .left)
 
 pub form-of-spec : {M : Type 1} → statement M
 form-of-spec =
