@@ -3,6 +3,7 @@ pub mod Bits
 pub mod Reading
 pub mod Clearing
 pub mod Framing
+pub mod Deciding
 pub mod Outcomes
 pub mod Residuals
 pub mod Scopes

@@ -13,7 +13,7 @@ ghost use Rattle.runner.specs.Residual.{own};
 ghost use Rattle.runner.specs.Forms.{beside, frontOf};
 ghost use Rattle.runner.specs.Contracts.{Valued, At, left, RearWaits};
 
-// Only a parallel asks two parts: it is suspended if both are.
+// The part in front is asked, and of a parallel the other part, too: it is suspended if both are.
 pub fn is_suspended(
     s: &[u8],
     c: Script,
@@ -26,8 +26,7 @@ pub fn is_suspended(
     ensures { λ r. ⌜ r ≡ suspended (left (now (s .entry)) k (now (state .entry))) (now (values .entry)) ⌝ }
 {
     let tag = state[0];
-    let len = state.len();
-    let f = find_front(s, c, sizes, k, tag, len);
+    let f = find_front(s, c, sizes, k, tag, state.len());
     if f.form <= forms::MOVER {
         return false;
     }
@@ -36,14 +35,10 @@ pub fn is_suspended(
     }
     let from = f.from;
     let to = f.to;
-    let waits = is_suspended(s, c, sizes, values, &state[from..to], f.child);
-    if !waits || f.form < forms::BESIDE {
-        return waits;
+    if !is_suspended(s, c, sizes, values, &state[from..to], f.child) {
+        return false;
     }
-    let g = find_front(s, c, sizes, k, 1 - tag, len);
-    let start = g.from;
-    let end = g.to;
-    is_suspended(s, c, sizes, values, &state[start..end], g.child)
+    rear_waits(s, c, sizes, values, state, k, f.form)
 }
 
 // Whether nothing behind the part in front of node k could move in its place: k is no parallel, or its other part

@@ -1,0 +1,219 @@
+-- `is_suspended` and `rear_waits`: by the form of the node, its part in front decides, or the part behind it.
+use mathlib.Core.Path.{_≡_, refl, sym, ap, _∙_}
+use mathlib.Core.Bool.{true}
+use mathlib.Core.Logic.{⊎-elim}
+use native.Mathlib.Omega.{arith}
+use lib.ListN.{length}
+use borrow.Author.Tests.{not-true, not-false}
+use Rattle.language.specs.Steps.{present, suspended}
+use Rattle.script.proofs.Views.{node-view}
+use Rattle.runner.specs.Residual.{own}
+use Rattle.runner.specs.Forms.{guarded, frontOf, partIn}
+use Rattle.runner.specs.Contracts.{left}
+use Rattle.runner.proofs.Sights.{signalAt, Sight}
+use Rattle.runner.proofs.Deciding.{Part, Rear, seen, some-bytes, front-part, rear-part, stays, signalled, awake-front, waiting-front}
+use Prim.Native.Nat.{ℕ, _+_, _*_, _<_}
+use borrow.Fn.Kinds.{In}
+use borrow.Fn.PlainCycle.{Measures, is, falls, and}
+use Rattle.runner.proofs.suspension.is_suspended.Reads as is-suspended
+use Rattle.runner.proofs.suspension.is_suspended.Kinds as is-suspended-kinds
+use Rattle.runner.proofs.suspension.+is_suspended+rear_waits.Lts-is_suspended as is-suspended-lts
+use Rattle.runner.proofs.suspension.rear_waits.Reads as rear-waits
+use Rattle.runner.proofs.suspension.rear_waits.Kinds as rear-waits-kinds
+use Rattle.runner.proofs.suspension.+is_suspended+rear_waits.Lts-rear_waits as rear-waits-lts
+use Rattle.runner.proofs.forms.find_front.Reads as find-front-reads
+use Rattle.runner.proofs.values.signal_is_present.Reads as signal-is-present-reads
+use Rattle.runner.proofs.suspension.+is_suspended+rear_waits.{statement}
+use Rattle.runner.proofs.suspension.+is_suspended+rear_waits.Tie.{close}
+
+abbrev μ-is-suspended : Measures 4 is-suspended-kinds.ps ℕ
+μ-is-suspended κs a = 2 * a .1 .1 .1 .1 .1 .0 + 1
+
+abbrev μ-rear-waits : Measures 4 rear-waits-kinds.ps ℕ
+μ-rear-waits κs a = 2 * a .1 .1 .1 .1 .1 .0
+
+abbrev is-suspended-at : ℕ → In 4 is-suspended-kinds.ps
+is-suspended-at t =
+    and 4 is-suspended-kinds.ps (is 4 is-suspended-kinds.ps μ-is-suspended t) is-suspended.Pre
+
+abbrev is-suspended-below : ℕ → In 4 is-suspended-kinds.ps
+is-suspended-below t =
+    and
+    4
+    is-suspended-kinds.ps
+    (falls 4 is-suspended-kinds.ps _<_ μ-is-suspended t)
+    is-suspended.Pre
+
+abbrev rear-waits-at : ℕ → In 4 rear-waits-kinds.ps
+rear-waits-at t =
+    and 4 rear-waits-kinds.ps (is 4 rear-waits-kinds.ps μ-rear-waits t) rear-waits.Pre
+
+abbrev rear-waits-below : ℕ → In 4 rear-waits-kinds.ps
+rear-waits-below t =
+    and 4 rear-waits-kinds.ps (falls 4 rear-waits-kinds.ps _<_ μ-rear-waits t) rear-waits.Pre
+
+abbrev R : ℕ → is-suspended-lts.Claims
+R t = (find-front-reads.Asked, find-front-reads.Learnt, signal-is-present-reads.Asked, signal-is-present-reads.Learnt, is-suspended-below t, is-suspended.Post, rear-waits-below t, rear-waits.Post)
+
+abbrev Q : ℕ → rear-waits-lts.Claims
+Q t = (find-front-reads.Asked, find-front-reads.Learnt, is-suspended-below t, is-suspended.Post)
+
+-- what is seen of the node
+sees :
+    (t : ℕ) (c : is-suspended-lts.After-find-front (R t) (is-suspended-at t) is-suspended.Post) →
+    let args = c .before .before .before .before .args in Sight (args .s .now) (args .k) (args .state .now) (c .find-front .result)
+sees t c = let pre = c .before .before .before .before .pre .1 in seen (pre .1 .1) (pre .0) (c .find-front .ensures)
+
+-- a when around its part is open
+shown :
+    (t : ℕ) (c : is-suspended-lts.Joined2 (R t) (is-suspended-at t) is-suspended.Post) →
+    let args = c .before .before .before .before .before .before .before .before .args in
+    c .before .before .before .before .find-front .result .form ≡ guarded → present (args .values .now) (signalAt (args .s .now) (args .k)) ≡ true
+shown t c =
+    ⊎-elim
+    (λ w e. sym (w .1 .ensures) ∙ not-false _ (w .2 .left))
+    (λ w e. absurd (w .left e))
+    (c .if2 .came)
+
+part :
+    (t : ℕ) (c : is-suspended-lts.Joined2 (R t) (is-suspended-at t) is-suspended.Post) →
+    let args = c .before .before .before .before .before .before .before .before .args in Part (args .s .now) (args .k) (args .state .now) (c .before .before .before .before .find-front .result)
+part t c = front-part (c .before .before .before .before .before .before .before .before .pre .1 .1 .1) (sees t (c .before .before .before .before)) (c .before .before .if1 .left)
+
+is-suspended-shared-slice-read-tag : (t : ℕ) → is-suspended-lts.Need-shared-slice-read-tag (R t) (is-suspended-at t) is-suspended.Post
+is-suspended-shared-slice-read-tag t c = let pre = c .before .before .before .pre .1 in some-bytes (pre .1 .1) (pre .0)
+
+is-suspended-find-front-requires : (t : ℕ) → is-suspended-lts.Need-find-front-requires (R t) (is-suspended-at t) is-suspended.Post
+is-suspended-find-front-requires t c κs = let pre = c .before .before .before .pre .1 in (pre .0 .laid, (pre .0 .checked, (pre .1 .0, pre .1 .1 .known)))
+
+is-suspended-returns : (t : ℕ) → is-suspended-lts.Need-returns (R t) (is-suspended-at t) is-suspended.Post
+is-suspended-returns t c =
+    let start = c .before .before .before .before .before .before in
+    let view = node-view (start .args .s .now) (start .pre .1 .0 .checked) (start .args .k) (start .pre .1 .1 .1 .known) in
+    sym (stays (start .args .values .now) view (sees t (c .before .before)) (c .if1 .taken) .waits)
+
+is-suspended-signal-is-present-requires : (t : ℕ) → is-suspended-lts.Need-signal-is-present-requires (R t) (is-suspended-at t) is-suspended.Post
+is-suspended-signal-is-present-requires t c κs =
+    let pre = c .before .before .before .before .before .before .before .before .pre .1 in
+    let signal = signalled (c .before .before .before .before .before .before .before .before .args .values .now) (sees t (c .before .before .before .before)) (omega (arith, c .if2 .taken)) (omega (arith, c .if2 .taken)) in
+    (pre .0 .laid, (pre .1 .1 .known, omega (arith, signal .known, pre .0 .named)))
+
+is-suspended-returns-2 : (t : ℕ) → is-suspended-lts.Need-returns-2 (R t) (is-suspended-at t) is-suspended.Post
+is-suspended-returns-2 t c =
+    let signal = signalled (c .before .before .before .before .before .before .before .before .before .before .args .values .now) (sees t (c .before .before .before .before .before .before)) (omega (arith, c .before .before .if2 .taken)) (omega (arith, c .before .before .if2 .taken)) in
+    sym (signal .shuts (c .before .before .if2 .taken) (sym (c .before .signal-is-present .ensures) ∙ not-true _ (c .if3 .taken)) .waits)
+
+is-suspended-sub-is-suspended : (t : ℕ) → is-suspended-lts.Need-sub-is-suspended (R t) (is-suspended-at t) is-suspended.Post
+is-suspended-sub-is-suspended t c = part t c .order
+
+is-suspended-part-is-suspended-start : (t : ℕ) → is-suspended-lts.Need-part-is-suspended-start (R t) (is-suspended-at t) is-suspended.Post
+is-suspended-part-is-suspended-start t c = part t c .order
+
+is-suspended-part-is-suspended-end : (t : ℕ) → is-suspended-lts.Need-part-is-suspended-end (R t) (is-suspended-at t) is-suspended.Post
+is-suspended-part-is-suspended-end t c = part t c .within
+
+is-suspended-is-suspended-requires : (t : ℕ) → is-suspended-lts.Need-is-suspended-requires (R t) (is-suspended-at t) is-suspended.Post
+is-suspended-is-suspended-requires t c κs =
+    let pre = c .before .before .before .before .before .before .before .before .before .pre in
+    (omega (arith, pre .0, part t (c .before) .earlier), (pre .1 .0, (pre .1 .1 .0, part t (c .before) .at)))
+
+is-suspended-returns-3 : (t : ℕ) → is-suspended-lts.Need-returns-3 (R t) (is-suspended-at t) is-suspended.Post
+is-suspended-returns-3 t c =
+    let at = c .before .before .before in
+    sym
+    (awake-front (c .before .before .before .before .before .before .before .before .before .before .before .args .values .now) (c .before .before .before .before .before .before .before .before .before .before .before .pre .1 .1 .1) (sees t (c .before .before .before .before .before .before .before)) (c .before .before .before .before .before .if1 .left) (shown t at)
+    (sym (c .before .is-suspended .ensures) ∙ not-true _ (c .if4 .taken)))
+
+is-suspended-rear-waits-requires : (t : ℕ) → is-suspended-lts.Need-rear-waits-requires (R t) (is-suspended-at t) is-suspended.Post
+is-suspended-rear-waits-requires t c κs =
+    let pre = c .before .before .before .before .before .before .before .before .before .before .before .pre in
+    (omega (arith, pre .0), (pre .1, ap (λ f. f .form) (c .before .before .before .before .before .before .before .find-front .ensures)))
+
+is-suspended-returns-4 : (t : ℕ) → is-suspended-lts.Need-returns-4 (R t) (is-suspended-at t) is-suspended.Post
+is-suspended-returns-4 t c =
+    let at = c .before .before .before .before in
+    waiting-front (c .before .before .before .before .before .before .before .before .before .before .before .before .args .values .now) (c .before .before .before .before .before .before .before .before .before .before .before .before .pre .1 .1 .1) (sees t (c .before .before .before .before .before .before .before .before)) (c .before .before .before .before .before .before .if1 .left) (shown t at)
+    (sym (c .before .before .is-suspended .ensures) ∙ not-false _ (c .before .if4 .left))
+    (c .rear-waits .ensures)
+
+-- the node is a parallel
+rear :
+    (t : ℕ) (c : rear-waits-lts.Else1 (Q t) (rear-waits-at t) rear-waits.Post) →
+    let args = c .before .before .before .args in
+    Rear (args .s .now) (args .k) (args .state .now)
+    (frontOf (args .s .now) (args .k) (own (args .state .now)) (length (args .state .now)))
+rear t c =
+    let pre = c .before .before .before .pre .1 in
+    rear-part (pre .0 .1 .1) (seen (pre .0 .1 .1) (pre .0 .0) refl) (omega (arith, pre .1, c .if1 .left))
+
+behind :
+    (t : ℕ) (c : rear-waits-lts.After-find-front (Q t) (rear-waits-at t) rear-waits.Post) →
+    let args = c .before .before .before .before .before .args in Part (args .s .now) (args .k) (args .state .now) (c .find-front .result)
+behind t c = rw (c .find-front .ensures) (rear t (c .before .before) .part)
+
+rear-waits-returns : (t : ℕ) → rear-waits-lts.Need-returns (Q t) (rear-waits-at t) rear-waits.Post
+rear-waits-returns t c = record { none = λ h. refl; other = λ h. absurd (omega (arith, c .if1 .taken)) }
+
+rear-waits-shared-slice-read-tag : (t : ℕ) → rear-waits-lts.Need-shared-slice-read-tag (Q t) (rear-waits-at t) rear-waits.Post
+rear-waits-shared-slice-read-tag t c = let pre = c .before .before .before .before .pre .1 .0 in some-bytes (pre .1 .1) (pre .0)
+
+rear-waits-sub-find-front : (t : ℕ) → rear-waits-lts.Need-sub-find-front (Q t) (rear-waits-at t) rear-waits.Post
+rear-waits-sub-find-front t c = rear t (c .before) .byte
+
+rear-waits-find-front-requires : (t : ℕ) → rear-waits-lts.Need-find-front-requires (Q t) (rear-waits-at t) rear-waits.Post
+rear-waits-find-front-requires t c κs = let pre = c .before .before .before .before .pre .1 .0 in (pre .0 .laid, (pre .0 .checked, (pre .1 .0, pre .1 .1 .known)))
+
+rear-waits-sub-is-suspended : (t : ℕ) → rear-waits-lts.Need-sub-is-suspended (Q t) (rear-waits-at t) rear-waits.Post
+rear-waits-sub-is-suspended t c = behind t c .order
+
+rear-waits-part-is-suspended-start : (t : ℕ) → rear-waits-lts.Need-part-is-suspended-start (Q t) (rear-waits-at t) rear-waits.Post
+rear-waits-part-is-suspended-start t c = behind t c .order
+
+rear-waits-part-is-suspended-end : (t : ℕ) → rear-waits-lts.Need-part-is-suspended-end (Q t) (rear-waits-at t) rear-waits.Post
+rear-waits-part-is-suspended-end t c = behind t c .within
+
+rear-waits-is-suspended-requires : (t : ℕ) → rear-waits-lts.Need-is-suspended-requires (Q t) (rear-waits-at t) rear-waits.Post
+rear-waits-is-suspended-requires t c κs =
+    let pre = c .before .before .before .before .before .before .pre in
+    (omega (arith, pre .0, behind t (c .before) .earlier), (pre .1 .0 .0, (pre .1 .0 .1 .0, behind t (c .before) .at)))
+
+rear-waits-returns-2 : (t : ℕ) → rear-waits-lts.Need-returns-2 (Q t) (rear-waits-at t) rear-waits.Post
+rear-waits-returns-2 t c =
+    let args = c .before .before .before .before .before .before .before .args in
+    record {
+      none = λ h. absurd (omega (arith, c .before .before .before .before .if1 .left));
+      other =
+          λ h.
+          c .is-suspended .ensures
+          ∙ ap (λ f. suspended (left (args .s .now) (f .child) (partIn f (args .state .now))) (args .values .now)) (c .before .before .find-front .ensures);
+    }
+
+pub +is-suspended+rear-waits-spec : {M : Type 1} → statement M
++is-suspended+rear-waits-spec = close μ-is-suspended μ-rear-waits (λ t. is-suspended-lts.spec (R t)
+    (is-suspended-at t)
+    is-suspended.Post
+    (is-suspended-shared-slice-read-tag t)
+    (is-suspended-find-front-requires t)
+    (is-suspended-returns t)
+    (is-suspended-signal-is-present-requires t)
+    (is-suspended-returns-2 t)
+    (is-suspended-sub-is-suspended t)
+    (is-suspended-part-is-suspended-start t)
+    (is-suspended-part-is-suspended-end t)
+    (is-suspended-is-suspended-requires t)
+    (is-suspended-returns-3 t)
+    (is-suspended-rear-waits-requires t)
+    (is-suspended-returns-4 t))
+    λ t. rear-waits-lts.spec
+    (Q t)
+    (rear-waits-at t)
+    rear-waits.Post
+    (rear-waits-returns t)
+    (rear-waits-shared-slice-read-tag t)
+    (rear-waits-sub-find-front t)
+    (rear-waits-find-front-requires t)
+    (rear-waits-sub-is-suspended t)
+    (rear-waits-part-is-suspended-start t)
+    (rear-waits-part-is-suspended-end t)
+    (rear-waits-is-suspended-requires t)
+    (rear-waits-returns-2 t)
