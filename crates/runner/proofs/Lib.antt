@@ -14,3 +14,4 @@ pub mod Advancing
 pub mod Resting
 pub mod Turning
 pub mod Evaluating
+pub mod Entries

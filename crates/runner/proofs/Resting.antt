@@ -17,7 +17,7 @@ use Rattle.runner.specs.Residual.{own, residual}
 use Rattle.runner.specs.Forms.{mover, before, guarded, beside, frontOf, partIn}
 use Rattle.runner.specs.Frames.{besideThe}
 use Rattle.runner.specs.Moves.{Silent, isGone, isSuspended}
-use Rattle.runner.specs.Contracts.{left, byteAfter, RearWaits, Rests}
+use Rattle.runner.specs.Contracts.{left, Byte, byteAfter, RearWaits, Rests}
 use Rattle.runner.proofs.Framing.{drop-before, drop-watched, drop-guarded, drop-beside, trade}
 use Rattle.runner.proofs.Sights.{signalAt, Inside, Sight, sees-gone, sees-mover, sees-alone, sees-before, sees-watched, sees-guarded, sees-beside, part-set}
 
@@ -113,3 +113,13 @@ module _ (s : List ℕ) (k : ℕ) (st : List ℕ) (f : Front) (vs : List ℤ) wh
       (λ e. subst (λ n. Silent (left s k st) vs (after (f .form) n) vs) (sym e) (drops g h (r .gone e) (r .shown)))
       (λ e. subst (λ n. Silent (left s k st) vs (after (f .form) n) vs) (sym e) (trades g h (r .waits e) (w e)))
       (r .known)
+
+  pub byte-bound : Sight s k st f → before ≤ f .form → Byte (f .form) (own st)
+  byte-bound (sees-gone e r) h a b = absurd (omega (arith, e))
+  byte-bound (sees-mover e o m) h a b = absurd (omega (arith, e))
+  byte-bound (sees-alone (inl e) i) h a b = absurd (omega (arith, e))
+  byte-bound (sees-alone (inr e) i) h a b = absurd (omega (arith, e))
+  byte-bound (sees-before e o q i r) h a b = o
+  byte-bound (sees-watched e x i r) h a b = absurd (a e)
+  byte-bound (sees-guarded e x l i r) h a b = absurd (b e)
+  byte-bound (sees-beside e o g q i j r) h a b = o

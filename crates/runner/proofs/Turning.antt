@@ -2,25 +2,28 @@
 -- Assumes nothing.
 use mathlib.Core.Path.{_≡_, refl, sym, ap, _∙_, subst}
 use mathlib.Core.Bool.{Bool, true, false}
-use mathlib.Core.Logic.{_⊎_, inl, inr}
+use mathlib.Core.Logic.{_⊎_, inl, inr, ⊎-elim}
 use mathlib.Core.List.{List, _++_}
-use Prim.Native.Nat.{ℕ, suc, _-_, _≤_, _<_}
+use Prim.Native.Nat.{ℕ, suc, _-_, _/_, _≤_, _<_}
 use native.Mathlib.Decide.{ℕ-discrete}
+use native.Mathlib.Nat.{le-refl, le-trans}
 use native.Mathlib.Omega.{arith}
 use borrow.Rule.Slice.PartMut.{putMid}
 use lib.IntN.{ℤ}
 use lib.ListN.{length, take, drop}
 use lib.Seq.{length-take-le, take-at, drop-at}
-use Rattle.language.specs.Syntax.{isNil}
+use Rattle.language.specs.Syntax.{Proc, isNil}
 use Rattle.language.specs.Steps.{present, suspended}
+use Rattle.script.specs.declared.layout.Script.{Script}
 use Rattle.script.specs.Tree.{processOf, size}
 use Rattle.runner.specs.declared.forms.Front.{Front}
 use Rattle.runner.specs.Residual.{own}
 use Rattle.runner.specs.Forms.{mover, guarded, frontOf, partIn}
 use Rattle.runner.specs.Frames.{Frame, alone, beforeThe, watchedBy, guardedBy, besideThe, Open}
-use Rattle.runner.specs.Moves.{Running, isGone, isSuspended, isSpent, Path, Ends, gone, waits, spent, full}
-use Rattle.runner.specs.Contracts.{At, left, runningAt, Advances, Rests}
-use Rattle.runner.proofs.Framing.{open-path, lift, ends-around}
+use Rattle.runner.specs.Moves.{Running, isGone, isSuspended, isSpent, Path, stays, Ends, gone, waits, spent, full}
+use Rattle.runner.specs.Contracts.{mostSteps, Valued, At, Counted, left, runningAt, Advances, Rests, Settles, restsOn, atLimit, makesMove}
+use Rattle.runner.proofs.Framing.{joined, open-path, lift, ends-around}
+use Rattle.runner.proofs.Advancing.{ended, again}
 use Rattle.runner.proofs.Sights.{signalAt, Inside, Sight, sees-gone, sees-mover, sees-alone, sees-before, sees-watched, sees-guarded, sees-beside, own-put, length-put}
 
 module _ {seen : ℕ → Bool} {limit room : ℕ} {at : Running ℕ} {why : ℕ} where
@@ -119,3 +122,89 @@ module _ {s : List ℕ} {k : ℕ} {st : List ℕ} {f : Front} {vs : List ℤ} (g
                 | yes e ↦ inl e
                 | no n ↦ inr (omega (arith, n))
               ]
+
+-- A node has come from `at`, with the bytes st₀, to `to`, with the bytes st.
+pub record Turn (seen : ℕ → Bool) (limit : ℕ) (at to : Running ℕ) (st₀ st : List ℕ) : Type 0 where
+  pub path : Path seen limit (length (at .log) / 4) at to
+  pub later : at .steps ≤ to .steps
+  pub time : to .steps ≤ limit
+  pub space : to .lines ≤ length (at .log) / 4
+  pub named : length (to .values) ≡ length (at .values)
+  pub logged : length (to .log) ≡ length (at .log)
+  pub bytes : length st ≡ length st₀
+
+pub begins :
+    {seen : ℕ → Bool} {limit : ℕ} {at : Running ℕ} {st : List ℕ} → Counted limit (at .log) (at .steps) (at .lines) →
+    Turn seen limit at at st st
+begins {at = at} c =
+    record {
+      path = stays;
+      later = le-refl (at .steps);
+      time = c .time;
+      space = omega (arith, c .space);
+      named = refl;
+      logged = refl;
+      bytes = refl;
+    }
+
+module _ {seen : ℕ → Bool} {limit : ℕ} {at to : Running ℕ} {st₀ st : List ℕ} (u : Turn seen limit at to st₀ st) where
+  -- nothing has changed
+  pub same-turn : {to′ : Running ℕ} {st′ : List ℕ} → st′ ≡ st → to′ ≡ to → Turn seen limit at to′ st₀ st′
+  same-turn e q = rw (e, q) u
+
+  pub counted : limit ≤ mostSteps → Counted limit (to .log) (to .steps) (to .lines)
+  counted m = record { time = u .time; most = m; space = omega (arith, u .space, u .logged) }
+
+  pub valued : {s : List ℕ} {c : Script} → Valued s c (at .values) → Valued s c (to .values)
+  valued v = record { laid = v .laid; checked = v .checked; named = u .named ∙ v .named }
+
+  pub at-node : {s : List ℕ} {k : ℕ} → At s k st₀ → At s k st
+  at-node a = record { known = a .known; whole = u .bytes ∙ a .whole }
+
+  -- more moves
+  module _ {next : Running ℕ} {why : ℕ} (a : Advances seen limit (length (to .log) / 4) to next why) where
+    here : Advances seen limit (length (at .log) / 4) to next why
+    here = subst (λ n. Advances seen limit (n / 4) to next why) (u .logged) a
+
+    pub turns-on :
+        {st′ : List ℕ} → length (next .values) ≡ length (to .values) → length (next .log) ≡ length (to .log) →
+        length st′ ≡ length st → Turn seen limit at next st₀ st′
+    turns-on named logged bytes =
+        record {
+          path = joined (u .path) (here .path);
+          later = le-trans (u .later) (here .later);
+          time = here .time;
+          space = here .space;
+          named = named ∙ u .named;
+          logged = logged ∙ u .logged;
+          bytes = bytes ∙ u .bytes;
+        }
+
+    pub turns-end : (why ≡ 0 → ⊥) → Advances seen limit (length (at .log) / 4) at next why × (0 < why)
+    turns-end n = (
+      record {
+        path = joined (u .path) (here .path);
+        later = le-trans (u .later) (here .later);
+        time = here .time;
+        space = here .space;
+        again = λ z. absurd (n z);
+        ends = here .ends;
+      },
+      omega (arith, n),
+    )
+
+-- what is left of a node settles
+pub settled :
+    {seen : ℕ → Bool} {limit room : ℕ} {p p′ : Proc ℕ} {s : List ℤ} {log : List ℕ} {steps instant lines why how steps′ lines′ : ℕ} →
+    Settles limit p s p′ steps lines why how steps′ lines′ → (why ≡ isGone) ⊎ (why ≡ isSuspended) → steps ≤ limit →
+    lines ≤ room →
+    Advances seen limit room
+    (record { process = p; values = s; log = log; steps = steps; instants = instant; lines = lines })
+    (record { process = p′; values = s; log = log; steps = steps′; instants = instant; lines = lines′ })
+    how
+settled (restsOn h e t l g w) k a b =
+    rw (e, t, l)
+    (ended a b (λ q. ⊎-elim (λ z. omega (arith, h, z, q)) (λ z. omega (arith, h, z, q)) k)
+    (⊎-elim (λ z. gone (h ∙ z) (g z)) (λ z. waits (h ∙ z) (w z)) k))
+settled (atLimit h e t l v z) k a b = rw (e, t, l) (ended a b (λ q. omega (arith, h, q)) (spent h v z))
+settled (makesMove h t l v m) k a b = rw (t, l, h) (again _ v b m)

@@ -5,7 +5,7 @@ use mathlib.Core.Logic.{_⊎_}
 use mathlib.Core.Option.{Option, none, some}
 use mathlib.Core.List.{List, [], _∷_}
 use Prim.Native.Nat.{ℕ, suc, _+_, _-_, _*_, _≤_, _<_}
-use lib.Dec.{eqb, ltb}
+use lib.Dec.{eqb}
 use lib.IntN.{ℤ}
 use lib.ListN.{getD, set, length}
 use Rattle.language.specs.Syntax.{Operator, add, subtract, multiply, divide, less, equal, Proc, nil, isNil}
@@ -20,7 +20,7 @@ use Rattle.runner.specs.declared.forms.Front.{Front}
 use Rattle.runner.specs.declared.log.Noted.{Noted}
 use Rattle.runner.specs.declared.Ran.{Ran}
 use Rattle.runner.specs.Residual.{own, residual}
-use Rattle.runner.specs.Forms.{mover, before, guarded, beside, frontOf, partIn}
+use Rattle.runner.specs.Forms.{mover, before, watched, guarded, beside, frontOf, partIn}
 use Rattle.runner.specs.Moves.{Running, logAfter, linesAfter, hasRoom, Live, Silent, isGone, isSuspended, isSpent, isFull, Path, Ends}
 use Rattle.runner.specs.Outcome.{Outcome}
 
@@ -132,10 +132,17 @@ pub record RearWaits (s : List ℕ) (k : ℕ) (st : List ℕ) (values : List ℤ
       (left s (frontOf s k (1 - own st) (length st) .child) (partIn (frontOf s k (1 - own st) (length st)) st))
       values
 
+-- the own byte of a node with a part in front that is neither alone, nor under a watching or a when
+abbrev pub Byte : ℕ → ℕ → Type 0
+Byte form tag = (form ≡ watched → ⊥) → (form ≡ guarded → ⊥) → tag ≤ 1
+
 -- a node's own byte after a move around a part that rests
 abbrev pub byteAfter : ℕ → ℕ → ℕ → ℕ
 byteAfter form why tag =
-    cond (eqb why isSuspended || eqb form before) (1 - tag) (cond (ltb form beside) 4 (3 - tag))
+    cond
+    (eqb form watched || eqb form guarded)
+    4
+    (cond (eqb why isSuspended || eqb form before) (1 - tag) (3 - tag))
 
 -- The part in front of node k is nil, or suspended; a when around it is open.
 pub record Rests (s : List ℕ) (k : ℕ) (st : List ℕ) (values : List ℤ) (f : Front) (why : ℕ) : Type 0 where

@@ -16,7 +16,7 @@ ghost use Rattle.script.specs.Layout.{nodeCount};
 ghost use Rattle.script.specs.Tree.{KeepsSizes};
 ghost use Rattle.runner.specs.Residual.{own};
 ghost use Rattle.runner.specs.Forms.{frontOf};
-ghost use Rattle.runner.specs.Contracts.{mostSteps, Valued, At, Counted, left, seenIn, runningAt, Advances, Enters, byteAfter, Rests, Settles};
+ghost use Rattle.runner.specs.Contracts.{mostSteps, Valued, At, Counted, left, seenIn, runningAt, Advances, Enters, Byte, byteAfter, Rests, Settles};
 
 // The part in front is to be advanced.
 const INTO: u8 = 5;
@@ -74,17 +74,17 @@ fn enter(
     }
 }
 
-// The node's own byte after a move of its own around a part that rests: a parallel whose part in front waits trades
-// places; else the part is nil and is dropped.
+// The node's own byte after a move around a part that rests. A watching or a when is nil with its part. A part that
+// waits trades places; else it is nil and is dropped.
 fn byte_after(form: u8, why: u8, tag: u8) -> u8
-    requires { ⌜ (tag ≤ 1) × (4 ≤ form) ⌝ }
+    requires { ⌜ Byte form tag ⌝ }
     ensures { λ r. ⌜ r ≡ byteAfter form why tag ⌝ }
 {
+    if form == forms::WATCHED || form == forms::GUARDED {
+        return forms::NIL;
+    }
     if why == moves::SUSPENDED || form == forms::BEFORE {
         return 1 - tag;
-    }
-    if form < forms::BESIDE {
-        return forms::NIL;
     }
     3 - tag
 }

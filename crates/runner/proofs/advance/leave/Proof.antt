@@ -1,0 +1,113 @@
+-- `leave`: a node whose part in front rests: it rests too, or it moves.
+use mathlib.Core.Path.{_≡_, refl, sym, ap, _∙_, subst}
+use mathlib.Core.Bool.{Bool, true, false}
+use mathlib.Core.Logic.{⊎-elim}
+use Prim.Native.Nat.{ℕ, _≤_, _<_}
+use native.Mathlib.Nat.{le-antisymm}
+use native.Mathlib.Numerals.{add-one}
+use native.Mathlib.Omega.{arith}
+use denote.Ref.{now}
+use lib.ListN.{length, set}
+use Rattle.runner.specs.declared.forms.Front.{Front}
+use Rattle.runner.specs.Residual.{own}
+use Rattle.runner.specs.Moves.{Silent}
+use Rattle.runner.specs.Contracts.{left, byteAfter, RearWaits, restsOn, atLimit, makesMove}
+use Rattle.runner.proofs.Sights.{Sight}
+use Rattle.runner.proofs.Deciding.{seen, some-bytes}
+use Rattle.runner.proofs.Resting.{rests-alone, rests-waiting, settles, byte-bound}
+use borrow.Author.Needs.{needs}
+use Rattle.runner.proofs.advance.leave.Statement.{statement}
+use Rattle.runner.proofs.advance.leave.Tie as tie
+
+-- what is seen of the node
+seen-as : (c : tie.Start) → Sight (now (c .args .s)) (c .args .k) (now (c .args .state)) (c .args .f)
+seen-as c = seen (c .pre .0 .1 .1 .0) (c .pre .0 .0) (c .pre .1 .0)
+
+-- the node moves: its part in front is nil, or what is behind it can move in its place
+moves-on :
+    (c : tie.Joined2) →
+    let start = c .before .before .before .before in
+    Silent
+    (left (now (start .args .s)) (start .args .k) (now (start .args .state)))
+    (now (start .args .values))
+    (left (now (start .args .s)) (start .args .k) (set (now (start .args .state)) 0 (byteAfter (start .args .f .form) (start .args .why) (own (now (start .args .state))))))
+    (now (start .args .values))
+moves-on c =
+    let start = c .before .before .before .before in
+    settles (now (start .args .s)) (start .args .k) (now (start .args .state)) (start .args .f) (now (start .args .values)) (seen-as start) (start .pre .1 .1) (c .before .if1 .left)
+    (λ e.
+    ⊎-elim
+    (λ t. subst (RearWaits (now (start .args .s)) (start .args .k) (now (start .args .state)) (now (start .args .values)) (start .args .f .form)) (t .3 .left) (t .2 .ensures))
+    (λ t. absurd (t .left e))
+    (c .if2 .came))
+
+returns : tie.Need-returns
+returns c =
+    let start = c .before .before .before in
+    let r = start .pre .1 .1 in
+    let same = rests-alone (now (start .args .s)) (start .args .k) (now (start .args .state)) (start .args .f) (now (start .args .values)) (seen-as start) (r .part) (c .if1 .taken) in
+    restsOn refl refl refl refl (λ e. same .0 ∙ r .gone e) (λ e. same .1 ∙ r .waits e)
+
+rear-waits-requires : tie.Need-rear-waits-requires
+rear-waits-requires c κs =
+    let start = c .before .before .before .before .before in
+    ((start .pre .0 .0, (start .pre .0 .1 .0, start .pre .0 .1 .1 .0)), ap (λ (x : Front). x .form) (start .pre .1 .0))
+
+same-length : tie.Need-same-length
+same-length c = search needs
+
+returns-2 : tie.Need-returns-2
+returns-2 c =
+    let start = c .before .before .before .before .before .before .before in
+    let r = start .pre .1 .1 in
+    restsOn refl refl refl refl (λ e. absurd (omega (arith, e, c .before .before .before .if2 .taken)))
+    (λ e.
+    rests-waiting (now (start .args .s)) (start .args .k) (now (start .args .state)) (start .args .f) (now (start .args .values)) (seen-as start) (c .before .before .before .before .if1 .left) (r .waits e)
+    (subst (RearWaits (now (start .args .s)) (start .args .k) (now (start .args .state)) (now (start .args .values)) (start .args .f .form)) (c .if3 .taken) (c .before .rear-waits .ensures)))
+
+returns-3 : tie.Need-returns-3
+returns-3 c =
+    let start = c .before .before .before .before .before .before .before in
+    atLimit refl refl refl refl (moves-on ((c .before .before .before)) .0) (le-antisymm (start .pre .0 .1 .1 .1 .0) (c .if4 .taken))
+
+slice-read-byte-after : tie.Need-slice-read-byte-after
+slice-read-byte-after c =
+    let start = c .before .before .before .before .before .before .before .before in
+    some-bytes (start .pre .0 .1 .1 .0) (start .pre .0 .0)
+
+byte-after-requires : tie.Need-byte-after-requires
+byte-after-requires c κs =
+    let start = c .before .before .before .before .before .before .before .before in
+    byte-bound (now (start .args .s)) (start .args .k) (now (start .args .state)) (start .args .f) (now (start .args .values)) (seen-as start) (c .before .before .before .before .before .if1 .left)
+
+slice-write-state : tie.Need-slice-write-state
+slice-write-state c =
+    let start = c .before .before .before .before .before .before .before .before .before in
+    some-bytes (start .pre .0 .1 .1 .0) (start .pre .0 .0)
+
+add-t21 : tie.Need-add-t21
+add-t21 c = search needs
+
+same-length-2 : tie.Need-same-length-2
+same-length-2 c = search needs
+
+returns-4 : tie.Need-returns-4
+returns-4 c =
+    let start = c .before .before .before .before .before .before .before .before .before .before in
+    makesMove refl (add-one (start .args .at .steps)) refl (c .before .before .before .if4 .left) (rw (c .before .byte-after .ensures) (moves-on ((c .before .before .before .before .before .before))))
+
+pub leave-spec : {M : Type 1} → statement M
+leave-spec =
+    tie.close
+    (tie.spec
+    returns
+    rear-waits-requires
+    same-length
+    returns-2
+    returns-3
+    slice-read-byte-after
+    byte-after-requires
+    slice-write-state
+    add-t21
+    same-length-2
+    returns-4)
