@@ -31,8 +31,8 @@ module _ {seen : ℕ → Bool} {limit room : ℕ} {s : List ℕ} {k : ℕ} {st s
 
   -- its part in front is to be advanced
   pub goes-in :
-      st′ ≡ st → to ≡ at → why ≡ into → f ≡ frontOf s k (own st) (length st) → mover < f .form →
-      (f .form ≡ guarded → present (at .values) (signalAt s k) ≡ true) → Enters seen limit room s k st st′ at to why f
+      st′ ≡ st → to ≡ at → why ≡ into → f ≡ frontOf s k (own st′) (length st′) → mover < f .form →
+      (f .form ≡ guarded → present (to .values) (signalAt s k) ≡ true) → Enters seen limit room s k st st′ at to why f
   goes-in a b w e m p =
       record { ends = λ n. absurd (n w); same = λ _. (a, b); front = λ _. e; part = λ _. m; shown = λ _. p }
 

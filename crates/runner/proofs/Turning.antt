@@ -79,12 +79,16 @@ module _ {s : List ℕ} {k : ℕ} {st : List ℕ} {f : Front} {vs : List ℤ} (g
         (length-take-le (f .from) st (omega (arith, g .inside .order, g .inside .within))))
         ∙ take-at ys (drop (f .to - f .from) (drop (f .from) st)) (f .to - f .from) l
 
-    pub own-kept : own (put ys) ≡ own st
+    own-kept : own (put ys) ≡ own st
     own-kept =
         own-put (f .from) (f .to - f .from) st ys (g .inside .starts) (omega (arith, g .inside .order, g .inside .within))
 
-    pub length-kept : length (put ys) ≡ length st
+    length-kept : length (put ys) ≡ length st
     length-kept = length-put (f .from) (f .to - f .from) st ys (omega (arith, g .inside .order, g .inside .within)) l
+
+    pub front-kept :
+        f ≡ frontOf s k (own st) (length st) → f ≡ frontOf s k (own (put ys)) (length (put ys))
+    front-kept e = rw (own-kept, length-kept) e
 
     module _ {seen : ℕ → Bool} {limit room : ℕ} {log : List ℕ} {steps instant lines : ℕ} {ws : List ℤ} {log′ : List ℕ}
         {steps′ lines′ why : ℕ}
@@ -92,7 +96,7 @@ module _ {s : List ℕ} {k : ℕ} {st : List ℕ} {f : Front} {vs : List ℤ} (g
         Advances seen limit room (runningAt s (f .child) (partIn f st) vs log steps instant lines)
         (runningAt s (f .child) ys ws log′ steps′ instant lines′) why)
         (some : 0 < why) where
-      pub goes :
+      goes :
           Path seen limit room (runningAt s k st vs log steps instant lines)
           (runningAt s k (put ys) ws log′ steps′ instant lines′)
       goes = rw (g .inside .whole, g .inside .after ys l) (lift (g .frame) (g .opened) (r .path))
@@ -103,10 +107,10 @@ module _ {s : List ℕ} {k : ℕ} {st : List ℕ} {f : Front} {vs : List ℤ} (g
       stopped : Ends seen limit room (runningAt s (f .child) ys ws log′ steps′ instant lines′) why
       stopped = r .ends (λ e. omega (arith, some, e))
 
-      pub halts : isSpent ≤ why → Ends seen limit room (runningAt s k (put ys) ws log′ steps′ instant lines′) why
+      halts : isSpent ≤ why → Ends seen limit room (runningAt s k (put ys) ws log′ steps′ instant lines′) why
       halts h = rw (g .inside .after ys l) (ends-around (g .frame) stays-open stopped h)
 
-      pub rests : mover < f .form → why < isSpent → Rests s k (put ys) ws f why
+      rests : mover < f .form → why < isSpent → Rests s k (put ys) ws f why
       rests m h =
           record {
             known = one-or-two why some h;
@@ -192,6 +196,57 @@ module _ {seen : ℕ → Bool} {limit : ℕ} {at to : Running ℕ} {st₀ st : L
       },
       omega (arith, n),
     )
+
+-- its part in front has been advanced
+module _ {seen : ℕ → Bool} {limit : ℕ} {at : Running ℕ} {st₀ : List ℕ} {s : List ℕ} {k : ℕ} {st : List ℕ} {f : Front}
+    {vs : List ℤ} {log : List ℕ} {steps instant lines : ℕ}
+    (g : Going s k st f vs) (u : Turn seen limit at (runningAt s k st vs log steps instant lines) st₀ st)
+    (ys : List ℕ) (l : length ys ≡ f .to - f .from) {ws : List ℤ} {log′ : List ℕ} {steps′ lines′ why : ℕ}
+    (r :
+    Advances seen limit (length log / 4) (runningAt s (f .child) (partIn f st) vs log steps instant lines)
+    (runningAt s (f .child) ys ws log′ steps′ instant lines′) why × (0 < why)) where
+  here-too :
+      Advances seen limit (length (at .log) / 4) (runningAt s (f .child) (partIn f st) vs log steps instant lines)
+      (runningAt s (f .child) ys ws log′ steps′ instant lines′) why
+  here-too =
+      subst
+      (λ n.
+      Advances seen limit (n / 4) (runningAt s (f .child) (partIn f st) vs log steps instant lines)
+      (runningAt s (f .child) ys ws log′ steps′ instant lines′) why)
+      (u .logged)
+      (r .0)
+
+  pub part-turn :
+      length ws ≡ length vs → length log′ ≡ length log →
+      Turn seen limit at (runningAt s k (put g ys) ws log′ steps′ instant lines′) st₀ (put g ys)
+  part-turn named logged =
+      record {
+        path = joined (u .path) (goes g ys l here-too (r .1));
+        later = le-trans (u .later) (here-too .later);
+        time = here-too .time;
+        space = here-too .space;
+        named = named ∙ u .named;
+        logged = logged ∙ u .logged;
+        bytes = length-kept g ys l ∙ u .bytes;
+      }
+
+  pub part-ends :
+      isSpent ≤ why →
+      Advances seen limit (length (at .log) / 4) at (runningAt s k (put g ys) ws log′ steps′ instant lines′) why × (0 < why)
+  part-ends h = (
+    record {
+      path = joined (u .path) (goes g ys l here-too (r .1));
+      later = le-trans (u .later) (here-too .later);
+      time = here-too .time;
+      space = here-too .space;
+      again = λ z. absurd (omega (arith, z, h));
+      ends = λ _. halts g ys l here-too (r .1) h;
+    },
+    r .1,
+  )
+
+  pub part-rests : mover < f .form → why < isSpent → Rests s k (put g ys) ws f why
+  part-rests = rests g ys l here-too (r .1)
 
 -- what is left of a node settles
 pub settled :

@@ -118,9 +118,9 @@ pub record Enters
     Type 0 where
   pub ends : (why ≡ into → ⊥) → Advances seen limit room at to why
   pub same : why ≡ into → (st′ ≡ st) × (to ≡ at)
-  pub front : why ≡ into → f ≡ frontOf s k (own st) (length st)
+  pub front : why ≡ into → f ≡ frontOf s k (own st′) (length st′)
   pub part : why ≡ into → mover < f .form
-  pub shown : why ≡ into → f .form ≡ guarded → present (at .values) (partOf s (node s k) .a) ≡ true
+  pub shown : why ≡ into → f .form ≡ guarded → present (to .values) (partOf s (node s k) .a) ≡ true
 
 -- Of a node with this form nothing behind the part in front could move in its place.
 pub record RearWaits (s : List ℕ) (k : ℕ) (st : List ℕ) (values : List ℤ) (form : ℕ) (waits : Bool) : Type 0 where

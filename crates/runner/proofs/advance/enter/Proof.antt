@@ -70,9 +70,13 @@ returns-2 c =
 
 signal-is-present-requires : tie.Need-signal-is-present-requires
 signal-is-present-requires c κs =
-    let start = c .before .before .before .before .before .before .before .before .before .before .before .before .before in
-    (start .pre .0 .laid, (start .pre .1 .1 .0 .known,
-    omega (arith, signal ((c .before .before .before .before .before .before .before)) (c .before .if3 .taken) .known, start .pre .0 .named)))
+    let start = c .before .before .before .before .before .before .before .before .before .before .before .before .before in (
+      start .pre .0 .laid,
+      (
+        start .pre .1 .1 .0 .known,
+        omega (arith, signal ((c .before .before .before .before .before .before .before)) (c .before .if3 .taken) .known, start .pre .0 .named),
+      ),
+    )
 
 same-length-4 : tie.Need-same-length-4
 same-length-4 c = search needs
