@@ -4,12 +4,12 @@ use crate::kinds;
 use crate::kinds::is_either;
 use crate::levels::Flow;
 use crate::levels::Levels;
-use lattice::book::at_or_below;
-use lattice::book::level_at;
 use lattice::book::Book;
 use lattice::book::PairTable;
-use script::entries::name_at;
+use lattice::book::at_or_below;
+use lattice::book::level_at;
 use script::entries::Part;
+use script::entries::name_at;
 use script::layout::Script;
 ghost use mathlib.Core.Path.{_≡_};
 ghost use Prim.Native.Nat.{_<_};
@@ -122,7 +122,15 @@ fn test_of(join: &PairTable, kind: usize, own: Own, parts: Flow) -> usize
 
 // Node k, of this kind: W and T, and the smallest failing node under it, where `parts` has what its children have
 // together, and `pair` says that it has what it needs of its two children.
-pub fn node_flow(l: Levels, join: &PairTable, k: usize, kind: usize, own: Own, parts: Flow, pair: bool) -> Flow
+pub fn node_flow(
+    l: Levels,
+    join: &PairTable,
+    k: usize,
+    kind: usize,
+    own: Own,
+    parts: Flow,
+    pair: bool,
+) -> Flow
     requires { ⌜ Ordered l × (Joins l (now join) × (Known l own × Inside l parts)) ⌝ }
     ensures { λ r. ⌜ r ≡ flowFrom (lattice l .join) (lattice l .leq) k kind own parts pair ⌝ }
 {

@@ -26,7 +26,7 @@ module _
   within = (
     subst (λ m. m < l .book .count) (sym ew) (write-inside (pre .0) kind own parts (pre .1 .1 .0) (pre .1 .1 .1)),
     subst (λ m. m < l .book .count) (sym et)
-    (test-inside (pre .0) kind own parts (pre .1 .1 .0) (pre .1 .1 .1) join (pre .1 .0)),
+        (test-inside (pre .0) kind own parts (pre .1 .1 .0) (pre .1 .1 .1) join (pre .1 .0)),
   )
 
   abbrev need : Bool
