@@ -1,3 +1,4 @@
 -- Laws that the proofs of several functions use, and the theorems of the crate.
 pub mod BookLevels
 pub mod ExpressionLevels
+pub mod OwnViews

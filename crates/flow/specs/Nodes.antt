@@ -16,7 +16,7 @@ use Rattle.flow.specs.Kinds.{hasValue, hasTest, hasWrite}
 
 -- What a node brings itself: 'D is the level of its expression or signal', and the level of its name. What it has not
 -- counts as bottom.
-abbrev brings : ℕ → ℕ → Own
+abbrev pub brings : ℕ → ℕ → Own
 brings level name = record { level = level; name = name }
 
 module _ (𝓛 : Lattice ℕ) (names : Names ℕ) where
