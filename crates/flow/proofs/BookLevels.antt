@@ -40,26 +40,28 @@ module _ {l : Levels} (o : Ordered l) where
     meet-kept t keeps =
         keeps i j hi hj ∙ sym (rw (as-level-own (l .book .count) i hi, as-level-own (l .book .count) j hj))
 
-    pub join-inside : (t : List (List ℕ)) → Joins l t → kept t i j < l .book .count
-    join-inside t keeps = subst (λ m. m < l .book .count) (sym (keeps i j hi hj)) (o .laws .joins .within i j hi hj)
+    pub join-inside : lattice l .join i j < l .book .count
+    join-inside =
+        rw (as-level-own (l .book .count) i hi, as-level-own (l .book .count) j hj) (o .laws .joins .within i j hi hj)
 
-    pub meet-inside : (t : List (List ℕ)) → Meets l t → kept t i j < l .book .count
-    meet-inside t keeps = subst (λ m. m < l .book .count) (sym (keeps i j hi hj)) (o .laws .meets .within i j hi hj)
+    pub meet-inside : lattice l .meet i j < l .book .count
+    meet-inside =
+        rw (as-level-own (l .book .count) i hi, as-level-own (l .book .count) j hj) (o .laws .meets .within i j hi hj)
 
   module _ (kind : ℕ) (own : Own) (parts : Flow) (known : Known l own) (inside : Inside l parts) where
     pub write-inside : writeFrom kind own parts < l .book .count
     write-inside = by-cases (λ w. w < l .book .count) (hasWrite kind) (λ _. known .1) (λ _. inside .0)
 
-    module _ (t : List (List ℕ)) (keeps : Joins l t) where
-      pub test-inside : testFrom (kept t) kind own parts < l .book .count
-      test-inside =
-          by-cases (λ m. m < l .book .count) (hasTest kind)
-          (λ _. join-inside (own .level) (parts .test) (known .0) (inside .1) t keeps) (λ _. inside .1)
+    pub test-inside : testFrom (lattice l .join) kind own parts < l .book .count
+    test-inside =
+        by-cases (λ m. m < l .book .count) (hasTest kind)
+        (λ _. join-inside (own .level) (parts .test) (known .0) (inside .1)) (λ _. inside .1)
 
-      pub test-same : testFrom (kept t) kind own parts ≡ testFrom (lattice l .join) kind own parts
-      test-same =
-          ap (λ m. cond (hasTest kind) m (parts .test))
-          (join-kept (own .level) (parts .test) (known .0) (inside .1) t keeps)
+    pub test-same :
+        (t : List (List ℕ)) → Joins l t → testFrom (kept t) kind own parts ≡ testFrom (lattice l .join) kind own parts
+    test-same t keeps =
+        ap (λ m. cond (hasTest kind) m (parts .test))
+        (join-kept (own .level) (parts .test) (known .0) (inside .1) t keeps)
 
     pub need-same :
         (w t : ℕ) → w < l .book .count → t < l .book .count →

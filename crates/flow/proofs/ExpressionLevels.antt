@@ -132,12 +132,13 @@ module _ {s : List ℕ} {c : Script} {l : Levels} (ready : Ready s c l) (e : ℕ
         (t : List (List ℕ)) → Joins l t → (i j r : ℕ) → LevelAt l s (p .a) i → LevelAt l s (p .b) j → r ≡ kept t i j →
         LevelAt l s e r
     at-binary t keeps i j r a b q =
+        let is-join = q ∙ join-kept (ready .ordered) i j (a .inside) (b .inside) t keeps in
         record {
           same =
-              q ∙ join-kept (ready .ordered) i j (a .inside) (b .inside) t keeps
+              is-join
               ∙ ap₂ (lattice l .join) (a .same ∙ ap (λ q. levelOf (lattice l) s (q .a)) is)
               (b .same ∙ ap (λ q. levelOf (lattice l) s (q .b)) is)
               ∙ sym (binary .1);
           inside =
-              subst (λ m. m < l .book .count) (sym q) (join-inside (ready .ordered) i j (a .inside) (b .inside) t keeps);
+              subst (λ m. m < l .book .count) (sym is-join) (join-inside (ready .ordered) i j (a .inside) (b .inside));
         }

@@ -13,14 +13,14 @@ use Rattle.lattice.specs.Lattice.{Lattice, latticeOf}
 use Rattle.language.specs.Levels.{expLevel, writeLevel, testLevel, need}
 use Rattle.script.specs.declared.layout.Script.{Script}
 use Rattle.script.specs.Layout.{nodeCount, Laid}
-use Rattle.script.specs.Roles.{child}
 use Rattle.script.specs.declared.entries.Part.{Part}
-use Rattle.script.specs.Entries.{partOf, node, fieldCount, fieldOf}
+use Rattle.script.specs.Entries.{partOf, node, firstChild, secondChild}
 use Rattle.script.specs.Tree.{namesOf, expressionOf, processOf, tree}
 use Rattle.script.specs.Checked.{Checked, Levelled}
 use Rattle.flow.specs.declared.levels.Levels.{Levels}
 use Rattle.flow.specs.declared.levels.Flow.{Flow}
 use Rattle.flow.specs.declared.nodes.Own.{Own}
+use Rattle.flow.specs.Kinds.{childCount}
 use Rattle.flow.specs.Nodes.{ownOf}
 
 -- row 11: 'a need above fails', at 'first node': node k has its need
@@ -34,9 +34,10 @@ firstFailing 𝓛 s = first (λ k. not (needAt 𝓛 s k)) (nodeCount s)
 -- node j lies under node k: it is k, or it lies under a child of k
 pub data Under (s : List ℕ) : ℕ → ℕ → Type 0 where
   itself : {k : ℕ} → Under s k k
-  inChild :
-      {k j : ℕ} (f : ℕ) → f < fieldCount → fieldOf s (node s k) f .role ≡ child →
-      Under s (fieldOf s (node s k) f .value) j → Under s k j
+  inFirst :
+      {k j : ℕ} → 0 < childCount (partOf s (node s k) .kind) → Under s (firstChild (partOf s (node s k))) j → Under s k j
+  inSecond :
+      {k j : ℕ} → 1 < childCount (partOf s (node s k) .kind) → Under s (secondChild (partOf s (node s k))) j → Under s k j
 
 -- the smallest number that P holds of, or n if it holds of none below n
 pub record Smallest (P : ℕ → Type 0) (n r : ℕ) : Type 0 where

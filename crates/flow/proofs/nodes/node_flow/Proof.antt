@@ -22,11 +22,13 @@ module _
     (l : Levels) (join : List (List ℕ)) (k kind : ℕ) (own : Own) (parts : Flow) (pair : Bool)
     (pre : Ordered l × (Joins l join × (Known l own × Inside l parts)))
     (w t : ℕ) (ew : w ≡ writeFrom kind own parts) (et : t ≡ testFrom (kept join) kind own parts) where
+  test-is : t ≡ testFrom (lattice l .join) kind own parts
+  test-is = et ∙ test-same (pre .0) kind own parts (pre .1 .1 .0) (pre .1 .1 .1) join (pre .1 .0)
+
   within : (w < l .book .count) × (t < l .book .count)
   within = (
     subst (λ m. m < l .book .count) (sym ew) (write-inside (pre .0) kind own parts (pre .1 .1 .0) (pre .1 .1 .1)),
-    subst (λ m. m < l .book .count) (sym et)
-        (test-inside (pre .0) kind own parts (pre .1 .1 .0) (pre .1 .1 .1) join (pre .1 .0)),
+    subst (λ m. m < l .book .count) (sym test-is) (test-inside (pre .0) kind own parts (pre .1 .1 .0) (pre .1 .1 .1)),
   )
 
   abbrev need : Bool
@@ -42,16 +44,14 @@ module _
       (b : Bool) (f : ℕ) → f ≡ failingBy b → (pair && need) ≡ b →
       made w t f ≡ flowFrom (lattice l .join) (lattice l .leq) k kind own parts pair
   flow-is b f same e =
-      let test : t ≡ testFrom (lattice l .join) kind own parts =
-      et ∙ test-same (pre .0) kind own parts (pre .1 .1 .0) (pre .1 .1 .1) join (pre .1 .0) in
-      ap₂ (λ w t. made w t f) ew test
+      ap₂ (λ w t. made w t f) ew test-is
       ∙ ap (made (writeFrom kind own parts) (testFrom (lattice l .join) kind own parts))
       (same
       ∙ ap failingBy
       (sym e
       ∙ ap (λ n. pair && n)
       (need-same (pre .0) kind own parts (pre .1 .1 .0) (pre .1 .1 .1) w t (within .0) (within .1)
-      ∙ ap₂ (ownNeed (lattice l .leq) kind own) ew test)))
+      ∙ ap₂ (ownNeed (lattice l .leq) kind own) ew test-is)))
 
   holds :
       pair ≡ true → need ≡ true →
