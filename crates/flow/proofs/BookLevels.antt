@@ -4,6 +4,7 @@ use mathlib.Core.Path.{_≡_, sym, ap, _∙_, subst}
 use mathlib.Core.Bool.{cond}
 use mathlib.Core.List.{List}
 use Prim.Native.Nat.{ℕ, _<_}
+use native.Mathlib.Omega.{arith}
 use Rattle.prelude.proofs.Bools.{by-cases}
 use Rattle.lattice.specs.LevelBook.{atOrBelow}
 use Rattle.lattice.specs.Bounds.{kept}
@@ -13,7 +14,7 @@ use Rattle.flow.specs.declared.levels.Flow.{Flow}
 use Rattle.flow.specs.declared.nodes.Own.{Own}
 use Rattle.flow.specs.Kinds.{hasTest, hasWrite}
 use Rattle.flow.specs.Nodes.{writeFrom, testFrom, ownNeed}
-use Rattle.flow.specs.Flow.{lattice, Ordered, Joins, Meets, Known, Inside}
+use Rattle.flow.specs.Flow.{lattice, Ordered, Joins, Meets, Known, Inside, Indices}
 
 module _ {l : Levels} (o : Ordered l) where
   pub top-is : l .top ≡ lattice l .top
@@ -27,6 +28,9 @@ module _ {l : Levels} (o : Ordered l) where
 
   pub bottom-inside : l .bottom < l .book .count
   bottom-inside = subst (λ t. t < l .book .count) (sym bottom-is) (o .laws .least .within)
+
+  pub indices : (f : Flow) → Inside l f → Indices f
+  indices f h = (omega (arith, h .0, o .few), omega (arith, h .1, o .few))
 
   module _ (i j : ℕ) (hi : i < l .book .count) (hj : j < l .book .count) where
     pub order-said : atOrBelow (l .book .rows) i j ≡ lattice l .leq i j

@@ -228,11 +228,11 @@ module _ {s : List ℕ} {c : Script} {l : Levels} (ready : Ready s c l) (k : ℕ
     inside-both : Inside l (bothFrom (kept join) (kept meet) f g)
     inside-both = (
       subst (λ m. m < l .book .count)
-      (sym (meet-kept (ready .ordered) (f .write) (g .write) (a .inside .0) (b .inside .0) meet meets))
-      (meet-inside (ready .ordered) (f .write) (g .write) (a .inside .0) (b .inside .0)),
+          (sym (meet-kept (ready .ordered) (f .write) (g .write) (a .inside .0) (b .inside .0) meet meets))
+          (meet-inside (ready .ordered) (f .write) (g .write) (a .inside .0) (b .inside .0)),
       subst (λ m. m < l .book .count)
-      (sym (join-kept (ready .ordered) (f .test) (g .test) (a .inside .1) (b .inside .1) join joins))
-      (join-inside (ready .ordered) (f .test) (g .test) (a .inside .1) (b .inside .1)),
+          (sym (join-kept (ready .ordered) (f .test) (g .test) (a .inside .1) (b .inside .1) join joins))
+          (join-inside (ready .ordered) (f .test) (g .test) (a .inside .1) (b .inside .1)),
     )
 
     -- the failing nodes below k are those under its first child and those under its second
@@ -263,3 +263,71 @@ module _ {s : List ℕ} {c : Script} {l : Levels} (ready : Ready s c l) (k : ℕ
           failing =
               subst (λ f. Smallest (FailsBelow l s k) (nodeCount s) (f .failing)) (sym e) (failing-both n);
         }
+
+-- what is known where node k has been read: its part, what it brings itself, and how many children it has
+pub record Read (l : Levels) (s : List ℕ) (k : ℕ) (p : Part) (own : Own) (m : ℕ) : Type 0 where
+  pub at : IsNodeAt s p k
+  pub brings : OwnOf l s p own
+  pub count : m ≡ childCount (p .kind)
+
+module _
+    {s : List ℕ} {c : Script} {l : Levels} (ready : Ready s c l) (k : ℕ) (p : Part) (own : Own) (m : ℕ)
+    (read : Read l s k p own m) where
+  h : k < nodeCount s
+  h = read .at .known
+
+  shape : Children s k
+  shape = children s (ready .checked) k h
+
+  count-is : m ≡ childCount (partOf s (node s k) .kind)
+  count-is = read .count ∙ ap (λ p. childCount (p .kind)) (read .at .same)
+
+  pub none-parts : m ≡ 0 → PartsAt l s k (record { write = l .top; test = l .bottom; failing = c .nodes }) true
+  none-parts z = parts-none ready k h shape (sym count-is ∙ z) _ refl
+
+  module _ (i : ℕ) (first-child : i ≡ firstChild p) where
+    first-same : i ≡ firstChild (partOf s (node s k))
+    first-same = first-child ∙ ap firstChild (read .at .same)
+
+    pub first-before : (m ≡ 0 → ⊥) → (i < k) × (i < c .nodes)
+    first-before n =
+        let b = first-view ready k h shape (λ z. n (count-is ∙ z)) in
+        (omega (arith, first-same, b), omega (arith, first-same, b, nodes-are (ready .laid)))
+
+    pub one-parts : m ≡ 1 → (f : Flow) → FlowAt l s i f → PartsAt l s k f true
+    one-parts z f a = parts-one ready k h shape (sym count-is ∙ z) f (subst (λ j. FlowAt l s j f) first-same a)
+
+    module _ (j : ℕ) (second-child : j ≡ secondChild p) (n₀ : m ≡ 0 → ⊥) (n₁ : m ≡ 1 → ⊥) where
+      second-same : j ≡ secondChild (partOf s (node s k))
+      second-same = second-child ∙ ap secondChild (read .at .same)
+
+      pub second-before : (j < k) × (j < c .nodes)
+      second-before =
+          let b = second-view ready k h shape (λ z. n₀ (count-is ∙ z)) (λ z. n₁ (count-is ∙ z)) in
+          (omega (arith, second-same, b), omega (arith, second-same, b, nodes-are (ready .laid)))
+
+      pub two-parts :
+          (f g : Flow) → FlowAt l s i f → FlowAt l s j g → (join meet : List (List ℕ)) → Joins l join → Meets l meet →
+          (r : Flow) → r ≡ bothFrom (kept join) (kept meet) f g →
+          (b : Bool) → b ≡ pairNeed (atOrBelow (l .book .rows)) (p .kind) f g → PartsAt l s k r b
+      two-parts f g a d join meet joins meets r e b q =
+          parts-two ready k h f g (subst (λ j. FlowAt l s j f) first-same a)
+          (subst (λ j. FlowAt l s j g) second-same d)
+          join
+          meet
+          joins
+          meets
+          shape
+          (λ z. n₀ (count-is ∙ z))
+          (λ z. n₁ (count-is ∙ z))
+          r
+          e
+          b
+          (q ∙ ap (λ p. pairNeed (atOrBelow (l .book .rows)) (p .kind) f g) (read .at .same))
+
+  pub node-at :
+      (parts : Flow) (pair : Bool) → PartsAt l s k parts pair → (r : Flow) →
+      r ≡ flowFrom (lattice l .join) (lattice l .leq) k (p .kind) own parts pair → FlowAt l s k r
+  node-at parts pair at r e =
+      flow-at ready k h own parts pair (read .brings .same k (read .at)) (read .brings .inside) at r
+      (e ∙ ap (λ p. flowFrom (lattice l .join) (lattice l .leq) k (p .kind) own parts pair) (read .at .same))

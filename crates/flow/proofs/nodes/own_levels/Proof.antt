@@ -41,7 +41,7 @@ level-of-requires-2 c κs =
       (
         start .pre .1 .0,
         condition-known (start .pre .0) (start .args .p) (start .pre .1 .1) (sym (c .before .before .before .is-either .ensures) ∙ c .before .before .if1 .left)
-        (sym (c .before .is-either2 .ensures) ∙ c .if2 .taken),
+            (sym (c .before .is-either2 .ensures) ∙ c .if2 .taken),
       ),
     )
 
@@ -60,7 +60,7 @@ name-at-requires-2 c κs =
     let start = c .before .before .before .before .before .before .before in (
       start .pre .0 .laid,
       signal-known (start .pre .0) (start .args .p) (start .pre .1 .1) (sym (c .before .before .before .before .before .is-either .ensures) ∙ c .before .before .before .before .if1 .left)
-      (sym (c .before .before .before .is-either2 .ensures) ∙ c .before .before .if2 .left) (sym (c .before .has-signal .ensures) ∙ c .if3 .taken),
+          (sym (c .before .before .before .is-either2 .ensures) ∙ c .before .before .if2 .left) (sym (c .before .has-signal .ensures) ∙ c .if3 .taken),
     )
 
 returns-3 : tie.Need-returns-3
