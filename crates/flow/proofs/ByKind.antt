@@ -1,12 +1,12 @@
 -- 01's list by kind is `writeLevel`, `testLevel` and `need` of a process, from what its children have.
 -- Assumes nothing.
-use mathlib.Core.Path.{_≡_, refl, _∙_}
+use mathlib.Core.Path.{_≡_, refl, ap, _∙_}
 use mathlib.Core.Bool.{Bool, true, false, _&&_}
 use mathlib.Core.List.{List, [], _∷_}
 use Prim.Native.Nat.{ℕ}
 use Rattle.lattice.specs.Lattice.{Lattice}
 use Rattle.language.specs.Syntax.{Names, Proc, nil, assign, letIn, ifThenElse, while, sequence, emit, local, watching, when, parallel}
-use Rattle.language.specs.Levels.{writeLevel, testLevel, need}
+use Rattle.language.specs.Levels.{writeLevel, testLevel, need, needs}
 use Rattle.flow.specs.declared.levels.Flow.{Flow}
 use Rattle.flow.specs.Kinds.{kindOf, childrenOf}
 use Rattle.flow.specs.Nodes.{ownOf, writeFrom, testFrom, ownNeed, pairNeed}
@@ -84,3 +84,23 @@ module _ (𝓛 : Lattice ℕ) (names : Names ℕ) where
   need-by-kind (watching a p) = refl
   need-by-kind (when a p) = refl
   need-by-kind (parallel p q) = and-true _
+
+  -- the needs of the children
+  abbrev pub needsOf : List (Proc ℕ) → Bool
+  needsOf [] = true
+  needsOf (p ∷ ps) = needs 𝓛 names p && needsOf ps
+
+  pub needs-by-kind : (p : Proc ℕ) → (need 𝓛 names p && needsOf (childrenOf p)) ≡ needs 𝓛 names p
+  unfolding childrenOf needs
+  needs-by-kind nil = and-true _
+  needs-by-kind (assign x e) = and-true _
+  needs-by-kind (letIn x δ e p) = ap (λ b. need 𝓛 names (letIn x δ e p) && b) (and-true _)
+  needs-by-kind (ifThenElse e p q) =
+      ap (λ b. need 𝓛 names (ifThenElse e p q) && (needs 𝓛 names p && b)) (and-true _)
+  needs-by-kind (while e p) = ap (λ b. need 𝓛 names (while e p) && b) (and-true _)
+  needs-by-kind (sequence p q) = ap (λ b. need 𝓛 names (sequence p q) && (needs 𝓛 names p && b)) (and-true _)
+  needs-by-kind (emit a) = and-true _
+  needs-by-kind (local a δ p) = ap (λ b. need 𝓛 names (local a δ p) && b) (and-true _)
+  needs-by-kind (watching a p) = ap (λ b. need 𝓛 names (watching a p) && b) (and-true _)
+  needs-by-kind (when a p) = ap (λ b. need 𝓛 names (when a p) && b) (and-true _)
+  needs-by-kind (parallel p q) = ap (λ b. need 𝓛 names (parallel p q) && (needs 𝓛 names p && b)) (and-true _)

@@ -6,3 +6,4 @@ pub mod ByKind
 pub mod Least
 pub mod Shapes
 pub mod NodeFlows
+pub mod UnderLast

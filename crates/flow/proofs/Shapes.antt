@@ -32,32 +32,33 @@ module _ (s : List ℕ) (k : ℕ) where
         childrenOf (processOf s k) ≡ processOf s (firstChild part) ∷ (processOf s (secondChild part) ∷ []) →
         firstChild part < k → secondChild part < k → Children
 
+  -- the children of a node of kind n
+  abbrev pub firstIn : ℕ → ℕ
+  firstIn n =
+      cond (eqb (roleIn nodeRows n 0) child) (part .a) (cond (eqb (roleIn nodeRows n 1) child) (part .b) (part .c))
+
+  abbrev pub secondIn : ℕ → ℕ
+  secondIn n = cond (eqb (roleIn nodeRows n 0) child) (part .b) (cond (eqb (roleIn nodeRows n 1) child) (part .c) 0)
+
   module _ (n : ℕ) (e : part .kind ≡ n) where
-    abbrev firstIn : ℕ
-    firstIn =
-        cond (eqb (roleIn nodeRows n 0) child) (part .a) (cond (eqb (roleIn nodeRows n 1) child) (part .b) (part .c))
-
-    abbrev secondIn : ℕ
-    secondIn = cond (eqb (roleIn nodeRows n 0) child) (part .b) (cond (eqb (roleIn nodeRows n 1) child) (part .c) 0)
-
-    first-is : firstIn ≡ firstChild part
+    pub first-is : firstIn n ≡ firstChild part
     unfolding firstChild
     first-is = sym (rw e)
 
-    second-is : secondIn ≡ secondChild part
+    pub second-is : secondIn n ≡ secondChild part
     unfolding secondChild
     second-is = sym (rw e)
 
     has-none : childCount n ≡ 0 → childrenOf (processOf s k) ≡ [] → Children
     has-none h q = none (ap childCount e ∙ h) q
 
-    has-one : childCount n ≡ 1 → childrenOf (processOf s k) ≡ processOf s firstIn ∷ [] → firstIn < k → Children
+    has-one : childCount n ≡ 1 → childrenOf (processOf s k) ≡ processOf s (firstIn n) ∷ [] → firstIn n < k → Children
     has-one h q b =
         one (ap childCount e ∙ h) (q ∙ ap (λ j. processOf s j ∷ []) first-is) (subst (λ j. j < k) first-is b)
 
     has-two :
-        childCount n ≡ 2 → childrenOf (processOf s k) ≡ processOf s firstIn ∷ (processOf s secondIn ∷ []) →
-        firstIn < k → secondIn < k → Children
+        childCount n ≡ 2 → childrenOf (processOf s k) ≡ processOf s (firstIn n) ∷ (processOf s (secondIn n) ∷ []) →
+        firstIn n < k → secondIn n < k → Children
     has-two h q b d =
         two (ap childCount e ∙ h) (q ∙ ap₂ (λ i j. processOf s i ∷ (processOf s j ∷ [])) first-is second-is)
         (subst (λ j. j < k) first-is b) (subst (λ j. j < k) second-is d)
