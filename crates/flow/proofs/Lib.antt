@@ -7,3 +7,4 @@ pub mod Least
 pub mod Shapes
 pub mod NodeFlows
 pub mod UnderLast
+pub mod Everywhere

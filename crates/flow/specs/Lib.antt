@@ -2,3 +2,4 @@
 pub mod Kinds
 pub mod Nodes
 pub mod Flow
+pub mod Results
