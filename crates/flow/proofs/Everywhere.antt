@@ -60,7 +60,7 @@ module _ (𝓛 : Lattice ℕ) (s : List ℕ) (ok : Checked s) where
     second-need (two n q a b) h e = (
       b,
       and-left (needsAt second) true
-      (and-right (needsAt first) (needsAt second && true) (sym (ap (needsOf 𝓛 (namesOf s)) q) ∙ children-need e)),
+          (and-right (needsAt first) (needsAt second && true) (sym (ap (needsOf 𝓛 (namesOf s)) q) ∙ children-need e)),
     )
 
     -- what a node and its children need makes its process's needs

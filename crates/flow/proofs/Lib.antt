@@ -8,3 +8,4 @@ pub mod Shapes
 pub mod NodeFlows
 pub mod UnderLast
 pub mod Everywhere
+pub mod Theorems
