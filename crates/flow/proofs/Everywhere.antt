@@ -1,7 +1,7 @@
 -- The needs of a script hold exactly when every node has its own; the first node whose need fails.
 -- Assumes nothing.
-use mathlib.Core.Path.{_≡_, refl, sym, ap, _∙_, subst}
-use mathlib.Core.Bool.{Bool, true, false, not, _&&_, true≢false}
+use mathlib.Core.Path.{_≡_, refl, sym, ap, _∙_}
+use mathlib.Core.Bool.{Bool, true, false, not, _&&_}
 use mathlib.Core.List.{List}
 use Prim.Native.Nat.{ℕ, zero, suc, _-_, _<_}
 use native.Mathlib.Nat.{not-suc-le-zero}
@@ -12,7 +12,7 @@ use borrow.Author.Tests.{eq-eqb, eqb-true, not-true, not-false}
 use Rattle.prelude.proofs.Bools.{and-intro, and-left, and-right, same-truth, fails}
 use Rattle.prelude.proofs.Searches.{first-is, first-none, first-at-end}
 use Rattle.lattice.specs.Lattice.{Lattice}
-use Rattle.language.specs.Levels.{need, needs}
+use Rattle.language.specs.Levels.{needs}
 use Rattle.script.specs.Layout.{layoutOf, nodeCount}
 use Rattle.script.specs.Entries.{partOf, node, firstChild, secondChild}
 use Rattle.script.specs.Tree.{namesOf, processOf, tree}

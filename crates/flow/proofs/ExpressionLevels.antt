@@ -11,7 +11,7 @@ use Rattle.language.specs.Levels.{expLevel}
 use Rattle.script.specs.declared.layout.Script.{Script}
 use Rattle.script.specs.declared.entries.Name.{Name}
 use Rattle.script.specs.declared.entries.Part.{Part}
-use Rattle.script.specs.Layout.{nameCount, expressionCount}
+use Rattle.script.specs.Layout.{nameCount}
 use Rattle.script.specs.Entries.{nameOf, partOf}
 use Rattle.script.specs.Tree.{namesOf, expressionOf}
 use Rattle.script.proofs.Layouts.{names-are, expressions-are}

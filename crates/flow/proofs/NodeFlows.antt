@@ -4,24 +4,20 @@ use mathlib.Core.Path.{_≡_, refl, sym, ap, ap₂, _∙_, subst}
 use mathlib.Core.Bool.{Bool, true, false, cond, _&&_, _||_, true≢false}
 use mathlib.Core.List.{List, [], _∷_}
 use mathlib.Core.Logic.{_⊎_, inl, inr, ⊎-elim}
-use Prim.Native.Nat.{ℕ, _≤_, _<_}
+use Prim.Native.Nat.{ℕ, _<_}
 use native.Mathlib.Omega.{arith}
 use lib.Dec.{eqb}
-use borrow.Author.Tests.{le-ltb}
 use Rattle.prelude.specs.Search.{lesser}
 use Rattle.prelude.proofs.Bools.{by-cases}
 use Rattle.lattice.specs.LevelBook.{atOrBelow}
 use Rattle.lattice.specs.Bounds.{kept}
-use Rattle.lattice.specs.Lattice.{Lattice}
 use Rattle.language.specs.Syntax.{Proc}
 use Rattle.language.specs.Levels.{writeLevel, testLevel, need}
 use Rattle.script.specs.declared.layout.Script.{Script}
 use Rattle.script.specs.declared.entries.Part.{Part}
-use Rattle.script.specs.Layout.{expressionCount, nodeCount}
-use Rattle.script.specs.Roles.{nodeRows, roleIn, child, expressionKinds, nodeKinds}
+use Rattle.script.specs.Layout.{nodeCount}
 use Rattle.script.specs.Entries.{partOf, node, firstChild, secondChild}
 use Rattle.script.specs.Tree.{namesOf, processOf}
-use Rattle.script.specs.Checked.{Checked}
 use Rattle.script.proofs.Layouts.{nodes-are}
 use Rattle.flow.specs.declared.levels.Levels.{Levels}
 use Rattle.flow.specs.declared.levels.Flow.{Flow}
@@ -29,7 +25,7 @@ use Rattle.flow.specs.declared.nodes.Own.{Own}
 use Rattle.flow.specs.Kinds as kind
 use Rattle.flow.specs.Kinds.{kindOf, hasWrite, hasTest, childCount, childrenOf}
 use Rattle.flow.specs.Nodes.{ownOf, writeFrom, testFrom, ownNeed, pairNeed, bothFrom, flowFrom}
-use Rattle.flow.specs.Flow.{needAt, Under, itself, inFirst, inSecond, Smallest, FailsUnder, lattice, Ordered, Ready, Joins, Meets, Known, Inside, IsNodeAt, OwnOf, FlowAt}
+use Rattle.flow.specs.Flow.{needAt, Under, itself, inFirst, inSecond, Smallest, FailsUnder, lattice, Ready, Joins, Meets, Known, Inside, IsNodeAt, OwnOf, FlowAt}
 use Rattle.flow.proofs.BookLevels.{top-is, bottom-is, top-inside, bottom-inside, order-said, join-kept, meet-kept, join-inside, meet-inside, write-inside, test-inside}
 use Rattle.flow.proofs.ByKind.{together, pairHolds, write-by-kind, test-by-kind, need-by-kind}
 use Rattle.flow.proofs.Shapes.{Children, none, one, two, children, kind-is}

@@ -1,7 +1,7 @@
 -- Every node of a checked file lies under the last one: each other node is a child of a greater one.
 -- Assumes nothing.
 use mathlib.Core.Path.{_≡_, refl, sym, ap, _∙_, subst}
-use mathlib.Core.Bool.{true, false, cond, false≢true}
+use mathlib.Core.Bool.{true, false, false≢true}
 use mathlib.Core.List.{List}
 use mathlib.Core.Logic.{_⊎_, inl, inr, ⊎-elim}
 use Prim.Native.Nat.{ℕ, zero, suc, _+_, _-_, _*_, _/_, _%_, _≤_, _<_}
@@ -11,12 +11,12 @@ use lib.Dec.{eqb, ltb}
 use borrow.Author.Tests.{eqb-true, ltb-true}
 use Rattle.prelude.proofs.Bools.{and-left, by-cases}
 use Rattle.prelude.proofs.Each.{each}
-use Rattle.script.specs.Layout.{mostParts, layoutOf, expressionCount, nodeCount, partCount}
+use Rattle.script.specs.Layout.{expressionCount, nodeCount, partCount}
 use Rattle.script.specs.Roles.{nodeRows, roleIn, expression, child}
-use Rattle.script.specs.Entries.{partOf, node, fieldCount, fieldOf, valueOf, firstChild, secondChild}
-use Rattle.script.specs.Uses.{allFields, usedBy, used}
+use Rattle.script.specs.Entries.{partOf, node, fieldCount, fieldOf, valueOf}
+use Rattle.script.specs.Uses.{usedBy, used}
 use Rattle.script.specs.Checked.{Checked}
-use Rattle.script.proofs.Layouts.{few-bounds, few-parts}
+use Rattle.script.proofs.Layouts.{few-parts}
 use Rattle.script.proofs.Holding.{holds-expression, right-field}
 use Rattle.script.proofs.Reaching.{used-of, used-earlier, user}
 use Rattle.script.proofs.Views.{NodeView, aNil, anAssign, aLet, anIf, aWhile, aSequence, anEmit, aLocal, aWatching, aWhen, aParallel, node-view, role}

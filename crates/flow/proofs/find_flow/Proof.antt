@@ -1,9 +1,8 @@
 -- `find_flow`: what the walk finds of the last node is what the whole script has.
-use mathlib.Core.Path.{_≡_, sym, ap, ap₂, _∙_, subst}
+use mathlib.Core.Path.{_≡_, sym, ap, ap₂, subst}
 use mathlib.Core.List.{List}
 use Prim.Native.Nat.{ℕ, _-_}
 use native.Mathlib.Omega.{arith}
-use Rattle.lattice.specs.declared.book.Book.{Book}
 use Rattle.script.specs.Layout.{nodeCount}
 use Rattle.script.specs.Checked.{Checked}
 use Rattle.script.proofs.Layouts.{few-bounds, nodes-are}

@@ -1,5 +1,5 @@
 -- `flow_at`: the children have smaller numbers; then by how many there are.
-use mathlib.Core.Path.{_≡_, sym, ap, _∙_, subst}
+use mathlib.Core.Path.{sym, ap, _∙_, subst}
 use native.Mathlib.Omega.{arith}
 use borrow.Author.Needs.{needs, fits-under}
 use Rattle.script.specs.Roles.{nodeKinds}
