@@ -6,7 +6,7 @@ use mathlib.Core.List.{List}
 use Prim.Native.Nat.{ℕ, _<_}
 use native.Mathlib.Omega.{arith}
 use Rattle.prelude.proofs.Bools.{by-cases}
-use Rattle.lattice.specs.LevelBook.{atOrBelow}
+use Rattle.lattice.specs.LevelBook.{mostLevels, atOrBelow}
 use Rattle.lattice.specs.Bounds.{kept}
 use Rattle.lattice.proofs.Theorems.{as-level-own}
 use Rattle.flow.specs.declared.levels.Levels.{Levels}
@@ -14,7 +14,7 @@ use Rattle.flow.specs.declared.levels.Flow.{Flow}
 use Rattle.flow.specs.declared.nodes.Own.{Own}
 use Rattle.flow.specs.Kinds.{hasTest, hasWrite}
 use Rattle.flow.specs.Nodes.{writeFrom, testFrom, ownNeed}
-use Rattle.flow.specs.Flow.{lattice, Ordered, Joins, Meets, Known, Inside, Indices}
+use Rattle.flow.specs.Flow.{lattice, Ordered, Joins, Meets, OwnWithin, FlowWithin}
 
 module _ {l : Levels} (o : Ordered l) where
   pub top-is : l .top ≡ lattice l .top
@@ -29,8 +29,8 @@ module _ {l : Levels} (o : Ordered l) where
   pub bottom-inside : l .bottom < l .book .count
   bottom-inside = subst (λ t. t < l .book .count) (sym bottom-is) (o .laws .least .within)
 
-  pub indices : (f : Flow) → Inside l f → Indices f
-  indices f h = (omega (arith, h .0, o .few), omega (arith, h .1, o .few))
+  pub flow-index : {f : Flow} → FlowWithin (l .book .count) f → FlowWithin mostLevels f
+  flow-index h = record { write = omega (arith, o .few, h .write); test = omega (arith, o .few, h .test) }
 
   module _ (i j : ℕ) (hi : i < l .book .count) (hj : j < l .book .count) where
     pub order-said : atOrBelow (l .book .rows) i j ≡ lattice l .leq i j
@@ -52,27 +52,27 @@ module _ {l : Levels} (o : Ordered l) where
     meet-inside =
         rw (as-level-own (l .book .count) i hi, as-level-own (l .book .count) j hj) (o .laws .meets .within i j hi hj)
 
-  module _ (kind : ℕ) (own : Own) (parts : Flow) (known : Known l own) (inside : Inside l parts) where
+  module _ (kind : ℕ) (own : Own) (parts : Flow) (known : OwnWithin (l .book .count) own) (inside : FlowWithin (l .book .count) parts) where
     pub write-inside : writeFrom kind own parts < l .book .count
-    write-inside = by-cases (λ w. w < l .book .count) (hasWrite kind) (λ _. known .1) (λ _. inside .0)
+    write-inside = by-cases (λ w. w < l .book .count) (hasWrite kind) (λ _. known .name) (λ _. inside .write)
 
     pub test-inside : testFrom (lattice l .join) kind own parts < l .book .count
     test-inside =
         by-cases (λ m. m < l .book .count) (hasTest kind)
-        (λ _. join-inside (own .level) (parts .test) (known .0) (inside .1)) (λ _. inside .1)
+        (λ _. join-inside (own .level) (parts .test) (known .level) (inside .test)) (λ _. inside .test)
 
     pub test-same :
         (t : List (List ℕ)) → Joins l t → testFrom (kept t) kind own parts ≡ testFrom (lattice l .join) kind own parts
     test-same t keeps =
         ap (λ m. cond (hasTest kind) m (parts .test))
-        (join-kept (own .level) (parts .test) (known .0) (inside .1) t keeps)
+        (join-kept (own .level) (parts .test) (known .level) (inside .test) t keeps)
 
     pub need-same :
         (w t : ℕ) → w < l .book .count → t < l .book .count →
         ownNeed (atOrBelow (l .book .rows)) kind own w t ≡ ownNeed (lattice l .leq) kind own w t
     need-same w t hw ht =
         rw (
-          order-said (own .level) (own .name) (known .0) (known .1),
+          order-said (own .level) (own .name) (known .level) (known .name),
           order-said t w ht hw,
-          order-said (own .level) w (known .0) hw,
+          order-said (own .level) w (known .level) hw,
         )

@@ -25,7 +25,7 @@ use Rattle.flow.specs.declared.nodes.Own.{Own}
 use Rattle.flow.specs.Kinds as kind
 use Rattle.flow.specs.Kinds.{kindOf, hasWrite, hasTest, childCount, childrenOf}
 use Rattle.flow.specs.Nodes.{ownOf, writeFrom, testFrom, ownNeed, pairNeed, bothFrom, flowFrom}
-use Rattle.flow.specs.Flow.{needAt, Under, itself, inFirst, inSecond, Smallest, FailsUnder, lattice, Ready, Joins, Meets, Known, Inside, IsNodeAt, OwnOf, FlowAt}
+use Rattle.flow.specs.Flow.{needAt, Under, itself, inFirst, inSecond, Smallest, FailsUnder, lattice, Ordered, Ready, Joins, Meets, OwnWithin, FlowWithin, IsNodeAt, OwnOf, FlowAt}
 use Rattle.flow.proofs.BookLevels.{top-is, bottom-is, top-inside, bottom-inside, order-said, join-kept, meet-kept, join-inside, meet-inside, write-inside, test-inside}
 use Rattle.flow.proofs.ByKind.{together, pairHolds, write-by-kind, test-by-kind, need-by-kind}
 use Rattle.flow.proofs.Shapes.{Children, none, one, two, children, kind-is}
@@ -60,7 +60,7 @@ module _ (l : Levels) (s : List ℕ) (k : ℕ) where
     pub write : parts .write ≡ together (lattice l) (namesOf s) (childrenOf process) .write
     pub test : parts .test ≡ together (lattice l) (namesOf s) (childrenOf process) .test
     pub need : pair ≡ pairHolds (lattice l) (namesOf s) (part .kind) (childrenOf process)
-    pub inside : Inside l parts
+    pub inside : FlowWithin (l .book .count) parts
     pub failing : Smallest FailsBelow (nodeCount s) (parts .failing)
 
   -- node k among the failing ones
@@ -87,7 +87,7 @@ module _ (l : Levels) (s : List ℕ) (k : ℕ) where
 module _ {s : List ℕ} {c : Script} {l : Levels} (ready : Ready s c l) (k : ℕ) (h : k < nodeCount s) where
   module _
       (own : Own) (parts : Flow) (pair : Bool) (brought : own ≡ ownOf (lattice l) (namesOf s) (processOf s k))
-      (known : Known l own) (at : PartsAt l s k parts pair) where
+      (known : OwnWithin (l .book .count) own) (at : PartsAt l s k parts pair) where
     kind-same : partOf s (node s k) .kind ≡ kindOf (processOf s k)
     kind-same = kind-is s (ready .checked) k h
 
@@ -132,10 +132,11 @@ module _ {s : List ℕ} {c : Script} {l : Levels} (ready : Ready s c l) (k : ℕ
           write = ap (λ f. f .write) e ∙ write;
           test = ap (λ f. f .test) e ∙ test;
           inside =
-              subst (Inside l) (sym e) (
-                write-inside (ready .ordered) (partOf s (node s k) .kind) own parts known (at .inside),
-                test-inside (ready .ordered) (partOf s (node s k) .kind) own parts known (at .inside),
-              );
+              subst (FlowWithin (l .book .count)) (sym e)
+              (record {
+                write = write-inside (ready .ordered) (partOf s (node s k) .kind) own parts known (at .inside);
+                test = test-inside (ready .ordered) (partOf s (node s k) .kind) own parts known (at .inside);
+              });
           failing =
               subst (λ f. Smallest (FailsUnder (lattice l) s k) (nodeCount s) (f .failing)) (sym e)
               (by-cases (Smallest (FailsUnder (lattice l) s k) (nodeCount s)) needHere
@@ -170,7 +171,7 @@ module _ {s : List ℕ} {c : Script} {l : Levels} (ready : Ready s c l) (k : ℕ
         write = ap (λ f. f .write) e ∙ top-is (ready .ordered) ∙ sym (ap (λ ps. together (lattice l) (namesOf s) ps .write) q);
         test = ap (λ f. f .test) e ∙ bottom-is (ready .ordered) ∙ sym (ap (λ ps. together (lattice l) (namesOf s) ps .test) q);
         need = sym (ap (pairHolds (lattice l) (namesOf s) (partOf s (node s k) .kind)) q);
-        inside = subst (Inside l) (sym e) (top-inside (ready .ordered), bottom-inside (ready .ordered));
+        inside = subst (FlowWithin (l .book .count)) (sym e) (record { write = top-inside (ready .ordered); test = bottom-inside (ready .ordered) });
         failing =
             subst (Smallest (FailsBelow l s k) (nodeCount s)) (sym (ap (λ f. f .failing) e ∙ nodes-are (ready .laid)))
             (smallest-none (FailsBelow l s k) (nodeCount s)
@@ -204,32 +205,35 @@ module _ {s : List ℕ} {c : Script} {l : Levels} (ready : Ready s c l) (k : ℕ
 
     write-both : kept meet (f .write) (g .write) ≡ together (lattice l) (namesOf s) both .write
     write-both =
-        meet-kept (ready .ordered) (f .write) (g .write) (a .inside .0) (b .inside .0) meet meets
+        meet-kept (ready .ordered) (f .write) (g .write) (a .inside .write) (b .inside .write) meet meets
         ∙ ap₂ (lattice l .meet) (a .write) (b .write)
 
     test-both : kept join (f .test) (g .test) ≡ together (lattice l) (namesOf s) both .test
     test-both =
-        join-kept (ready .ordered) (f .test) (g .test) (a .inside .1) (b .inside .1) join joins
+        join-kept (ready .ordered) (f .test) (g .test) (a .inside .test) (b .inside .test) join joins
         ∙ ap₂ (lattice l .join) (a .test) (b .test)
 
     need-both :
         (n : ℕ) → pairNeed (atOrBelow (l .book .rows)) n f g ≡ pairHolds (lattice l) (namesOf s) n both
     need-both n =
         ap₂ (λ x y. cond (eqb n kind.ifThenElse) true (x && (eqb n kind.sequence || y)))
-        (order-said (ready .ordered) (f .test) (g .write) (a .inside .1) (b .inside .0)
+        (order-said (ready .ordered) (f .test) (g .write) (a .inside .test) (b .inside .write)
         ∙ ap₂ (lattice l .leq) (a .test) (b .write))
-        (order-said (ready .ordered) (g .test) (f .write) (b .inside .1) (a .inside .0)
+        (order-said (ready .ordered) (g .test) (f .write) (b .inside .test) (a .inside .write)
         ∙ ap₂ (lattice l .leq) (b .test) (a .write))
 
-    inside-both : Inside l (bothFrom (kept join) (kept meet) f g)
-    inside-both = (
-      subst (λ m. m < l .book .count)
-          (sym (meet-kept (ready .ordered) (f .write) (g .write) (a .inside .0) (b .inside .0) meet meets))
-          (meet-inside (ready .ordered) (f .write) (g .write) (a .inside .0) (b .inside .0)),
-      subst (λ m. m < l .book .count)
-          (sym (join-kept (ready .ordered) (f .test) (g .test) (a .inside .1) (b .inside .1) join joins))
-          (join-inside (ready .ordered) (f .test) (g .test) (a .inside .1) (b .inside .1)),
-    )
+    inside-both : FlowWithin (l .book .count) (bothFrom (kept join) (kept meet) f g)
+    inside-both =
+        record {
+          write =
+              subst (λ m. m < l .book .count)
+              (sym (meet-kept (ready .ordered) (f .write) (g .write) (a .inside .write) (b .inside .write) meet meets))
+              (meet-inside (ready .ordered) (f .write) (g .write) (a .inside .write) (b .inside .write));
+          test =
+              subst (λ m. m < l .book .count)
+              (sym (join-kept (ready .ordered) (f .test) (g .test) (a .inside .test) (b .inside .test) join joins))
+              (join-inside (ready .ordered) (f .test) (g .test) (a .inside .test) (b .inside .test));
+        }
 
     -- the failing nodes below k are those under its first child and those under its second
     failing-both : count ≡ 2 → Smallest (FailsBelow l s k) (nodeCount s) (lesser (f .failing) (g .failing))
@@ -255,64 +259,82 @@ module _ {s : List ℕ} {c : Script} {l : Levels} (ready : Ready s c l) (k : ℕ
           need =
               d ∙ need-both (partOf s (node s k) .kind)
               ∙ sym (ap (pairHolds (lattice l) (namesOf s) (partOf s (node s k) .kind)) q);
-          inside = subst (Inside l) (sym e) inside-both;
+          inside = subst (FlowWithin (l .book .count)) (sym e) inside-both;
           failing =
               subst (λ f. Smallest (FailsBelow l s k) (nodeCount s) (f .failing)) (sym e) (failing-both n);
         }
 
 -- what is known where node k has been read: its part, what it brings itself, and how many children it has
-pub record Read (l : Levels) (s : List ℕ) (k : ℕ) (p : Part) (own : Own) (m : ℕ) : Type 0 where
+pub record Read
+    (s : List ℕ) (c : Script) (l : Levels) (join meet : List (List ℕ)) (k : ℕ) (p : Part) (own : Own) (m : ℕ) : Type 0 where
+  pub ready : Ready s c l
+  pub joins : Joins l join
+  pub meets : Meets l meet
   pub at : IsNodeAt s p k
   pub brings : OwnOf l s p own
   pub count : m ≡ childCount (p .kind)
 
 module _
-    {s : List ℕ} {c : Script} {l : Levels} (ready : Ready s c l) (k : ℕ) (p : Part) (own : Own) (m : ℕ)
-    (read : Read l s k p own m) where
-  h : k < nodeCount s
-  h = read .at .known
-
+    {s : List ℕ} {c : Script} {l : Levels} {join meet : List (List ℕ)} {k : ℕ} {p : Part} {own : Own} {m : ℕ}
+    (read : Read s c l join meet k p own m) where
   shape : Children s k
-  shape = children s (ready .checked) k h
+  shape = children s (read .ready .checked) k (read .at .known)
 
   count-is : m ≡ childCount (partOf s (node s k) .kind)
   count-is = read .count ∙ ap (λ p. childCount (p .kind)) (read .at .same)
 
-  pub none-parts : m ≡ 0 → PartsAt l s k (record { write = l .top; test = l .bottom; failing = c .nodes }) true
-  none-parts z = parts-none ready k h shape (sym count-is ∙ z) _ refl
+  -- what the walk asks of a node below k
+  abbrev Asks : ℕ → Type 0
+  Asks j = (j < k) × (Ready s c l × (Joins l join × (Meets l meet × (j < c .nodes))))
 
-  module _ (i : ℕ) (first-child : i ≡ firstChild p) where
+  asks : (j : ℕ) → j < k → Asks j
+  asks j h = (
+    h,
+    (
+      read .ready,
+      (read .joins, (read .meets, omega (arith, h, read .at .known, nodes-are (read .ready .laid)))),
+    ),
+  )
+
+  pub none-parts : m ≡ 0 → PartsAt l s k (record { write = l .top; test = l .bottom; failing = c .nodes }) true
+  none-parts z = parts-none (read .ready) k (read .at .known) shape (sym count-is ∙ z) _ refl
+
+  module _ {i : ℕ} (first-child : i ≡ firstChild p) where
     first-same : i ≡ firstChild (partOf s (node s k))
     first-same = first-child ∙ ap firstChild (read .at .same)
 
-    pub first-before : (m ≡ 0 → ⊥) → (i < k) × (i < c .nodes)
-    first-before n =
-        let b = first-view ready k h shape (λ z. n (count-is ∙ z)) in
-        (omega (arith, first-same, b), omega (arith, first-same, b, nodes-are (ready .laid)))
+    pub first-asks : (m ≡ 0 → ⊥) → Asks i
+    first-asks n =
+        asks i (omega (arith, first-same, first-view (read .ready) k (read .at .known) shape (λ z. n (count-is ∙ z))))
 
-    pub one-parts : m ≡ 1 → (f : Flow) → FlowAt l s i f → PartsAt l s k f true
-    one-parts z f a = parts-one ready k h shape (sym count-is ∙ z) f (subst (λ j. FlowAt l s j f) first-same a)
+    pub one-parts : m ≡ 1 → {f : Flow} → FlowAt l s i f → PartsAt l s k f true
+    one-parts z {f} a =
+        parts-one (read .ready) k (read .at .known) shape (sym count-is ∙ z) f
+        (subst (λ j. FlowAt l s j f) first-same a)
 
-    module _ (j : ℕ) (second-child : j ≡ secondChild p) (n₀ : m ≡ 0 → ⊥) (n₁ : m ≡ 1 → ⊥) where
+    module _ {j : ℕ} (second-child : j ≡ secondChild p) (n₀ : m ≡ 0 → ⊥) (n₁ : m ≡ 1 → ⊥) where
       second-same : j ≡ secondChild (partOf s (node s k))
       second-same = second-child ∙ ap secondChild (read .at .same)
 
-      pub second-before : (j < k) × (j < c .nodes)
-      second-before =
-          let b = second-view ready k h shape (λ z. n₀ (count-is ∙ z)) (λ z. n₁ (count-is ∙ z)) in
-          (omega (arith, second-same, b), omega (arith, second-same, b, nodes-are (ready .laid)))
+      pub second-asks : Asks j
+      second-asks =
+          asks j
+          (omega (
+            arith,
+            second-same,
+            second-view (read .ready) k (read .at .known) shape (λ z. n₀ (count-is ∙ z)) (λ z. n₁ (count-is ∙ z)),
+          ))
 
       pub two-parts :
-          (f g : Flow) → FlowAt l s i f → FlowAt l s j g → (join meet : List (List ℕ)) → Joins l join → Meets l meet →
-          (r : Flow) → r ≡ bothFrom (kept join) (kept meet) f g →
-          (b : Bool) → b ≡ pairNeed (atOrBelow (l .book .rows)) (p .kind) f g → PartsAt l s k r b
-      two-parts f g a d join meet joins meets r e b q =
-          parts-two ready k h f g (subst (λ j. FlowAt l s j f) first-same a)
+          {f g : Flow} → FlowAt l s i f → FlowAt l s j g → {r : Flow} → r ≡ bothFrom (kept join) (kept meet) f g →
+          {b : Bool} → b ≡ pairNeed (atOrBelow (l .book .rows)) (p .kind) f g → PartsAt l s k r b
+      two-parts {f} {g} a d {r} e {b} q =
+          parts-two (read .ready) k (read .at .known) f g (subst (λ j. FlowAt l s j f) first-same a)
           (subst (λ j. FlowAt l s j g) second-same d)
           join
           meet
-          joins
-          meets
+          (read .joins)
+          (read .meets)
           shape
           (λ z. n₀ (count-is ∙ z))
           (λ z. n₁ (count-is ∙ z))
@@ -321,9 +343,13 @@ module _
           b
           (q ∙ ap (λ p. pairNeed (atOrBelow (l .book .rows)) (p .kind) f g) (read .at .same))
 
+  -- what `node_flow` asks
+  pub node-asks : {parts : Flow} → FlowWithin (l .book .count) parts → Ordered l × (Joins l join × (OwnWithin (l .book .count) own × FlowWithin (l .book .count) parts))
+  node-asks inside = (read .ready .ordered, (read .joins, (read .brings .inside, inside)))
+
   pub node-at :
-      (parts : Flow) (pair : Bool) → PartsAt l s k parts pair → (r : Flow) →
+      {parts : Flow} {pair : Bool} → PartsAt l s k parts pair → {r : Flow} →
       r ≡ flowFrom (lattice l .join) (lattice l .leq) k (p .kind) own parts pair → FlowAt l s k r
-  node-at parts pair at r e =
-      flow-at ready k h own parts pair (read .brings .same k (read .at)) (read .brings .inside) at r
+  node-at {parts} {pair} at {r} e =
+      flow-at (read .ready) k (read .at .known) own parts pair (read .brings .same k (read .at)) (read .brings .inside) at r
       (e ∙ ap (λ p. flowFrom (lattice l .join) (lattice l .leq) k (p .kind) own parts pair) (read .at .same))

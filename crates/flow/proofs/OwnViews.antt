@@ -82,7 +82,7 @@ module _ {s : List ℕ} {c : Script} {l : Levels} (ready : Ready s c l) (p : Par
       value-brings d x a e =
           record {
             same = λ k at. ap₂ brings (a .same) (ap (λ x. x .level) e) ∙ sym (value k at .1 .1);
-            inside = (a .inside, name-inside x e (value (at .0) (at .1) .0));
+            inside = record { level = a .inside; name = name-inside x e (value (at .0) (at .1) .0) };
           }
 
     module _ (v : hasValue (p .kind) ≡ false) where
@@ -97,7 +97,7 @@ module _ {s : List ℕ} {c : Script} {l : Levels} (ready : Ready s c l) (p : Par
         condition-brings d a =
             record {
               same = λ k at. ap₂ brings (a .same) (bottom-is (ready .ordered)) ∙ sym (condition k at .1);
-              inside = (a .inside, bottom-inside (ready .ordered));
+              inside = record { level = a .inside; name = bottom-inside (ready .ordered) };
             }
 
       module _ (b : hasCondition (p .kind) ≡ false) where
@@ -113,7 +113,7 @@ module _ {s : List ℕ} {c : Script} {l : Levels} (ready : Ready s c l) (p : Par
               let h = name-inside x e (signal (at .0) (at .1) .0) in
               record {
                 same = λ k at. ap (λ x. brings (x .level) (x .level)) e ∙ sym (signal k at .1);
-                inside = (h, h);
+                inside = record { level = h; name = h };
               }
 
         pub nothing-brings : hasSignal (p .kind) ≡ false → OwnOf l s p (brings (l .bottom) (l .bottom))
@@ -122,5 +122,5 @@ module _ {s : List ℕ} {c : Script} {l : Levels} (ready : Ready s c l) (p : Par
             record {
               same =
                   λ k at. ap (λ b. brings b b) (bottom-is (ready .ordered)) ∙ sym (owned k at false false false v b g);
-              inside = (h, h);
+              inside = record { level = h; name = h };
             }

@@ -86,16 +86,14 @@ pub record IsNodeAt (s : List ℕ) (p : Part) (k : ℕ) : Type 0 where
 abbrev pub IsNode : List ℕ → Part → Type 0
 IsNode s p = (k : ℕ) × IsNodeAt s p k
 
--- levels that index a table
-abbrev pub Indices : Flow → Type 0
-Indices f = (f .write < mostLevels) × (f .test < mostLevels)
+-- levels below n
+pub record OwnWithin (n : ℕ) (own : Own) : Type 0 where
+  pub level : own .level < n
+  pub name : own .name < n
 
--- levels of the book
-abbrev pub Known : Levels → Own → Type 0
-Known l own = (own .level < l .book .count) × (own .name < l .book .count)
-
-abbrev pub Inside : Levels → Flow → Type 0
-Inside l f = (f .write < l .book .count) × (f .test < l .book .count)
+pub record FlowWithin (n : ℕ) (f : Flow) : Type 0 where
+  pub write : f .write < n
+  pub test : f .test < n
 
 -- What the walks find: of an expression, ..
 pub record LevelAt (l : Levels) (s : List ℕ) (e level : ℕ) : Type 0 where
@@ -105,18 +103,18 @@ pub record LevelAt (l : Levels) (s : List ℕ) (e level : ℕ) : Type 0 where
 -- .. of what a node with these bytes brings itself, ..
 pub record OwnOf (l : Levels) (s : List ℕ) (p : Part) (own : Own) : Type 0 where
   pub same : (k : ℕ) → IsNodeAt s p k → own ≡ ownOf (lattice l) (namesOf s) (processOf s k)
-  pub inside : Known l own
+  pub inside : OwnWithin (l .book .count) own
 
 -- .. of a node with all that lies under it, ..
 pub record FlowAt (l : Levels) (s : List ℕ) (k : ℕ) (f : Flow) : Type 0 where
   pub write : f .write ≡ writeLevel (lattice l) (namesOf s) (processOf s k)
   pub test : f .test ≡ testLevel (lattice l) (namesOf s) (processOf s k)
-  pub inside : Inside l f
+  pub inside : FlowWithin (l .book .count) f
   pub failing : Smallest (FailsUnder (lattice l) s k) (nodeCount s) (f .failing)
 
 -- .. of the whole script
 pub record FlowOf (l : Levels) (s : List ℕ) (f : Flow) : Type 0 where
   pub write : f .write ≡ writeLevel (lattice l) (namesOf s) (tree s)
   pub test : f .test ≡ testLevel (lattice l) (namesOf s) (tree s)
-  pub inside : Inside l f
+  pub inside : FlowWithin (l .book .count) f
   pub failing : f .failing ≡ firstFailing (lattice l) s

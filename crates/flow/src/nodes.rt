@@ -16,7 +16,7 @@ ghost use Prim.Native.Nat.{_<_};
 ghost use Rattle.lattice.specs.LevelBook.{mostLevels, atOrBelow};
 ghost use Rattle.lattice.specs.Bounds.{kept};
 ghost use Rattle.flow.specs.Nodes.{writeFrom, testFrom, bothFrom, ownNeed, pairNeed, flowFrom};
-ghost use Rattle.flow.specs.Flow.{lattice, Ordered, Ready, Joins, Known, Inside, Indices, IsNode, OwnOf};
+ghost use Rattle.flow.specs.Flow.{lattice, Ordered, Ready, Joins, OwnWithin, FlowWithin, IsNode, OwnOf};
 
 // What a node brings itself: D, which is the level of its expression or signal, and the level of its name. What it has
 // not counts as bottom.
@@ -57,7 +57,7 @@ pub fn own_levels(s: &[u8], c: Script, l: Levels, join: &PairTable, p: Part) -> 
 
 // W and T of two children together, and the smaller of their failing nodes.
 pub fn both_of(join: &PairTable, meet: &PairTable, first: Flow, second: Flow) -> Flow
-    requires { ⌜ Indices first × Indices second ⌝ }
+    requires { ⌜ FlowWithin mostLevels first × FlowWithin mostLevels second ⌝ }
     ensures { λ r. ⌜ r ≡ bothFrom (kept (now (join .entry))) (kept (now (meet .entry))) first second ⌝ }
 {
     Flow {
@@ -69,7 +69,7 @@ pub fn both_of(join: &PairTable, meet: &PairTable, first: Flow, second: Flow) ->
 
 // What a node of this kind needs of its two children.
 pub fn pair_need(b: Book, kind: usize, first: Flow, second: Flow) -> bool
-    requires { ⌜ Indices first × Indices second ⌝ }
+    requires { ⌜ FlowWithin mostLevels first × FlowWithin mostLevels second ⌝ }
     ensures { λ r. ⌜ r ≡ pairNeed (atOrBelow (b .rows)) kind first second ⌝ }
 {
     if kind == kinds::IF {
@@ -86,7 +86,7 @@ pub fn pair_need(b: Book, kind: usize, first: Flow, second: Flow) -> bool
 
 // What a node of this kind with these levels needs itself.
 fn own_need(b: Book, kind: usize, own: Own, write: usize, test: usize) -> bool
-    requires { ⌜ (own .level < mostLevels) × ((own .name < mostLevels) × ((write < mostLevels) × (test < mostLevels))) ⌝ }
+    requires { ⌜ OwnWithin mostLevels own × ((write < mostLevels) × (test < mostLevels)) ⌝ }
     ensures { λ r. ⌜ r ≡ ownNeed (atOrBelow (b .rows)) kind own write test ⌝ }
 {
     if is_either(kind, kinds::ASSIGN, kinds::LET) {
@@ -111,7 +111,7 @@ fn write_of(kind: usize, own: Own, parts: Flow) -> usize
 }
 
 fn test_of(join: &PairTable, kind: usize, own: Own, parts: Flow) -> usize
-    requires { ⌜ (own .level < mostLevels) × (parts .test < mostLevels) ⌝ }
+    requires { ⌜ OwnWithin mostLevels own × FlowWithin mostLevels parts ⌝ }
     ensures { λ r. ⌜ r ≡ testFrom (kept (now (join .entry))) kind own parts ⌝ }
 {
     if kinds::has_test(kind) {
@@ -131,7 +131,7 @@ pub fn node_flow(
     parts: Flow,
     pair: bool,
 ) -> Flow
-    requires { ⌜ Ordered l × (Joins l (now join) × (Known l own × Inside l parts)) ⌝ }
+    requires { ⌜ Ordered l × (Joins l (now join) × (OwnWithin (l .book .count) own × FlowWithin (l .book .count) parts)) ⌝ }
     ensures { λ r. ⌜ r ≡ flowFrom (lattice l .join) (lattice l .leq) k kind own parts pair ⌝ }
 {
     let write = write_of(kind, own, parts);

@@ -12,7 +12,7 @@ use Rattle.flow.specs.declared.levels.Levels.{Levels}
 use Rattle.flow.specs.declared.levels.Flow.{Flow}
 use Rattle.flow.specs.declared.nodes.Own.{Own}
 use Rattle.flow.specs.Nodes.{writeFrom, testFrom, ownNeed, flowFrom}
-use Rattle.flow.specs.Flow.{lattice, Ordered, Joins, Known, Inside}
+use Rattle.flow.specs.Flow.{lattice, Ordered, Joins, OwnWithin, FlowWithin}
 use Rattle.flow.proofs.BookLevels.{write-inside, test-inside, test-same, need-same}
 use borrow.Author.Needs.{needs}
 use Rattle.flow.proofs.nodes.node_flow.Statement.{statement}
@@ -20,7 +20,7 @@ use Rattle.flow.proofs.nodes.node_flow.Tie as tie
 
 module _
     (l : Levels) (join : List (List ℕ)) (k kind : ℕ) (own : Own) (parts : Flow) (pair : Bool)
-    (pre : Ordered l × (Joins l join × (Known l own × Inside l parts)))
+    (pre : Ordered l × (Joins l join × (OwnWithin (l .book .count) own × FlowWithin (l .book .count) parts)))
     (w t : ℕ) (ew : w ≡ writeFrom kind own parts) (et : t ≡ testFrom (kept join) kind own parts) where
   test-is : t ≡ testFrom (lattice l .join) kind own parts
   test-is = et ∙ test-same (pre .0) kind own parts (pre .1 .1 .0) (pre .1 .1 .1) join (pre .1 .0)

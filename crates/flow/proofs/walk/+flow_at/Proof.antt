@@ -2,13 +2,14 @@
 use mathlib.Core.Path.{sym, ap, _∙_, subst}
 use native.Mathlib.Omega.{arith}
 use borrow.Author.Needs.{needs, fits-under}
+use Rattle.lattice.specs.LevelBook.{mostLevels}
 use Rattle.script.specs.Roles.{nodeKinds}
 use Rattle.script.specs.Entries.{partOf}
 use Rattle.script.proofs.Layouts.{few-bounds, expressions-are, nodes-are}
-use Rattle.flow.specs.Flow.{IsNodeAt}
-use Rattle.flow.proofs.BookLevels.{indices}
+use Rattle.flow.specs.Flow.{FlowWithin, IsNodeAt}
+use Rattle.flow.proofs.BookLevels.{flow-index}
 use Rattle.flow.proofs.Shapes.{kind-below}
-use Rattle.flow.proofs.NodeFlows.{PartsAt, Read, none-parts, first-before, one-parts, second-before, two-parts, node-at}
+use Rattle.flow.proofs.NodeFlows.{PartsAt, Read, none-parts, first-asks, one-parts, second-asks, two-parts, node-asks, node-at}
 use Prim.Native.Nat.{ℕ, _+_, _<_}
 use borrow.Fn.Kinds.{In}
 use borrow.Fn.PlainCycle.{Measures, is, falls, and}
@@ -40,107 +41,113 @@ R t = (part-at-reads.Asked, part-at-reads.Learnt, own-levels-reads.Asked, own-le
 -- the part that was read is that of node k
 at :
     (t : ℕ) (c : flow-at-lts.After-part-at (R t) (flow-at-at t) flow-at.Post) →
-    IsNodeAt (c .before .before .before .args .s .now) (c .part-at .result) (c .before .before .before .args .k)
+    let start = c .before .before .before in IsNodeAt (start .args .s .now) (c .part-at .result) (start .args .k)
 at t c =
+    let start = c .before .before .before in
     record {
-      known = omega (arith, c .before .before .before .pre .1 .1 .1 .1, nodes-are (c .before .before .before .pre .1 .0 .laid));
+      known = omega (arith, start .pre .1 .1 .1 .1, nodes-are (start .pre .1 .0 .laid));
       same =
           c .part-at .ensures
-          ∙ ap (λ e. partOf (c .before .before .before .args .s .now) (e + c .before .before .before .args .k)) (expressions-are (c .before .before .before .pre .1 .0 .laid));
+          ∙ ap (λ e. partOf (start .args .s .now) (e + start .args .k)) (expressions-are (start .pre .1 .0 .laid));
     }
 
 read :
     (t : ℕ) (c : flow-at-lts.After-child-count (R t) (flow-at-at t) flow-at.Post) →
-    Read (c .before .before .before .before .before .args .l) (c .before .before .before .before .before .args .s .now) (c .before .before .before .before .before .args .k) (c .before .before .part-at .result) (c .before .own-levels .result)
+    let a = c .before .before .before .before .before .args in
+    Read (a .s .now) (a .c) (a .l) (a .join .now) (a .meet .now) (a .k) (c .before .before .part-at .result) (c .before .own-levels .result)
     (c .child-count .result)
-read t c = record { at = at t (c .before .before); brings = c .before .own-levels .ensures; count = c .child-count .ensures }
+read t c =
+    let start = c .before .before .before .before .before in
+    record {
+      ready = start .pre .1 .0;
+      joins = start .pre .1 .1 .0;
+      meets = start .pre .1 .1 .1 .0;
+      at = at t (c .before .before);
+      brings = c .before .own-levels .ensures;
+      count = c .child-count .ensures;
+    }
 
 flow-at-add-part-at : (t : ℕ) → flow-at-lts.Need-add-part-at (R t) (flow-at-at t) flow-at.Post
 flow-at-add-part-at t c =
+    let start = c .before .before in
     fits-under _ _ 512
-    (omega (arith, c .before .before .pre .1 .1 .1 .1, few-bounds (c .before .before .args .c) (c .before .before .pre .1 .0 .laid .few)))
+    (omega (arith, start .pre .1 .1 .1 .1, few-bounds (start .args .c) (start .pre .1 .0 .laid .few)))
     tt
 
 flow-at-part-at-requires : (t : ℕ) → flow-at-lts.Need-part-at-requires (R t) (flow-at-at t) flow-at.Post
 flow-at-part-at-requires t c κs = (c .before .before .pre .1 .0 .laid, omega (arith, c .before .before .pre .1 .1 .1 .1))
 
 flow-at-own-levels-requires : (t : ℕ) → flow-at-lts.Need-own-levels-requires (R t) (flow-at-at t) flow-at.Post
-flow-at-own-levels-requires t c κs = (c .before .before .before .pre .1 .0, (c .before .before .before .pre .1 .1 .0, (c .before .before .before .args .k, at t c)))
+flow-at-own-levels-requires t c κs =
+    let start = c .before .before .before in (start .pre .1 .0, (start .pre .1 .1 .0, (start .args .k, at t c)))
 
 flow-at-child-count-requires : (t : ℕ) → flow-at-lts.Need-child-count-requires (R t) (flow-at-at t) flow-at.Post
 flow-at-child-count-requires t c κs =
-    subst (λ p. p .kind < nodeKinds) (sym (at t (c .before) .same))
-    (kind-below (c .before .before .before .before .args .s .now) (c .before .before .before .before .pre .1 .0 .checked) (c .before .before .before .before .args .k) (at t (c .before) .known))
+    let start = c .before .before .before .before in
+    let here = at t (c .before) in
+    subst (λ p. p .kind < nodeKinds) (sym (here .same))
+    (kind-below (start .args .s .now) (start .pre .1 .0 .checked) (start .args .k) (here .known))
 
 flow-at-node-flow-requires : (t : ℕ) → flow-at-lts.Need-node-flow-requires (R t) (flow-at-at t) flow-at.Post
-flow-at-node-flow-requires t c κs = (
-  c .before .before .before .before .before .before .pre .1 .0 .ordered,
-  (c .before .before .before .before .before .before .pre .1 .1 .0, (c .before .before .own-levels .ensures .inside, none-parts (c .before .before .before .before .before .before .pre .1 .0) (c .before .before .before .before .before .before .args .k) (c .before .before .before .part-at .result) (c .before .before .own-levels .result) (c .before .child-count .result) (read t (c .before)) (c .if1 .taken) .inside)),
-)
+flow-at-node-flow-requires t c κs =
+    let known = read t (c .before) in node-asks known (none-parts known (c .if1 .taken) .inside)
 
 flow-at-returns : (t : ℕ) → flow-at-lts.Need-returns (R t) (flow-at-at t) flow-at.Post
 flow-at-returns t c =
-    node-at (c .before .before .before .before .before .before .before .pre .1 .0) (c .before .before .before .before .before .before .before .args .k) (c .before .before .before .before .part-at .result) (c .before .before .before .own-levels .result) (c .before .before .child-count .result) (read t (c .before .before)) _ _
-    (none-parts (c .before .before .before .before .before .before .before .pre .1 .0) (c .before .before .before .before .before .before .before .args .k) (c .before .before .before .before .part-at .result) (c .before .before .before .own-levels .result) (c .before .before .child-count .result) (read t (c .before .before)) (c .before .if1 .taken)) _ (c .node-flow .ensures)
+    let known = read t (c .before .before) in node-at known (none-parts known (c .before .if1 .taken)) (c .node-flow .ensures)
 
 flow-at-children-of-requires : (t : ℕ) → flow-at-lts.Need-children-of-requires (R t) (flow-at-at t) flow-at.Post
 flow-at-children-of-requires t c κs = search needs
 
 flow-at-flow-at-requires : (t : ℕ) → flow-at-lts.Need-flow-at-requires (R t) (flow-at-at t) flow-at.Post
 flow-at-flow-at-requires t c κs =
-    let b = first-before (c .before .before .before .before .before .before .before .pre .1 .0) (c .before .before .before .before .before .before .before .args .k) (c .before .before .before .before .part-at .result) (c .before .before .before .own-levels .result) (c .before .before .child-count .result) (read t (c .before .before)) (c .children-of .result .first) (c .children-of .ensures .0) (c .before .if1 .left) in
-    (omega (arith, b .0, c .before .before .before .before .before .before .before .pre .0), (c .before .before .before .before .before .before .before .pre .1 .0, (c .before .before .before .before .before .before .before .pre .1 .1 .0, (c .before .before .before .before .before .before .before .pre .1 .1 .1 .0, b .1))))
+    let b = first-asks (read t (c .before .before)) (c .children-of .ensures .0) (c .before .if1 .left) in
+    (omega (arith, b .0, c .before .before .before .before .before .before .before .pre .0), b .1)
 
 flow-at-node-flow-requires-2 : (t : ℕ) → flow-at-lts.Need-node-flow-requires-2 (R t) (flow-at-at t) flow-at.Post
-flow-at-node-flow-requires-2 t c κs = (
-  c .before .before .before .before .before .before .before .before .before .pre .1 .0 .ordered,
-  (c .before .before .before .before .before .before .before .before .before .pre .1 .1 .0, (c .before .before .before .before .before .own-levels .ensures .inside, c .before .flow-at .ensures .inside)),
-)
+flow-at-node-flow-requires-2 t c κs = node-asks (read t (c .before .before .before .before)) (c .before .flow-at .ensures .inside)
 
 flow-at-returns-2 : (t : ℕ) → flow-at-lts.Need-returns-2 (R t) (flow-at-at t) flow-at.Post
 flow-at-returns-2 t c =
-    node-at (c .before .before .before .before .before .before .before .before .before .before .pre .1 .0) (c .before .before .before .before .before .before .before .before .before .before .args .k) (c .before .before .before .before .before .before .before .part-at .result) (c .before .before .before .before .before .before .own-levels .result) (c .before .before .before .before .before .child-count .result) (read t (c .before .before .before .before .before)) _ _
-    (one-parts (c .before .before .before .before .before .before .before .before .before .before .pre .1 .0) (c .before .before .before .before .before .before .before .before .before .before .args .k) (c .before .before .before .before .before .before .before .part-at .result) (c .before .before .before .before .before .before .own-levels .result) (c .before .before .before .before .before .child-count .result) (read t (c .before .before .before .before .before)) (c .before .before .before .children-of .result .first) (c .before .before .before .children-of .ensures .0) (c .before .if2 .taken) _ (c .before .before .flow-at .ensures))
-    _ (c .node-flow2 .ensures)
+    let known = read t (c .before .before .before .before .before) in
+    node-at known (one-parts known (c .before .before .before .children-of .ensures .0) (c .before .if2 .taken) (c .before .before .flow-at .ensures)) (c .node-flow2 .ensures)
 
 flow-at-flow-at-requires-2 : (t : ℕ) → flow-at-lts.Need-flow-at-requires-2 (R t) (flow-at-at t) flow-at.Post
 flow-at-flow-at-requires-2 t c κs =
     let b =
-    second-before (c .before .before .before .before .before .before .before .before .before .pre .1 .0) (c .before .before .before .before .before .before .before .before .before .args .k) (c .before .before .before .before .before .before .part-at .result) (c .before .before .before .before .before .own-levels .result) (c .before .before .before .before .child-count .result) (read t (c .before .before .before .before)) (c .before .before .children-of .result .first) (c .before .before .children-of .ensures .0)
-    (c .before .before .children-of .result .second) (c .before .before .children-of .ensures .1) (c .before .before .before .if1 .left) (c .if2 .left) in
-    (omega (arith, b .0, c .before .before .before .before .before .before .before .before .before .pre .0), (c .before .before .before .before .before .before .before .before .before .pre .1 .0, (c .before .before .before .before .before .before .before .before .before .pre .1 .1 .0, (c .before .before .before .before .before .before .before .before .before .pre .1 .1 .1 .0, b .1))))
+    second-asks (read t (c .before .before .before .before)) (c .before .before .children-of .ensures .0) (c .before .before .children-of .ensures .1) (c .before .before .before .if1 .left) (c .if2 .left) in
+    (omega (arith, b .0, c .before .before .before .before .before .before .before .before .before .pre .0), b .1)
+
+-- the levels of both children index a table
+both-indices :
+    (t : ℕ) (c : flow-at-lts.After-flow-at2 (R t) (flow-at-at t) flow-at.Post) →
+    FlowWithin mostLevels (c .before .before .flow-at .result) × FlowWithin mostLevels (c .flow-at2 .result)
+both-indices t c =
+    let ordered = c .before .before .before .before .before .before .before .before .before .before .pre .1 .0 .ordered in
+    (flow-index ordered (c .before .before .flow-at .ensures .inside), flow-index ordered (c .flow-at2 .ensures .inside))
 
 flow-at-both-of-requires : (t : ℕ) → flow-at-lts.Need-both-of-requires (R t) (flow-at-at t) flow-at.Post
-flow-at-both-of-requires t c κs = (
-  indices (c .before .before .before .before .before .before .before .before .before .before .pre .1 .0 .ordered) (c .before .before .flow-at .result) (c .before .before .flow-at .ensures .inside),
-  indices (c .before .before .before .before .before .before .before .before .before .before .pre .1 .0 .ordered) (c .flow-at2 .result) (c .flow-at2 .ensures .inside),
-)
+flow-at-both-of-requires t c κs = both-indices t c
 
 flow-at-pair-need-requires : (t : ℕ) → flow-at-lts.Need-pair-need-requires (R t) (flow-at-at t) flow-at.Post
-flow-at-pair-need-requires t c κs = (
-  indices (c .before .before .before .before .before .before .before .before .before .before .before .pre .1 .0 .ordered) (c .before .before .before .flow-at .result) (c .before .before .before .flow-at .ensures .inside),
-  indices (c .before .before .before .before .before .before .before .before .before .before .before .pre .1 .0 .ordered) (c .before .flow-at2 .result) (c .before .flow-at2 .ensures .inside),
-)
+flow-at-pair-need-requires t c κs = both-indices t (c .before)
 
--- the children of a node with two, together
+-- two children together
 parts :
     (t : ℕ) (c : flow-at-lts.After-pair-need (R t) (flow-at-at t) flow-at.Post) →
-    PartsAt (c .before .before .before .before .before .before .before .before .before .before .before .before .args .l) (c .before .before .before .before .before .before .before .before .before .before .before .before .args .s .now) (c .before .before .before .before .before .before .before .before .before .before .before .before .args .k) (c .before .both-of .result) (c .pair-need .result)
+    let a = c .before .before .before .before .before .before .before .before .before .before .before .before .args in PartsAt (a .l) (a .s .now) (a .k) (c .before .both-of .result) (c .pair-need .result)
 parts t c =
-    two-parts (c .before .before .before .before .before .before .before .before .before .before .before .before .pre .1 .0) (c .before .before .before .before .before .before .before .before .before .before .before .before .args .k) (c .before .before .before .before .before .before .before .before .before .part-at .result) (c .before .before .before .before .before .before .before .before .own-levels .result) (c .before .before .before .before .before .before .before .child-count .result) (read t (c .before .before .before .before .before .before .before)) (c .before .before .before .before .before .children-of .result .first) (c .before .before .before .before .before .children-of .ensures .0)
-    (c .before .before .before .before .before .children-of .result .second) (c .before .before .before .before .before .children-of .ensures .1) (c .before .before .before .before .before .before .if1 .left) (c .before .before .before .if2 .left) _ _ (c .before .before .before .before .flow-at .ensures)
-    (c .before .before .flow-at2 .ensures) (c .before .before .before .before .before .before .before .before .before .before .before .before .args .join .now) (c .before .before .before .before .before .before .before .before .before .before .before .before .args .meet .now) (c .before .before .before .before .before .before .before .before .before .before .before .before .pre .1 .1 .0)
-    (c .before .before .before .before .before .before .before .before .before .before .before .before .pre .1 .1 .1 .0) _ (c .before .both-of .ensures) _ (c .pair-need .ensures)
+    two-parts (read t (c .before .before .before .before .before .before .before)) (c .before .before .before .before .before .children-of .ensures .0) (c .before .before .before .before .before .children-of .ensures .1) (c .before .before .before .before .before .before .if1 .left) (c .before .before .before .if2 .left)
+    (c .before .before .before .before .flow-at .ensures)
+    (c .before .before .flow-at2 .ensures)
+    (c .before .both-of .ensures)
+    (c .pair-need .ensures)
 
 flow-at-node-flow-requires-3 : (t : ℕ) → flow-at-lts.Need-node-flow-requires-3 (R t) (flow-at-at t) flow-at.Post
-flow-at-node-flow-requires-3 t c κs = (
-  c .before .before .before .before .before .before .before .before .before .before .before .before .pre .1 .0 .ordered,
-  (c .before .before .before .before .before .before .before .before .before .before .before .before .pre .1 .1 .0, (c .before .before .before .before .before .before .before .before .own-levels .ensures .inside, parts t c .inside)),
-)
+flow-at-node-flow-requires-3 t c κs = node-asks (read t (c .before .before .before .before .before .before .before)) (parts t c .inside)
 
 flow-at-returns-3 : (t : ℕ) → flow-at-lts.Need-returns-3 (R t) (flow-at-at t) flow-at.Post
-flow-at-returns-3 t c =
-    node-at (c .before .before .before .before .before .before .before .before .before .before .before .before .before .pre .1 .0) (c .before .before .before .before .before .before .before .before .before .before .before .before .before .args .k) (c .before .before .before .before .before .before .before .before .before .before .part-at .result) (c .before .before .before .before .before .before .before .before .before .own-levels .result) (c .before .before .before .before .before .before .before .before .child-count .result) (read t (c .before .before .before .before .before .before .before .before)) _ _ (parts t (c .before)) _ (c .node-flow3 .ensures)
+flow-at-returns-3 t c = node-at (read t (c .before .before .before .before .before .before .before .before)) (parts t (c .before)) (c .node-flow3 .ensures)
 
 pub +flow-at-spec : {M : Type 1} → statement M
 +flow-at-spec = close μ-flow-at λ t. flow-at-lts.spec (R t)
