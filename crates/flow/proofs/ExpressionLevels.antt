@@ -70,19 +70,25 @@ module _ (𝓛 : Lattice ℕ) (s : List ℕ) where
     binary-view (aBinary o k q u v) l m n = (v, ap (expLevel 𝓛 (namesOf s)) q)
     binary-view (aNegated k q u) l m n = absurd (n k)
 
--- expression e, whose part is p
-module _ {s : List ℕ} {c : Script} {l : Levels} (ready : Ready s c l) (e : ℕ) (h : e < c .expressions) (p : Part) (is : p ≡ partOf s e) where
+-- what is known where expression e has been read: its part
+pub record ReadExpression (s : List ℕ) (c : Script) (l : Levels) (e : ℕ) (p : Part) : Type 0 where
+  pub ready : Ready s c l
+  pub known : e < c .expressions
+  pub same : p ≡ partOf s e
+
+module _ {s : List ℕ} {c : Script} {l : Levels} {e : ℕ} {p : Part} (read : ReadExpression s c l e p) where
   view : ExpressionView s e
-  view = expression-view s (ready .checked) e (omega (arith, expressions-are (ready .laid)))
+  view =
+      expression-view s (read .ready .checked) e (omega (arith, read .known, expressions-are (read .ready .laid)))
 
   kind-is : partOf s e .kind ≡ p .kind
-  kind-is = ap (λ q. q .kind) (sym is)
+  kind-is = ap (λ q. q .kind) (sym (read .same))
 
   pub at-constant : p .kind ≡ 0 → LevelAt l s e (l .bottom)
   at-constant n =
       record {
-        same = bottom-is (ready .ordered) ∙ sym (constant-view (lattice l) s e view (kind-is ∙ n));
-        inside = bottom-inside (ready .ordered);
+        same = bottom-is (read .ready .ordered) ∙ sym (constant-view (lattice l) s e view (kind-is ∙ n));
+        inside = bottom-inside (read .ready .ordered);
       }
 
   module _ (n : p .kind ≡ 1) where
@@ -90,29 +96,29 @@ module _ {s : List ℕ} {c : Script} {l : Levels} (ready : Ready s c l) (e : ℕ
     register = register-view (lattice l) s e view (kind-is ∙ n)
 
     pub register-known : p .a < c .names
-    register-known = omega (arith, register .0, ap (λ q. q .a) is, names-are (ready .laid))
+    register-known = omega (arith, register .0, ap (λ q. q .a) (read .same), names-are (read .ready .laid))
 
-    pub at-register : (x : Name) → x ≡ nameOf s (p .a) → LevelAt l s e (x .level)
-    at-register x q =
-        let same : x ≡ nameOf s (partOf s e .a) = q ∙ ap (λ p. nameOf s (p .a)) is in
+    pub at-register : {x : Name} → x ≡ nameOf s (p .a) → LevelAt l s e (x .level)
+    at-register {x} q =
+        let same : x ≡ nameOf s (partOf s e .a) = q ∙ ap (λ p. nameOf s (p .a)) (read .same) in
         record {
           same = ap (λ x. x .level) same ∙ sym (register .1);
           inside =
-              subst (λ x. x .level < l .book .count) (sym same) (ready .levelled (partOf s e .a) (register .0));
+              subst (λ x. x .level < l .book .count) (sym same) (read .ready .levelled (partOf s e .a) (register .0));
         }
 
   module _ (m : p .kind ≡ 0 → ⊥) (n : p .kind ≡ 1 → ⊥) where
     pub first-operand : (p .a < e) × (p .a < c .expressions)
     first-operand =
         let u = operand-view (lattice l) s e view (λ k. m (sym kind-is ∙ k)) (λ k. n (sym kind-is ∙ k)) in
-        let same = ap (λ q. q .a) is in
-        (omega (arith, u .part .before, same), omega (arith, u .known, same, expressions-are (ready .laid)))
+        let same = ap (λ q. q .a) (read .same) in
+        (omega (arith, u .part .before, same), omega (arith, u .known, same, expressions-are (read .ready .laid)))
 
-  pub at-negated : p .kind ≡ 8 → (r : ℕ) → LevelAt l s (p .a) r → LevelAt l s e r
-  at-negated n r a =
+  pub at-negated : p .kind ≡ 8 → {r : ℕ} → LevelAt l s (p .a) r → LevelAt l s e r
+  at-negated n a =
       record {
         same =
-            a .same ∙ ap (λ q. levelOf (lattice l) s (q .a)) is ∙ sym (negated-view (lattice l) s e view (kind-is ∙ n));
+            a .same ∙ ap (λ q. levelOf (lattice l) s (q .a)) (read .same) ∙ sym (negated-view (lattice l) s e view (kind-is ∙ n));
         inside = a .inside;
       }
 
@@ -123,22 +129,22 @@ module _ {s : List ℕ} {c : Script} {l : Levels} (ready : Ready s c l) (e : ℕ
 
     pub second-operand : (p .b < e) × (p .b < c .expressions)
     second-operand =
-        let same = ap (λ q. q .b) is in (
+        let same = ap (λ q. q .b) (read .same) in (
           omega (arith, binary .0 .part .before, same),
-          omega (arith, binary .0 .known, same, expressions-are (ready .laid)),
+          omega (arith, binary .0 .known, same, expressions-are (read .ready .laid)),
         )
 
     pub at-binary :
-        (t : List (List ℕ)) → Joins l t → (i j r : ℕ) → LevelAt l s (p .a) i → LevelAt l s (p .b) j → r ≡ kept t i j →
+        (t : List (List ℕ)) → Joins l t → {i j r : ℕ} → LevelAt l s (p .a) i → LevelAt l s (p .b) j → r ≡ kept t i j →
         LevelAt l s e r
-    at-binary t keeps i j r a b q =
-        let is-join = q ∙ join-kept (ready .ordered) i j (a .inside) (b .inside) t keeps in
+    at-binary t keeps {i} {j} a b q =
+        let is-join = q ∙ join-kept (read .ready .ordered) i j (a .inside) (b .inside) t keeps in
         record {
           same =
               is-join
-              ∙ ap₂ (lattice l .join) (a .same ∙ ap (λ q. levelOf (lattice l) s (q .a)) is)
-              (b .same ∙ ap (λ q. levelOf (lattice l) s (q .b)) is)
+              ∙ ap₂ (lattice l .join) (a .same ∙ ap (λ q. levelOf (lattice l) s (q .a)) (read .same))
+              (b .same ∙ ap (λ q. levelOf (lattice l) s (q .b)) (read .same))
               ∙ sym (binary .1);
           inside =
-              subst (λ m. m < l .book .count) (sym is-join) (join-inside (ready .ordered) i j (a .inside) (b .inside));
+              subst (λ m. m < l .book .count) (sym is-join) (join-inside (read .ready .ordered) i j (a .inside) (b .inside));
         }
