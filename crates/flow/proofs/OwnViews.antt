@@ -51,7 +51,7 @@ module _ (𝓛 : Lattice ℕ) (s : List ℕ) (k : ℕ) where
   own-view (aParallel e q p r) = subst OwnedBy (sym e) (ap (ownOf 𝓛 (namesOf s)) q)
 
 -- a node whose part is p
-module _ {s : List ℕ} {c : Script} {l : Levels} (ready : Ready s c l) (p : Part) where
+module _ {s : List ℕ} {c : Script} {l : Levels} (ready : Ready s c l) {p : Part} (node-at : IsNode s p) where
   owned :
       (k : ℕ) → IsNodeAt s p k → (v b g : Bool) → hasValue (p .kind) ≡ v → hasCondition (p .kind) ≡ b →
       hasSignal (p .kind) ≡ g → Owned (lattice l) s k p v b g
@@ -63,64 +63,63 @@ module _ {s : List ℕ} {c : Script} {l : Levels} (ready : Ready s c l) (p : Par
       (sym (at .same))
       (own-view (lattice l) s k (node-view s (ready .checked) k (at .known))))))
 
-  module _ (at : IsNode s p) where
-    -- the level of name a
-    name-inside : (x : Name) → x ≡ nameOf s (p .a) → p .a < nameCount s → x .level < l .book .count
-    name-inside x e h = subst (λ x. x .level < l .book .count) (sym e) (ready .levelled (p .a) h)
+  -- the level of name a
+  name-inside : (x : Name) → x ≡ nameOf s (p .a) → p .a < nameCount s → x .level < l .book .count
+  name-inside x e h = subst (λ x. x .level < l .book .count) (sym e) (ready .levelled (p .a) h)
 
-    module _ (v : hasValue (p .kind) ≡ true) where
-      value : (k : ℕ) → IsNodeAt s p k → Owned (lattice l) s k p true (hasCondition (p .kind)) (hasSignal (p .kind))
-      value k at = owned k at true _ _ v refl refl
+  module _ (v : hasValue (p .kind) ≡ true) where
+    value : (k : ℕ) → IsNodeAt s p k → Owned (lattice l) s k p true (hasCondition (p .kind)) (hasSignal (p .kind))
+    value k at = owned k at true _ _ v refl refl
 
-      pub value-known : (p .a < c .names) × (p .b < c .expressions)
-      value-known =
-          let o = value (at .0) (at .1) in
-          (omega (arith, o .0, names-are (ready .laid)), omega (arith, o .1 .0, expressions-are (ready .laid)))
+    pub value-known : (p .a < c .names) × (p .b < c .expressions)
+    value-known =
+        let o = value (node-at .0) (node-at .1) in
+        (omega (arith, o .0, names-are (ready .laid)), omega (arith, o .1 .0, expressions-are (ready .laid)))
 
-      pub value-brings :
-          (d : ℕ) (x : Name) → LevelAt l s (p .b) d → x ≡ nameOf s (p .a) → OwnOf l s p (brings d (x .level))
-      value-brings d x a e =
+    pub value-brings :
+        {d : ℕ} {x : Name} → LevelAt l s (p .b) d → x ≡ nameOf s (p .a) → OwnOf l s p (brings d (x .level))
+    value-brings {d} {x} a e =
+        record {
+          same = λ k at. ap₂ brings (a .same) (ap (λ x. x .level) e) ∙ sym (value k at .1 .1);
+          inside = record { level = a .inside; name = name-inside x e (value (node-at .0) (node-at .1) .0) };
+        }
+
+  module _ (v : hasValue (p .kind) ≡ false) where
+    module _ (b : hasCondition (p .kind) ≡ true) where
+      condition : (k : ℕ) → IsNodeAt s p k → Owned (lattice l) s k p false true (hasSignal (p .kind))
+      condition k at = owned k at false true _ v b refl
+
+      pub condition-known : p .a < c .expressions
+      condition-known = omega (arith, condition (node-at .0) (node-at .1) .0, expressions-are (ready .laid))
+
+      pub condition-brings : {d : ℕ} → LevelAt l s (p .a) d → OwnOf l s p (brings d (l .bottom))
+      condition-brings a =
           record {
-            same = λ k at. ap₂ brings (a .same) (ap (λ x. x .level) e) ∙ sym (value k at .1 .1);
-            inside = record { level = a .inside; name = name-inside x e (value (at .0) (at .1) .0) };
+            same = λ k at. ap₂ brings (a .same) (bottom-is (ready .ordered)) ∙ sym (condition k at .1);
+            inside = record { level = a .inside; name = bottom-inside (ready .ordered) };
           }
 
-    module _ (v : hasValue (p .kind) ≡ false) where
-      module _ (b : hasCondition (p .kind) ≡ true) where
-        condition : (k : ℕ) → IsNodeAt s p k → Owned (lattice l) s k p false true (hasSignal (p .kind))
-        condition k at = owned k at false true _ v b refl
+    module _ (b : hasCondition (p .kind) ≡ false) where
+      module _ (g : hasSignal (p .kind) ≡ true) where
+        signal : (k : ℕ) → IsNodeAt s p k → Owned (lattice l) s k p false false true
+        signal k at = owned k at false false true v b g
 
-        pub condition-known : p .a < c .expressions
-        condition-known = omega (arith, condition (at .0) (at .1) .0, expressions-are (ready .laid))
+        pub signal-known : p .a < c .names
+        signal-known = omega (arith, signal (node-at .0) (node-at .1) .0, names-are (ready .laid))
 
-        pub condition-brings : (d : ℕ) → LevelAt l s (p .a) d → OwnOf l s p (brings d (l .bottom))
-        condition-brings d a =
+        pub signal-brings : {x : Name} → x ≡ nameOf s (p .a) → OwnOf l s p (brings (x .level) (x .level))
+        signal-brings {x} e =
+            let h = name-inside x e (signal (node-at .0) (node-at .1) .0) in
             record {
-              same = λ k at. ap₂ brings (a .same) (bottom-is (ready .ordered)) ∙ sym (condition k at .1);
-              inside = record { level = a .inside; name = bottom-inside (ready .ordered) };
-            }
-
-      module _ (b : hasCondition (p .kind) ≡ false) where
-        module _ (g : hasSignal (p .kind) ≡ true) where
-          signal : (k : ℕ) → IsNodeAt s p k → Owned (lattice l) s k p false false true
-          signal k at = owned k at false false true v b g
-
-          pub signal-known : p .a < c .names
-          signal-known = omega (arith, signal (at .0) (at .1) .0, names-are (ready .laid))
-
-          pub signal-brings : (x : Name) → x ≡ nameOf s (p .a) → OwnOf l s p (brings (x .level) (x .level))
-          signal-brings x e =
-              let h = name-inside x e (signal (at .0) (at .1) .0) in
-              record {
-                same = λ k at. ap (λ x. brings (x .level) (x .level)) e ∙ sym (signal k at .1);
-                inside = record { level = h; name = h };
-              }
-
-        pub nothing-brings : hasSignal (p .kind) ≡ false → OwnOf l s p (brings (l .bottom) (l .bottom))
-        nothing-brings g =
-            let h = bottom-inside (ready .ordered) in
-            record {
-              same =
-                  λ k at. ap (λ b. brings b b) (bottom-is (ready .ordered)) ∙ sym (owned k at false false false v b g);
+              same = λ k at. ap (λ x. brings (x .level) (x .level)) e ∙ sym (signal k at .1);
               inside = record { level = h; name = h };
             }
+
+      pub nothing-brings : hasSignal (p .kind) ≡ false → OwnOf l s p (brings (l .bottom) (l .bottom))
+      nothing-brings g =
+          let h = bottom-inside (ready .ordered) in
+          record {
+            same =
+                λ k at. ap (λ b. brings b b) (bottom-is (ready .ordered)) ∙ sym (owned k at false false false v b g);
+            inside = record { level = h; name = h };
+          }
