@@ -52,7 +52,9 @@ module _ {l : Levels} (o : Ordered l) where
     meet-inside =
         rw (as-level-own (l .book .count) i hi, as-level-own (l .book .count) j hj) (o .laws .meets .within i j hi hj)
 
-  module _ (kind : ℕ) (own : Own) (parts : Flow) (known : OwnWithin (l .book .count) own) (inside : FlowWithin (l .book .count) parts) where
+  module _
+      (kind : ℕ) (own : Own) (parts : Flow) (known : OwnWithin (l .book .count) own)
+      (inside : FlowWithin (l .book .count) parts) where
     pub write-inside : writeFrom kind own parts < l .book .count
     write-inside = by-cases (λ w. w < l .book .count) (hasWrite kind) (λ _. known .name) (λ _. inside .write)
 

@@ -45,7 +45,8 @@ module _ (𝓛 : Lattice ℕ) (s : List ℕ) (ok : Checked s) where
     second = secondChild (partOf s (node s k))
 
     first-need :
-        Children s k → 0 < childCount (partOf s (node s k) .kind) → needsAt k ≡ true → (first < k) × (needsAt first ≡ true)
+        Children s k → 0 < childCount (partOf s (node s k) .kind) → needsAt k ≡ true →
+        (first < k) × (needsAt first ≡ true)
     first-need (none n q) h e = absurd (omega arith)
     first-need (one n q a) h e =
         (a, and-left (needsAt first) true (sym (ap (needsOf 𝓛 (namesOf s)) q) ∙ children-need e))

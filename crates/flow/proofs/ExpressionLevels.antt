@@ -41,14 +41,17 @@ module _ (𝓛 : Lattice ℕ) (s : List ℕ) where
     constant-view (aNegated k q u) n = absurd (omega arith)
 
     register-view :
-        ExpressionView s e → partOf s e .kind ≡ 1 → (partOf s e .a < nameCount s) × (levelOf e ≡ nameOf s (partOf s e .a) .level)
+        ExpressionView s e → partOf s e .kind ≡ 1 →
+        (partOf s e .a < nameCount s) × (levelOf e ≡ nameOf s (partOf s e .a) .level)
     unfolding expLevel
     register-view (aConstant k q) n = absurd (omega arith)
     register-view (aRegister k q u) n = (u .known, ap (expLevel 𝓛 (namesOf s)) q)
     register-view (aBinary o k q u v) n = absurd (omega (arith, code-within o))
     register-view (aNegated k q u) n = absurd (omega arith)
 
-    operand-view : ExpressionView s e → (partOf s e .kind ≡ 0 → ⊥) → (partOf s e .kind ≡ 1 → ⊥) → UsesExpression s e (partOf s e .a)
+    operand-view :
+        ExpressionView s e → (partOf s e .kind ≡ 0 → ⊥) → (partOf s e .kind ≡ 1 → ⊥) →
+        UsesExpression s e (partOf s e .a)
     operand-view (aConstant k q) m n = absurd (m k)
     operand-view (aRegister k q u) m n = absurd (n k)
     operand-view (aBinary o k q u v) m n = u
@@ -118,14 +121,19 @@ module _ {s : List ℕ} {c : Script} {l : Levels} {e : ℕ} {p : Part} (read : R
   at-negated n a =
       record {
         same =
-            a .same ∙ ap (λ q. levelOf (lattice l) s (q .a)) (read .same) ∙ sym (negated-view (lattice l) s e view (kind-is ∙ n));
+            a .same ∙ ap (λ q. levelOf (lattice l) s (q .a)) (read .same)
+            ∙ sym (negated-view (lattice l) s e view (kind-is ∙ n));
         inside = a .inside;
       }
 
   module _ (l₀ : p .kind ≡ 0 → ⊥) (l₁ : p .kind ≡ 1 → ⊥) (l₈ : p .kind ≡ 8 → ⊥) where
-    binary : UsesExpression s e (partOf s e .b) × (levelOf (lattice l) s e ≡ lattice l .join (levelOf (lattice l) s (partOf s e .a)) (levelOf (lattice l) s (partOf s e .b)))
+    binary :
+        UsesExpression s e (partOf s e .b)
+        × (levelOf (lattice l) s e
+        ≡ lattice l .join (levelOf (lattice l) s (partOf s e .a)) (levelOf (lattice l) s (partOf s e .b)))
     binary =
-        binary-view (lattice l) s e view (λ k. l₀ (sym kind-is ∙ k)) (λ k. l₁ (sym kind-is ∙ k)) (λ k. l₈ (sym kind-is ∙ k))
+        binary-view (lattice l) s e view (λ k. l₀ (sym kind-is ∙ k)) (λ k. l₁ (sym kind-is ∙ k))
+        (λ k. l₈ (sym kind-is ∙ k))
 
     pub second-operand : (p .b < e) × (p .b < c .expressions)
     second-operand =
@@ -146,5 +154,6 @@ module _ {s : List ℕ} {c : Script} {l : Levels} {e : ℕ} {p : Part} (read : R
               (b .same ∙ ap (λ q. levelOf (lattice l) s (q .b)) (read .same))
               ∙ sym (binary .1);
           inside =
-              subst (λ m. m < l .book .count) (sym is-join) (join-inside (read .ready .ordered) i j (a .inside) (b .inside));
+              subst (λ m. m < l .book .count) (sym is-join)
+              (join-inside (read .ready .ordered) i j (a .inside) (b .inside));
         }

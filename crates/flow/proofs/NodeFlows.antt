@@ -69,7 +69,8 @@ module _ (l : Levels) (s : List ℕ) (k : ℕ) where
     passes e =
         smallest-same FailsBelow (nodeCount s) (FailsUnder (lattice l) s k) f (λ j u. (under-below j (u .0), u .1))
         (λ j u.
-        ⊎-elim (λ q. absurd (true≢false (sym e ∙ ap (needAt (lattice l) s) q ∙ u .1))) (λ b. (b, u .1)) (under-cases j (u .0)))
+        ⊎-elim (λ q. absurd (true≢false (sym e ∙ ap (needAt (lattice l) s) q ∙ u .1))) (λ b. (b, u .1))
+        (under-cases j (u .0)))
         w
 
     only : Smallest (λ j. k ≡ j) (nodeCount s) k
@@ -168,10 +169,16 @@ module _ {s : List ℕ} {c : Script} {l : Levels} (ready : Ready s c l) (k : ℕ
       PartsAt l s k f true
   parts-none (none n q) m f e =
       record {
-        write = ap (λ f. f .write) e ∙ top-is (ready .ordered) ∙ sym (ap (λ ps. together (lattice l) (namesOf s) ps .write) q);
-        test = ap (λ f. f .test) e ∙ bottom-is (ready .ordered) ∙ sym (ap (λ ps. together (lattice l) (namesOf s) ps .test) q);
+        write =
+            ap (λ f. f .write) e ∙ top-is (ready .ordered)
+            ∙ sym (ap (λ ps. together (lattice l) (namesOf s) ps .write) q);
+        test =
+            ap (λ f. f .test) e ∙ bottom-is (ready .ordered)
+            ∙ sym (ap (λ ps. together (lattice l) (namesOf s) ps .test) q);
         need = sym (ap (pairHolds (lattice l) (namesOf s) (partOf s (node s k) .kind)) q);
-        inside = subst (FlowWithin (l .book .count)) (sym e) (record { write = top-inside (ready .ordered); test = bottom-inside (ready .ordered) });
+        inside =
+            subst (FlowWithin (l .book .count)) (sym e)
+            (record { write = top-inside (ready .ordered); test = bottom-inside (ready .ordered) });
         failing =
             subst (Smallest (FailsBelow l s k) (nodeCount s)) (sym (ap (λ f. f .failing) e ∙ nodes-are (ready .laid)))
             (smallest-none (FailsBelow l s k) (nodeCount s)
@@ -266,7 +273,8 @@ module _ {s : List ℕ} {c : Script} {l : Levels} (ready : Ready s c l) (k : ℕ
 
 -- what is known where node k has been read: its part, what it brings itself, and how many children it has
 pub record Read
-    (s : List ℕ) (c : Script) (l : Levels) (join meet : List (List ℕ)) (k : ℕ) (p : Part) (own : Own) (m : ℕ) : Type 0 where
+    (s : List ℕ) (c : Script) (l : Levels) (join meet : List (List ℕ)) (k : ℕ) (p : Part) (own : Own)
+    (m : ℕ) : Type 0 where
   pub ready : Ready s c l
   pub joins : Joins l join
   pub meets : Meets l meet
@@ -344,12 +352,15 @@ module _
           (q ∙ ap (λ p. pairNeed (atOrBelow (l .book .rows)) (p .kind) f g) (read .at .same))
 
   -- what `node_flow` asks
-  pub node-asks : {parts : Flow} → FlowWithin (l .book .count) parts → Ordered l × (Joins l join × (OwnWithin (l .book .count) own × FlowWithin (l .book .count) parts))
+  pub node-asks :
+      {parts : Flow} → FlowWithin (l .book .count) parts →
+      Ordered l × (Joins l join × (OwnWithin (l .book .count) own × FlowWithin (l .book .count) parts))
   node-asks inside = (read .ready .ordered, (read .joins, (read .brings .inside, inside)))
 
   pub node-at :
       {parts : Flow} {pair : Bool} → PartsAt l s k parts pair → {r : Flow} →
       r ≡ flowFrom (lattice l .join) (lattice l .leq) k (p .kind) own parts pair → FlowAt l s k r
   node-at {parts} {pair} at {r} e =
-      flow-at (read .ready) k (read .at .known) own parts pair (read .brings .same k (read .at)) (read .brings .inside) at r
+      flow-at (read .ready) k (read .at .known) own parts pair (read .brings .same k (read .at)) (read .brings .inside) at
+      r
       (e ∙ ap (λ p. flowFrom (lattice l .join) (lattice l .leq) k (p .kind) own parts pair) (read .at .same))

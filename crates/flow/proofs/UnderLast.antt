@@ -39,8 +39,10 @@ module _ (s : List ℕ) (ok : Checked s) (k : ℕ) (h : k < nodeCount s) where
   by-fields n e a b c f l r =
       let v : ℕ = valueOf s (node s k) f in
       ⊎-elim
-      (λ w. inFirst (omega (arith, w .0, ap childCount e)) (subst (λ j. Under s j v) (sym (w .1) ∙ first-is s k n e) itself))
-      (λ w. inSecond (omega (arith, w .0, ap childCount e)) (subst (λ j. Under s j v) (sym (w .1) ∙ second-is s k n e) itself))
+      (λ w.
+      inFirst (omega (arith, w .0, ap childCount e)) (subst (λ j. Under s j v) (sym (w .1) ∙ first-is s k n e) itself))
+      (λ w.
+      inSecond (omega (arith, w .0, ap childCount e)) (subst (λ j. Under s j v) (sym (w .1) ∙ second-is s k n e) itself))
       (each (FieldIs n) fieldCount (((tt, a), b), c) f l (ap (λ r. eqb r child) (sym (role s ok k h n e f) ∙ r)))
 
   never : {M : Type 0} → false ≡ true → M
@@ -103,7 +105,8 @@ module _ (s : List ℕ) (ok : Checked s) where
       let at : node s k ≡ q = omega arith in
       let c =
       is-child (node s k) f j (omega (arith, r .1)) (omega arith) (omega arith)
-      (ap (λ q. usedBy (expressionCount s) (fieldOf s q f)) at ∙ sym (used-of s q f (omega arith)) ∙ ap (used s) same ∙ r .2) in
+      (ap (λ q. usedBy (expressionCount s) (fieldOf s q f)) at
+      ∙ sym (used-of s q f (omega arith)) ∙ ap (used s) same ∙ r .2) in
       let known : k < nodeCount s = omega (arith, r .1) in (
         k,
         omega (arith, before),

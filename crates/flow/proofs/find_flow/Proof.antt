@@ -33,7 +33,8 @@ bottom-of-requires c κs = search needs
 found :
     (c : tie.After-bottom-of) →
     let b = c .before .before .before .args .b in
-    _≡_ {A = Levels} (record { book = b; top = c .before .top-of .result; bottom = c .bottom-of .result }) (levelsOf b)
+    _≡_ {A = Levels} (record { book = b; top = c .before .top-of .result; bottom = c .bottom-of .result })
+    (levelsOf b)
 found c =
     ap₂ (λ t m. record { book = c .before .before .before .args .b; top = t; bottom = m })
     (c .before .top-of .ensures)
@@ -61,7 +62,8 @@ returns c =
     flow-of (levelsOf (start .args .b)) s (c .flow-at .result) (start .pre .0 .checked)
     (subst (λ k. FlowAt (levelsOf (start .args .b)) s k (c .flow-at .result))
     (ap (λ n. n - 1) (nodes-are (start .pre .0 .laid)))
-    (subst (λ l. FlowAt l s (start .args .c .nodes - 1) (c .flow-at .result)) (found (c .before .before)) (c .flow-at .ensures)))
+    (subst (λ l. FlowAt l s (start .args .c .nodes - 1) (c .flow-at .result)) (found (c .before .before))
+    (c .flow-at .ensures)))
 
 pub find-flow-spec : {M : Type 1} → statement M
 find-flow-spec = tie.close (tie.spec top-of-requires bottom-of-requires sub-flow-at flow-at-requires returns)

@@ -24,7 +24,16 @@ level-of-below t =
     and 2 level-of-kinds.ps (falls 2 level-of-kinds.ps _<_ μ-level-of t) level-of.Pre
 
 abbrev R : ℕ → level-of-lts.Claims
-R t = (part-at-reads.Asked, part-at-reads.Learnt, name-at-reads.Asked, name-at-reads.Learnt, level-of-below t, level-of.Post, level-at-reads.Asked, level-at-reads.Learnt)
+R t = (
+  part-at-reads.Asked,
+  part-at-reads.Learnt,
+  name-at-reads.Asked,
+  name-at-reads.Learnt,
+  level-of-below t,
+  level-of.Post,
+  level-at-reads.Asked,
+  level-at-reads.Learnt,
+)
 
 read :
     (t : ℕ) (c : level-of-lts.After-part-at (R t) (level-of-at t) level-of.Post) →
@@ -40,35 +49,47 @@ level-of-returns : (t : ℕ) → level-of-lts.Need-returns (R t) (level-of-at t)
 level-of-returns t c = at-constant (read t (c .before .before)) (c .if1 .taken)
 
 level-of-name-at-requires : (t : ℕ) → level-of-lts.Need-name-at-requires (R t) (level-of-at t) level-of.Post
-level-of-name-at-requires t c κs = (c .before .before .before .before .before .before .pre .1 .0 .laid, register-known (read t (c .before .before .before .before)) (c .if2 .taken))
+level-of-name-at-requires t c κs =
+    let known = read t (c .before .before .before .before) in
+    (known .ready .laid, register-known known (c .if2 .taken))
 
 level-of-returns-2 : (t : ℕ) → level-of-lts.Need-returns-2 (R t) (level-of-at t) level-of.Post
-level-of-returns-2 t c = at-register (read t (c .before .before .before .before .before)) (c .before .if2 .taken) (c .name-at .ensures)
+level-of-returns-2 t c =
+    at-register (read t (c .before .before .before .before .before)) (c .before .if2 .taken) (c .name-at .ensures)
 
 level-of-level-of-requires : (t : ℕ) → level-of-lts.Need-level-of-requires (R t) (level-of-at t) level-of.Post
 level-of-level-of-requires t c κs =
     let start = c .before .before .before .before .before .before in
-    let h = first-operand (read t (c .before .before .before .before)) (c .before .before .if1 .left) (c .if2 .left) in
+    let h =
+    first-operand (read t (c .before .before .before .before)) (c .before .before .if1 .left) (c .if2 .left) in
     (omega (arith, h .0, start .pre .0), (start .pre .1 .0, (start .pre .1 .1 .0, h .1)))
 
 level-of-returns-3 : (t : ℕ) → level-of-lts.Need-returns-3 (R t) (level-of-at t) level-of.Post
-level-of-returns-3 t c = at-negated (read t (c .before .before .before .before .before .before .before)) (c .if3 .taken) (c .before .before .level-of .ensures)
+level-of-returns-3 t c =
+    at-negated (read t (c .before .before .before .before .before .before .before)) (c .if3 .taken)
+    (c .before .before .level-of .ensures)
 
 level-of-level-of-requires-2 : (t : ℕ) → level-of-lts.Need-level-of-requires-2 (R t) (level-of-at t) level-of.Post
 level-of-level-of-requires-2 t c κs =
     let start = c .before .before .before .before .before .before .before .before .before in
-    let h = second-operand (read t (c .before .before .before .before .before .before .before)) (c .before .before .before .before .before .if1 .left) (c .before .before .before .if2 .left) (c .if3 .left) in
+    let h =
+    second-operand (read t (c .before .before .before .before .before .before .before))
+    (c .before .before .before .before .before .if1 .left) (c .before .before .before .if2 .left) (c .if3 .left) in
     (omega (arith, h .0, start .pre .0), (start .pre .1 .0, (start .pre .1 .1 .0, h .1)))
 
 level-of-level-at-requires : (t : ℕ) → level-of-lts.Need-level-at-requires (R t) (level-of-at t) level-of.Post
 level-of-level-at-requires t c κs =
-    let few = c .before .before .before .before .before .before .before .before .before .before .pre .1 .0 .ordered .few in
+    let few =
+    c .before .before .before .before .before .before .before .before .before .before .pre .1 .0 .ordered .few in
     (omega (arith, c .before .before .before .level-of .ensures .inside), omega (arith, c .level-of2 .ensures .inside))
 
 level-of-returns-4 : (t : ℕ) → level-of-lts.Need-returns-4 (R t) (level-of-at t) level-of.Post
 level-of-returns-4 t c =
     let start = c .before .before .before .before .before .before .before .before .before .before .before in
-    at-binary (read t (c .before .before .before .before .before .before .before .before .before)) (c .before .before .before .before .before .before .before .if1 .left) (c .before .before .before .before .before .if2 .left) (c .before .before .if3 .left) (start .args .join .now) (start .pre .1 .1 .0)
+    at-binary (read t (c .before .before .before .before .before .before .before .before .before))
+    (c .before .before .before .before .before .before .before .if1 .left)
+    (c .before .before .before .before .before .if2 .left) (c .before .before .if3 .left) (start .args .join .now)
+    (start .pre .1 .1 .0)
     (c .before .before .before .before .level-of .ensures)
     (c .before .level-of2 .ensures)
     (c .level-at .ensures)

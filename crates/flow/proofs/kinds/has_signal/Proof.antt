@@ -15,7 +15,8 @@ returns : tie.Need-returns
 returns c = c .if1 .taken ∙ sym (or-first _ _ (sym (c .before .is-either .ensures) ∙ c .if1 .taken))
 
 returns-2 : tie.Need-returns-2
-returns-2 c = c .is-either2 .ensures ∙ sym (or-second _ _ (sym (c .before .before .is-either .ensures) ∙ c .before .if1 .left))
+returns-2 c =
+    c .is-either2 .ensures ∙ sym (or-second _ _ (sym (c .before .before .is-either .ensures) ∙ c .before .if1 .left))
 
 pub has-signal-spec : {M : Type 1} → statement M
 has-signal-spec = tie.close (tie.spec is-either-requires is-either-requires-2 returns returns-2)

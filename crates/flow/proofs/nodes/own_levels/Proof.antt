@@ -28,7 +28,8 @@ is-either-requires c κs = search needs
 
 name-at-requires : tie.Need-name-at-requires
 name-at-requires c κs =
-    let start = c .before .before .before in (start .pre .0 .laid, value-known (start .pre .0) (start .pre .1 .1) (value c) .0)
+    let start = c .before .before .before in
+    (start .pre .0 .laid, value-known (start .pre .0) (start .pre .1 .1) (value c) .0)
 
 level-of-requires : tie.Need-level-of-requires
 level-of-requires c κs =
@@ -38,7 +39,8 @@ level-of-requires c κs =
 returns : tie.Need-returns
 returns c =
     let start = c .before .before .before .before .before in
-    value-brings (start .pre .0) (start .pre .1 .1) (value (c .before .before)) (c .level-of .ensures) (c .before .name-at .ensures)
+    value-brings (start .pre .0) (start .pre .1 .1) (value (c .before .before)) (c .level-of .ensures)
+    (c .before .name-at .ensures)
 
 is-either-requires-2 : tie.Need-is-either-requires-2
 is-either-requires-2 c κs = search needs
@@ -53,7 +55,8 @@ level-of-requires-2 c κs =
 returns-2 : tie.Need-returns-2
 returns-2 c =
     let start = c .before .before .before .before .before .before in
-    condition-brings (start .pre .0) (start .pre .1 .1) (no-value (c .before .before .before)) (condition (c .before)) (c .level-of2 .ensures)
+    condition-brings (start .pre .0) (start .pre .1 .1) (no-value (c .before .before .before)) (condition (c .before))
+    (c .level-of2 .ensures)
 
 has-signal-requires : tie.Need-has-signal-requires
 has-signal-requires c κs = search needs
@@ -62,19 +65,22 @@ name-at-requires-2 : tie.Need-name-at-requires-2
 name-at-requires-2 c κs =
     let start = c .before .before .before .before .before .before .before in (
       start .pre .0 .laid,
-      signal-known (start .pre .0) (start .pre .1 .1) (no-value (c .before .before .before .before)) (no-condition (c .before .before)) (signal c),
+      signal-known (start .pre .0) (start .pre .1 .1) (no-value (c .before .before .before .before))
+          (no-condition (c .before .before)) (signal c),
     )
 
 returns-3 : tie.Need-returns-3
 returns-3 c =
     let start = c .before .before .before .before .before .before .before .before in
-    signal-brings (start .pre .0) (start .pre .1 .1) (no-value (c .before .before .before .before .before)) (no-condition (c .before .before .before)) (signal (c .before))
+    signal-brings (start .pre .0) (start .pre .1 .1) (no-value (c .before .before .before .before .before))
+    (no-condition (c .before .before .before)) (signal (c .before))
     (c .name-at2 .ensures)
 
 returns-4 : tie.Need-returns-4
 returns-4 c =
     let start = c .before .before .before .before .before .before .before in
-    nothing-brings (start .pre .0) (start .pre .1 .1) (no-value (c .before .before .before .before)) (no-condition (c .before .before))
+    nothing-brings (start .pre .0) (start .pre .1 .1) (no-value (c .before .before .before .before))
+    (no-condition (c .before .before))
     (sym (c .before .has-signal .ensures) ∙ c .if3 .left)
 
 pub own-levels-spec : {M : Type 1} → statement M

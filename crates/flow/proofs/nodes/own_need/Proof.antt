@@ -19,7 +19,11 @@ at-or-below-requires-2 c κs = search needs
 
 returns-2 : tie.Need-returns-2
 returns-2 c =
-    simp (sym (c .before .before .before .is-either .ensures) ∙ c .before .before .if1 .left, eq-eqb _ _ (c .before .if2 .taken)) (c .at-or-below2 .ensures)
+    simp (
+      sym (c .before .before .before .is-either .ensures) ∙ c .before .before .if1 .left,
+      eq-eqb _ _ (c .before .if2 .taken),
+    )
+    (c .at-or-below2 .ensures)
 
 has-test-requires : tie.Need-has-test-requires
 has-test-requires c κs = search needs

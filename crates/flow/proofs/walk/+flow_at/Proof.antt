@@ -36,7 +36,24 @@ abbrev flow-at-below : ℕ → In 3 flow-at-kinds.ps
 flow-at-below t = and 3 flow-at-kinds.ps (falls 3 flow-at-kinds.ps _<_ μ-flow-at t) flow-at.Pre
 
 abbrev R : ℕ → flow-at-lts.Claims
-R t = (part-at-reads.Asked, part-at-reads.Learnt, own-levels-reads.Asked, own-levels-reads.Learnt, child-count-reads.Asked, child-count-reads.Learnt, node-flow-reads.Asked, node-flow-reads.Learnt, children-of-reads.Asked, children-of-reads.Learnt, flow-at-below t, flow-at.Post, both-of-reads.Asked, both-of-reads.Learnt, pair-need-reads.Asked, pair-need-reads.Learnt)
+R t = (
+  part-at-reads.Asked,
+  part-at-reads.Learnt,
+  own-levels-reads.Asked,
+  own-levels-reads.Learnt,
+  child-count-reads.Asked,
+  child-count-reads.Learnt,
+  node-flow-reads.Asked,
+  node-flow-reads.Learnt,
+  children-of-reads.Asked,
+  children-of-reads.Learnt,
+  flow-at-below t,
+  flow-at.Post,
+  both-of-reads.Asked,
+  both-of-reads.Learnt,
+  pair-need-reads.Asked,
+  pair-need-reads.Learnt,
+)
 
 -- the part that was read is that of node k
 at :
@@ -54,7 +71,8 @@ at t c =
 read :
     (t : ℕ) (c : flow-at-lts.After-child-count (R t) (flow-at-at t) flow-at.Post) →
     let a = c .before .before .before .before .before .args in
-    Read (a .s .now) (a .c) (a .l) (a .join .now) (a .meet .now) (a .k) (c .before .before .part-at .result) (c .before .own-levels .result)
+    Read (a .s .now) (a .c) (a .l) (a .join .now) (a .meet .now) (a .k) (c .before .before .part-at .result)
+    (c .before .own-levels .result)
     (c .child-count .result)
 read t c =
     let start = c .before .before .before .before .before in
@@ -94,7 +112,8 @@ flow-at-node-flow-requires t c κs =
 
 flow-at-returns : (t : ℕ) → flow-at-lts.Need-returns (R t) (flow-at-at t) flow-at.Post
 flow-at-returns t c =
-    let known = read t (c .before .before) in node-at known (none-parts known (c .before .if1 .taken)) (c .node-flow .ensures)
+    let known = read t (c .before .before) in
+    node-at known (none-parts known (c .before .if1 .taken)) (c .node-flow .ensures)
 
 flow-at-children-of-requires : (t : ℕ) → flow-at-lts.Need-children-of-requires (R t) (flow-at-at t) flow-at.Post
 flow-at-children-of-requires t c κs = search needs
@@ -105,17 +124,22 @@ flow-at-flow-at-requires t c κs =
     (omega (arith, b .0, c .before .before .before .before .before .before .before .pre .0), b .1)
 
 flow-at-node-flow-requires-2 : (t : ℕ) → flow-at-lts.Need-node-flow-requires-2 (R t) (flow-at-at t) flow-at.Post
-flow-at-node-flow-requires-2 t c κs = node-asks (read t (c .before .before .before .before)) (c .before .flow-at .ensures .inside)
+flow-at-node-flow-requires-2 t c κs =
+    node-asks (read t (c .before .before .before .before)) (c .before .flow-at .ensures .inside)
 
 flow-at-returns-2 : (t : ℕ) → flow-at-lts.Need-returns-2 (R t) (flow-at-at t) flow-at.Post
 flow-at-returns-2 t c =
     let known = read t (c .before .before .before .before .before) in
-    node-at known (one-parts known (c .before .before .before .children-of .ensures .0) (c .before .if2 .taken) (c .before .before .flow-at .ensures)) (c .node-flow2 .ensures)
+    node-at known
+    (one-parts known (c .before .before .before .children-of .ensures .0) (c .before .if2 .taken)
+    (c .before .before .flow-at .ensures))
+    (c .node-flow2 .ensures)
 
 flow-at-flow-at-requires-2 : (t : ℕ) → flow-at-lts.Need-flow-at-requires-2 (R t) (flow-at-at t) flow-at.Post
 flow-at-flow-at-requires-2 t c κs =
     let b =
-    second-asks (read t (c .before .before .before .before)) (c .before .before .children-of .ensures .0) (c .before .before .children-of .ensures .1) (c .before .before .before .if1 .left) (c .if2 .left) in
+    second-asks (read t (c .before .before .before .before)) (c .before .before .children-of .ensures .0)
+    (c .before .before .children-of .ensures .1) (c .before .before .before .if1 .left) (c .if2 .left) in
     (omega (arith, b .0, c .before .before .before .before .before .before .before .before .before .pre .0), b .1)
 
 -- the levels of both children index a table
@@ -123,7 +147,8 @@ both-indices :
     (t : ℕ) (c : flow-at-lts.After-flow-at2 (R t) (flow-at-at t) flow-at.Post) →
     FlowWithin mostLevels (c .before .before .flow-at .result) × FlowWithin mostLevels (c .flow-at2 .result)
 both-indices t c =
-    let ordered = c .before .before .before .before .before .before .before .before .before .before .pre .1 .0 .ordered in
+    let ordered =
+    c .before .before .before .before .before .before .before .before .before .before .pre .1 .0 .ordered in
     (flow-index ordered (c .before .before .flow-at .ensures .inside), flow-index ordered (c .flow-at2 .ensures .inside))
 
 flow-at-both-of-requires : (t : ℕ) → flow-at-lts.Need-both-of-requires (R t) (flow-at-at t) flow-at.Post
@@ -135,19 +160,26 @@ flow-at-pair-need-requires t c κs = both-indices t (c .before)
 -- two children together
 parts :
     (t : ℕ) (c : flow-at-lts.After-pair-need (R t) (flow-at-at t) flow-at.Post) →
-    let a = c .before .before .before .before .before .before .before .before .before .before .before .before .args in PartsAt (a .l) (a .s .now) (a .k) (c .before .both-of .result) (c .pair-need .result)
+    let a = c .before .before .before .before .before .before .before .before .before .before .before .before .args in
+    PartsAt (a .l) (a .s .now) (a .k) (c .before .both-of .result) (c .pair-need .result)
 parts t c =
-    two-parts (read t (c .before .before .before .before .before .before .before)) (c .before .before .before .before .before .children-of .ensures .0) (c .before .before .before .before .before .children-of .ensures .1) (c .before .before .before .before .before .before .if1 .left) (c .before .before .before .if2 .left)
+    two-parts (read t (c .before .before .before .before .before .before .before))
+    (c .before .before .before .before .before .children-of .ensures .0)
+    (c .before .before .before .before .before .children-of .ensures .1)
+    (c .before .before .before .before .before .before .if1 .left) (c .before .before .before .if2 .left)
     (c .before .before .before .before .flow-at .ensures)
     (c .before .before .flow-at2 .ensures)
     (c .before .both-of .ensures)
     (c .pair-need .ensures)
 
 flow-at-node-flow-requires-3 : (t : ℕ) → flow-at-lts.Need-node-flow-requires-3 (R t) (flow-at-at t) flow-at.Post
-flow-at-node-flow-requires-3 t c κs = node-asks (read t (c .before .before .before .before .before .before .before)) (parts t c .inside)
+flow-at-node-flow-requires-3 t c κs =
+    node-asks (read t (c .before .before .before .before .before .before .before)) (parts t c .inside)
 
 flow-at-returns-3 : (t : ℕ) → flow-at-lts.Need-returns-3 (R t) (flow-at-at t) flow-at.Post
-flow-at-returns-3 t c = node-at (read t (c .before .before .before .before .before .before .before .before)) (parts t (c .before)) (c .node-flow3 .ensures)
+flow-at-returns-3 t c =
+    node-at (read t (c .before .before .before .before .before .before .before .before)) (parts t (c .before))
+    (c .node-flow3 .ensures)
 
 pub +flow-at-spec : {M : Type 1} → statement M
 +flow-at-spec = close μ-flow-at λ t. flow-at-lts.spec (R t)
