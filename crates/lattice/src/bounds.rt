@@ -5,8 +5,6 @@ use crate::book::Book;
 use crate::book::PairTable;
 use crate::book::at_or_below;
 ghost use mathlib.Core.Path.{_≡_};
-ghost use mathlib.Core.Bool.{cond};
-ghost use lib.Dec.{leb};
 ghost use Prim.Native.Nat.{_<_, _≤_};
 ghost use Rattle.prelude.specs.Search.{any, all};
 ghost use Rattle.lattice.specs.Order.{missed, isLeastUpper, top};
@@ -94,16 +92,6 @@ pub fn sweep(b: Book, dual: bool, t: &mut PairTable) -> usize
         i += 1;
     }
     place
-}
-
-// The lesser of two places is the first: by i, then by j.
-pub fn lesser(a: usize, b: usize) -> usize
-    ensures { λ r. ⌜ r ≡ cond (leb a b) a b ⌝ }
-{
-    if a <= b {
-        return a;
-    }
-    b
 }
 
 // Every level is at or below t.

@@ -66,7 +66,8 @@ pub fn load(s: &[u8], join: &mut PairTable, meet: &mut PairTable) -> Loaded
     }
     let upper = bounds::sweep(b, false, join);
     let lower = bounds::sweep(b, true, meet);
-    let place = bounds::lesser(upper, lower);
+    // The lesser of two places is the first: by i, then by j.
+    let place = prelude::lesser(upper, lower);
     if place < Book::PLACES {
         return refused(3, place);
     }

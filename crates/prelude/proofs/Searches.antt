@@ -8,7 +8,7 @@ use native.Mathlib.Decide.{decLt}
 use lib.Dec.{ltb, leb}
 use borrow.Author.Tests.{lt-ltb, le-ltb, ltb-true, ltb-false, leb-true, leb-false, not-true, not-false}
 use Rattle.prelude.proofs.Bools.{or-swap, by-cases}
-use Rattle.prelude.specs.Search.{firstFrom, first, any, all}
+use Rattle.prelude.specs.Search.{firstFrom, first, any, all, lesser}
 
 -- every number below n fails the test
 abbrev pub NoneBelow : (ℕ → Bool) → ℕ → Type 0
@@ -160,7 +160,7 @@ first-or-right f g n h =
     first-same (λ k. f k || g k) (λ k. g k || f k) n (λ k l. or-swap (f k) (g k)) ∙ first-or-left g f n h
 
 pub first-or :
-    (f g : ℕ → Bool) (n : ℕ) → first (λ k. f k || g k) n ≡ cond (leb (first f n) (first g n)) (first f n) (first g n)
+    (f g : ℕ → Bool) (n : ℕ) → first (λ k. f k || g k) n ≡ lesser (first f n) (first g n)
 first-or f g n =
     by-cases
     (λ k. first (λ k. f k || g k) n ≡ k)

@@ -2,7 +2,7 @@
 -- 01 says 'smallest', 'first', 'some' and 'every' of levels, names, expressions and nodes: always by these.
 use mathlib.Core.Bool.{Bool, cond, not}
 use Prim.Native.Nat.{ℕ, zero, suc}
-use lib.Dec.{ltb}
+use lib.Dec.{ltb, leb}
 
 -- the first of i, i + 1, .., i + m - 1 at which the test holds, or i + m
 unfoldable pub firstFrom : (ℕ → Bool) → ℕ → ℕ → ℕ
@@ -25,3 +25,7 @@ all f n = not (any (λ k. not (f k)) n)
 unfoldable pub count : (ℕ → Bool) → ℕ → ℕ
 count f zero = 0
 count f (suc n) = cond (f n) (suc (count f n)) (count f n)
+
+-- the lesser of two numbers
+abbrev pub lesser : ℕ → ℕ → ℕ
+lesser m n = cond (leb m n) m n

@@ -1,6 +1,7 @@
 // What every layer shares: the form of a refusal, and numbers as the files write them.
 ghost use mathlib.Core.Path.{_≡_};
 ghost use Rattle.prelude.specs.Numbers.{word};
+ghost use Rattle.prelude.specs.Search.{lesser};
 
 // A refusal: its number in 01's table and its place. Number 0: not refused.
 pub struct Refusal {
@@ -20,4 +21,13 @@ pub fn wide(x: u8) -> usize
     ensures { λ r. ⌜ r ≡ x ⌝ }
 {
     x as usize
+}
+
+pub fn lesser(a: usize, b: usize) -> usize
+    ensures { λ r. ⌜ r ≡ lesser a b ⌝ }
+{
+    if a <= b {
+        return a;
+    }
+    b
 }

@@ -1,8 +1,8 @@
 -- `lesser`: by the test.
 use mathlib.Core.Path.{sym}
 use borrow.Author.Tests.{le-leb, lt-leb}
-use Rattle.lattice.proofs.bounds.lesser.Statement.{statement}
-use Rattle.lattice.proofs.bounds.lesser.Tie as tie
+use Rattle.prelude.proofs.lesser.Statement.{statement}
+use Rattle.prelude.proofs.lesser.Tie as tie
 
 returns : tie.Need-returns
 returns c = sym (simp (le-leb _ _ (c .if1 .taken)))

@@ -1,0 +1,11 @@
+-- Laws that the proofs of several functions use, and the theorems of the crate.
+pub mod BookLevels
+pub mod ExpressionLevels
+pub mod OwnViews
+pub mod ByKind
+pub mod Least
+pub mod Shapes
+pub mod NodeFlows
+pub mod UnderLast
+pub mod Everywhere
+pub mod Theorems
