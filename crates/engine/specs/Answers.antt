@@ -1,0 +1,75 @@
+-- 01, 'Calls': what the two calls answer, and what run leaves in the values and the log, for every input.
+use mathlib.Core.Bool.{cond}
+use mathlib.Core.List.{List, _++_}
+use Prim.Native.Nat.{ℕ, _*_, _/_}
+use lib.IntN.{ℤ}
+use lib.ListN.{length, drop}
+use Rattle.prelude.specs.declared.Refusal.{Refusal}
+use Rattle.prelude.specs.Refusals.{passes}
+use Rattle.lattice.specs.Lattice.{bookLattice}
+use Rattle.language.specs.Levels.{writeLevel, testLevel}
+use Rattle.language.specs.Calls.{Run, starts, readable, run}
+use Rattle.script.specs.Tree.{namesOf, tree}
+use Rattle.runner.specs.Outcome.{words}
+use Rattle.runner.specs.Contracts.{endingNumber}
+use Rattle.engine.specs.declared.Verdict.{Verdict}
+use Rattle.engine.specs.declared.Report.{Report}
+use Rattle.engine.specs.Refusals.{checkRefusal, runRefusal}
+
+-- 'Check returns number, place, W, T.' 'A refusal's other returned numbers are 0; 0 means not refused.'
+abbrev pub verdictBy : Refusal → ℕ → ℕ → Verdict
+verdictBy r w t = record { number = r .number; place = r .place; write = w; test = t }
+
+unfoldable pub verdict : List ℕ → List ℕ → Verdict
+verdict b s =
+    cond
+    (passes (checkRefusal b s))
+    (verdictBy
+    (checkRefusal b s)
+    (writeLevel (bookLattice b) (namesOf s) (tree s))
+    (testLevel (bookLattice b) (namesOf s) (tree s)))
+    (verdictBy (checkRefusal b s) 0 0)
+
+-- The run of a script under a book, for a reader: its step limit, and a log that has room for a line in each four words.
+abbrev pub runOf : List ℕ → List ℕ → ℕ → List ℤ → ℕ → List ℕ → Run
+runOf b s reader values limit log =
+    run (namesOf s) (readable (bookLattice b) (namesOf s) reader) limit (length log / 4) (starts (tree s) values)
+
+-- what a call of run leaves
+pub record Left : Type 0 where
+  pub report : Report
+  pub values : List ℤ
+  pub log : List ℕ
+
+-- 'Run returns how it ended, steps, instants, lines.' 'Values then hold the state after the counted steps; log words after
+-- the last line are untouched.'
+abbrev pub leftBy : Run → List ℕ → Left
+leftBy r log =
+    record {
+      report =
+          record {
+            number = 0;
+            place = 0;
+            ending = endingNumber (r .ending);
+            steps = r .steps;
+            instants = r .instants;
+            lines = length (r .lines);
+          };
+      values = r .values;
+      log = words (r .lines) ++ drop (4 * length (r .lines)) log;
+    }
+
+abbrev pub refusedReport : Refusal → Report
+refusedReport r =
+    record { number = r .number; place = r .place; ending = 0; steps = 0; instants = 0; lines = 0 }
+
+-- a refused call leaves values and log as they were
+abbrev pub refusedLeft : Refusal → List ℤ → List ℕ → Left
+refusedLeft r values log = record { report = refusedReport r; values = values; log = log }
+
+unfoldable pub left : List ℕ → List ℕ → ℕ → List ℤ → ℕ → List ℕ → Left
+left b s reader values limit log =
+    cond
+    (passes (runRefusal b s reader values limit))
+    (leftBy (runOf b s reader values limit log) log)
+    (refusedLeft (runRefusal b s reader values limit) values log)
