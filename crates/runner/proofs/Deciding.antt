@@ -16,7 +16,6 @@ use Rattle.script.specs.declared.layout.Script.{Script}
 use Rattle.script.specs.Layout.{nameCount}
 use Rattle.script.specs.Entries.{partOf, node}
 use Rattle.script.proofs.Views.{NodeView, aNil, anAssign, aLet, anIf, aWhile, aSequence, anEmit, aLocal, aWatching, aWhen, aParallel, node-view}
-use Rattle.script.proofs.NodeSizes.{size-of}
 use Rattle.runner.specs.declared.forms.Front.{Front}
 use Rattle.runner.specs.Residual.{own, residual}
 use Rattle.runner.specs.Forms.{mover, first, second, before, watched, guarded, beside, turned, frontOf, partIn}
@@ -34,6 +33,7 @@ beside-above = ⊎-elim (λ e. omega arith) (λ e. omega arith)
 -- a part of node k: a node with its own bytes
 pub record Part (s : List ℕ) (k : ℕ) (st : List ℕ) (f : Front) : Type 0 where
   pub earlier : f .child < k
+  pub starts : 1 ≤ f .from
   pub order : f .from ≤ f .to
   pub within : f .to ≤ length st
   pub at : At s (f .child) (partIn f st)
@@ -56,15 +56,13 @@ module _ {s : List ℕ} {k : ℕ} {st : List ℕ} (at : At s k st) where
       {c : Script} {values : List ℤ} {f : Front} → Valued s c values → f ≡ frontOf s k (own st) (length st) → Sight s k st f
   seen v e = subst (Sight s k st) (sym e) (sight s (v .checked) k (at .known) st (at .whole))
 
-  pub some-bytes : {c : Script} {values : List ℤ} → Valued s c values → 0 < length st
-  some-bytes v = omega (arith, at .whole, size-of s (v .checked) k (at .known))
-
   -- its own byte is not asked
   inside-part : (v : ℕ) (f : Front) (F : Frame ℕ) → Inside s k (set st 0 v) f F → Part s k st f
   inside-part v f F i =
       let within : f .to ≤ length st = rw (length-set st 0 v) at (i .within) in
       record {
         earlier = i .earlier;
+        starts = i .starts;
         order = i .order;
         within = within;
         at = record { known = omega (arith, i .earlier, at .known); whole = part-length f st within ∙ i .fits };

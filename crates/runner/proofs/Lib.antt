@@ -4,6 +4,7 @@ pub mod Reading
 pub mod Clearing
 pub mod Framing
 pub mod Deciding
+pub mod Changing
 pub mod Outcomes
 pub mod Residuals
 pub mod Scopes

@@ -11,7 +11,8 @@ use Rattle.runner.specs.Residual.{own}
 use Rattle.runner.specs.Forms.{guarded, frontOf, partIn}
 use Rattle.runner.specs.Contracts.{left}
 use Rattle.runner.proofs.Sights.{signalAt, Sight}
-use Rattle.runner.proofs.Deciding.{Part, Rear, seen, some-bytes, front-part, rear-part, stays, signalled, awake-front, waiting-front}
+use Rattle.runner.proofs.Advancing.{some-bytes}
+use Rattle.runner.proofs.Deciding.{Part, Rear, seen, front-part, rear-part, stays, signalled, awake-front, waiting-front}
 use Prim.Native.Nat.{ℕ, _+_, _*_, _<_}
 use borrow.Fn.Kinds.{In}
 use borrow.Fn.PlainCycle.{Measures, is, falls, and}
@@ -81,7 +82,7 @@ part :
 part t c = front-part (c .before .before .before .before .before .before .before .before .pre .1 .1 .1) (sees t (c .before .before .before .before)) (c .before .before .if1 .left)
 
 is-suspended-shared-slice-read-tag : (t : ℕ) → is-suspended-lts.Need-shared-slice-read-tag (R t) (is-suspended-at t) is-suspended.Post
-is-suspended-shared-slice-read-tag t c = let pre = c .before .before .before .pre .1 in some-bytes (pre .1 .1) (pre .0)
+is-suspended-shared-slice-read-tag t c = let pre = c .before .before .before .pre .1 in some-bytes (pre .1 .1)
 
 is-suspended-find-front-requires : (t : ℕ) → is-suspended-lts.Need-find-front-requires (R t) (is-suspended-at t) is-suspended.Post
 is-suspended-find-front-requires t c κs = let pre = c .before .before .before .pre .1 in (pre .0 .laid, (pre .0 .checked, (pre .1 .0, pre .1 .1 .known)))
@@ -155,7 +156,7 @@ rear-waits-returns : (t : ℕ) → rear-waits-lts.Need-returns (Q t) (rear-waits
 rear-waits-returns t c = record { none = λ h. refl; other = λ h. absurd (omega (arith, c .if1 .taken)) }
 
 rear-waits-shared-slice-read-tag : (t : ℕ) → rear-waits-lts.Need-shared-slice-read-tag (Q t) (rear-waits-at t) rear-waits.Post
-rear-waits-shared-slice-read-tag t c = let pre = c .before .before .before .before .pre .1 .0 in some-bytes (pre .1 .1) (pre .0)
+rear-waits-shared-slice-read-tag t c = let pre = c .before .before .before .before .pre .1 .0 in some-bytes (pre .1 .1)
 
 rear-waits-sub-find-front : (t : ℕ) → rear-waits-lts.Need-sub-find-front (Q t) (rear-waits-at t) rear-waits.Post
 rear-waits-sub-find-front t c = rear t (c .before) .byte
