@@ -79,7 +79,16 @@ pub fn run(
     let seen = values::find_seen(script, c, b, reader as usize);
     let mut state = [0u8; Script::MAX_NODES];
     let n = c.nodes;
-    let r = runner::run(script, c, &sizes, &seen, values, &mut state[0..n], log, limit);
+    let r = runner::run(
+        script,
+        c,
+        &sizes,
+        &seen,
+        values,
+        &mut state[0..n],
+        log,
+        limit,
+    );
     Report {
         number: 0,
         place: 0,

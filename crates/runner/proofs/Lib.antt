@@ -16,3 +16,4 @@ pub mod Resting
 pub mod Turning
 pub mod Evaluating
 pub mod Entries
+pub mod Whole

@@ -33,7 +33,7 @@ module _ {seen : ℕ → Bool} {limit room : ℕ} {at : Running ℕ} {why : ℕ}
   ended-gone (spent e l z) q = absurd (omega (arith, e, q))
   ended-gone (full e l t z) q = absurd (omega (arith, e, q))
 
-  ended-waits : Ends seen limit room at why → why ≡ isSuspended → suspended (at .process) (at .values) ≡ true
+  pub ended-waits : Ends seen limit room at why → why ≡ isSuspended → suspended (at .process) (at .values) ≡ true
   ended-waits (gone e z) q = absurd (omega (arith, e, q))
   ended-waits (waits e z) q = z
   ended-waits (spent e l z) q = absurd (omega (arith, e, q))

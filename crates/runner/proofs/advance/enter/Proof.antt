@@ -12,9 +12,9 @@ use Rattle.runner.specs.Forms.{mover, guarded}
 use Rattle.runner.specs.Moves.{gone, waits}
 use Rattle.runner.specs.Contracts.{into, runningAt, Advances, Enters}
 use Rattle.runner.proofs.Sights.{Sight}
-use Rattle.runner.proofs.Deciding.{Signalled, seen, signalled, some-bytes}
+use Rattle.runner.proofs.Deciding.{Signalled, seen, signalled}
 use Rattle.runner.proofs.Entries.{ends-here, goes-in, nil-seen, not-into}
-use Rattle.runner.proofs.Advancing.{ended}
+use Rattle.runner.proofs.Advancing.{some-bytes, ended}
 use borrow.Author.Needs.{needs}
 use Rattle.runner.proofs.advance.enter.Statement.{statement}
 use Rattle.runner.proofs.advance.enter.Tie as tie
@@ -39,7 +39,7 @@ two-or-more n a b = omega (arith, a, b)
 slice-read-find-front : tie.Need-slice-read-find-front
 slice-read-find-front c =
     let start = c .before .before .before .before .before in
-    some-bytes (start .pre .1 .1 .0) (start .pre .0)
+    some-bytes (start .pre .1 .1 .0)
 
 find-front-requires : tie.Need-find-front-requires
 find-front-requires c κs = search needs

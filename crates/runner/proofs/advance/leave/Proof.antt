@@ -13,7 +13,8 @@ use Rattle.runner.specs.Residual.{own}
 use Rattle.runner.specs.Moves.{Silent}
 use Rattle.runner.specs.Contracts.{left, byteAfter, RearWaits, restsOn, atLimit, makesMove}
 use Rattle.runner.proofs.Sights.{Sight}
-use Rattle.runner.proofs.Deciding.{seen, some-bytes}
+use Rattle.runner.proofs.Deciding.{seen}
+use Rattle.runner.proofs.Advancing.{some-bytes}
 use Rattle.runner.proofs.Resting.{rests-alone, rests-waiting, settles, byte-bound}
 use borrow.Author.Needs.{needs}
 use Rattle.runner.proofs.advance.leave.Statement.{statement}
@@ -73,7 +74,7 @@ returns-3 c =
 slice-read-byte-after : tie.Need-slice-read-byte-after
 slice-read-byte-after c =
     let start = c .before .before .before .before .before .before .before .before in
-    some-bytes (start .pre .0 .1 .1 .0) (start .pre .0 .0)
+    some-bytes (start .pre .0 .1 .1 .0)
 
 byte-after-requires : tie.Need-byte-after-requires
 byte-after-requires c κs =
@@ -83,7 +84,7 @@ byte-after-requires c κs =
 slice-write-state : tie.Need-slice-write-state
 slice-write-state c =
     let start = c .before .before .before .before .before .before .before .before .before in
-    some-bytes (start .pre .0 .1 .1 .0) (start .pre .0 .0)
+    some-bytes (start .pre .0 .1 .1 .0)
 
 add-t21 : tie.Need-add-t21
 add-t21 c = search needs

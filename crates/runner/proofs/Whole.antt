@@ -1,0 +1,126 @@
+-- A whole run: what comes of it, from its start and from where it has come to.
+-- Assumes nothing.
+use mathlib.Core.Path.{_≡_, refl, sym, ap, _∙_, subst}
+use mathlib.Core.Bool.{Bool, true, false}
+use mathlib.Core.List.{List}
+use Prim.Native.Nat.{ℕ, suc, _+_, _-_, _/_, _≤_, _<_}
+use native.Mathlib.Nat.{le-trans}
+use native.Mathlib.Omega.{arith}
+use lib.IntN.{ℤ}
+use lib.ListN.{length, replicate, length-replicate}
+use borrow.Author.Tests.{eq-eqb, ne-eqb}
+use Rattle.language.specs.Syntax.{Names, Proc}
+use Rattle.language.specs.Steps.{suspended, change, instantStart}
+use Rattle.language.specs.Calls.{Ending, finished, logFull, givenBack}
+use Rattle.language.specs.Calls as calls
+use Rattle.script.specs.Layout.{nodeCount, layoutOf, Laid}
+use Rattle.script.specs.declared.layout.Script.{Script}
+use Rattle.script.specs.Checked.{Checked}
+use Rattle.script.specs.Tree.{namesOf, processOf, tree, size}
+use Rattle.script.proofs.Layouts.{few-bounds, nodes-are}
+use Rattle.script.proofs.NodeSizes.{whole-size}
+use Rattle.runner.specs.declared.Ran.{Ran}
+use Rattle.runner.specs.Moves.{Running, Live, isSuspended, changed, Ends, gone, waits, spent, full}
+use Rattle.runner.specs.Outcome.{outcome, stopped}
+use Rattle.runner.specs.Contracts.{mostSteps, Valued, At, Counted, left, runningAt, Advances, starting, endingNumber, endingOf, Gives}
+use Rattle.runner.proofs.Framing.{waits-some}
+use Rattle.runner.proofs.Residuals.{zeros}
+use Rattle.runner.proofs.Outcomes.{outcome-moves, outcome-finished, outcome-spent, outcome-full, outcome-changes}
+use Rattle.runner.proofs.Turning.{ended-waits}
+
+module _ (names : Names ℕ) (seen : ℕ → Bool) (limit : ℕ) where
+  -- a run that stands at `at`, with the bytes st, comes to the same as from where it began
+  pub record Comes (begun at : Running ℕ) (st₀ st : List ℕ) : Type 0 where
+    pub same :
+        outcome names seen limit (length (begun .log) / 4) at ≡ outcome names seen limit (length (begun .log) / 4) begun
+    pub time : at .steps ≤ limit
+    pub space : at .lines ≤ length (begun .log) / 4
+    pub instants : at .instants ≤ at .steps
+    pub named : length (at .values) ≡ length (begun .values)
+    pub logged : length (at .log) ≡ length (begun .log)
+    pub bytes : length st ≡ length st₀
+
+  module _ {begun at : Running ℕ} {st₀ st : List ℕ} (u : Comes begun at st₀ st) where
+    pub counted : limit ≤ mostSteps → Counted limit (at .log) (at .steps) (at .lines)
+    counted m = record { time = u .time; most = m; space = omega (arith, u .space, u .logged) }
+
+    pub valued : {s : List ℕ} {c : Script} → Valued s c (begun .values) → Valued s c (at .values)
+    valued v = record { laid = v .laid; checked = v .checked; named = u .named ∙ v .named }
+
+    -- after moves
+    pub comes-on :
+        {to : Running ℕ} {st′ : List ℕ} {why : ℕ} → Advances seen limit (length (at .log) / 4) at to why →
+        to .instants ≡ at .instants → length (to .values) ≡ length (at .values) → length (to .log) ≡ length (at .log) →
+        length st′ ≡ length st → Comes begun to st₀ st′
+    comes-on {to} {st′} {why} a i v l b =
+        let r = subst (λ n. Advances seen limit (n / 4) at to why) (u .logged) a in
+        record {
+          same = outcome-moves names (r .path) ∙ u .same;
+          time = r .time;
+          space = r .space;
+          instants = omega (arith, i, u .instants, r .later);
+          named = v ∙ u .named;
+          logged = l ∙ u .logged;
+          bytes = b ∙ u .bytes;
+        }
+
+    -- where moves have ended
+    pub comes-ends :
+        {to : Running ℕ} {why : ℕ} → Advances seen limit (length (at .log) / 4) at to why → (why ≡ 0 → ⊥) →
+        Ends seen limit (length (begun .log) / 4) to why
+    comes-ends {to} {why} a n = subst (λ n. Ends seen limit (n / 4) to why) (u .logged) (a .ends n)
+
+    -- after an instant change
+    pub comes-changed :
+        {p : Proc ℕ} {vs : List ℤ} {st′ : List ℕ} {steps instants : ℕ} → suspended (at .process) (at .values) ≡ true →
+        at .steps < limit → p ≡ change (at .process) (at .values) → vs ≡ instantStart names (at .values) →
+        steps ≡ suc (at .steps) → instants ≡ suc (at .instants) → length vs ≡ length (at .values) →
+        length st′ ≡ length st →
+        Comes begun
+        (record { process = p; values = vs; log = at .log; steps = steps; instants = instants; lines = at .lines })
+        st₀ st′
+    comes-changed w t a b c d v l =
+        record {
+          same = rw (a, b, c, d) (outcome-changes names seen limit (length (begun .log) / 4) at w t ∙ u .same);
+          time = omega (arith, c, t);
+          space = u .space;
+          instants = omega (arith, c, d, u .instants);
+          named = v ∙ u .named;
+          logged = u .logged;
+          bytes = l ∙ u .bytes;
+        }
+
+  -- where and how it stops
+  pub record Stops (at : Running ℕ) (room why : ℕ) : Type 0 where
+    pub ending : Ending
+    pub number : endingOf why ≡ endingNumber ending
+    pub is : outcome names seen limit room at ≡ stopped names ending at
+
+  pub stops : {at : Running ℕ} {room why : ℕ} → Ends seen limit room at why → (why ≡ isSuspended → at .steps ≡ limit) → Stops at room why
+  stops {at} {room} (gone e z) w =
+      record { ending = finished; number = rw e; is = outcome-finished names seen limit room at z }
+  stops {at} {room} (waits e z) w =
+      record {
+        ending = calls.spent;
+        number = rw e;
+        is = outcome-spent names seen limit room at (waits-some (at .process) (at .values) z) (w e);
+      }
+  stops {at} {room} (spent e l z) w =
+      record { ending = calls.spent; number = rw e; is = outcome-spent names seen limit room at (l .some) z }
+  stops {at} {room} (full e l t z) w =
+      record { ending = logFull; number = rw e; is = outcome-full names seen limit room at l t z }
+
+  pub gives :
+      (begun : Running ℕ) {at : Running ℕ} {room why : ℕ} {r : Ran} {vs : List ℤ} → Stops at room why →
+      outcome names seen limit room at ≡ outcome names seen limit room begun → r .ending ≡ endingOf why →
+      r .steps ≡ at .steps → r .instants ≡ at .instants → r .lines ≡ at .lines → vs ≡ givenBack names (at .values) →
+      Gives (outcome names seen limit room begun) r vs (at .log)
+  gives begun {at} {room} {why} {r} {vs} t e a b c d v =
+      subst (λ o. Gives o r vs (at .log)) (sym (t .is) ∙ e)
+      (record { ending = a ∙ t .number; steps = b; instants = c; lines = d; final = v; logged = refl })
+
+-- cleared bytes: the script as it is written
+pub fresh :
+    (s : List ℕ) → Checked s → (k : ℕ) → k ≡ nodeCount s - 1 → (st : List ℕ) → st ≡ replicate (nodeCount s) 0 → left s k st ≡ tree s
+fresh s ok k e st z =
+    rw (e, z) (zeros (tree s) (nodeCount s) (omega (arith, whole-size s ok)))
