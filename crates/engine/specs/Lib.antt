@@ -2,3 +2,5 @@
 pub mod Refusals
 pub mod Answers
 pub mod Contracts
+pub mod Records
+pub mod Results
