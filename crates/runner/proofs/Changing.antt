@@ -14,11 +14,11 @@ use borrow.Rule.Slice.PartMut.{putMid, take-put, drop-put}
 use lib.Dec.{ltb, leb}
 use lib.IntN.{ℤ}
 use lib.ListN.{getD, length, take, drop}
-use lib.Seq.{length-take-le, take-nil, drop-nil, take-at, drop-at, take-take, drop-drop}
+use lib.Seq.{length-take-le, take-nil, take-at, drop-at, take-take, drop-drop}
 use Rattle.prelude.specs.Search.{firstFrom, first as firstOf, any, all}
 use Rattle.prelude.proofs.Bools.{and-left, and-right, by-cases}
 use Rattle.prelude.proofs.Searches.{all-elim}
-use Rattle.language.specs.Syntax.{Proc, parallel}
+use Rattle.language.specs.Syntax.{parallel}
 use Rattle.language.specs.Steps.{present, change}
 use Rattle.script.specs.declared.layout.Script.{Script}
 use Rattle.script.specs.Entries.{partOf, node}
@@ -26,16 +26,20 @@ use Rattle.runner.specs.declared.forms.Front.{Front}
 use Rattle.runner.specs.Residual.{own}
 use Rattle.runner.specs.Forms.{gone, mover, watched, guarded, beside, formRows, formOf, fromSecond, frontOf, partIn}
 use Rattle.runner.specs.Frames.{around}
-use Rattle.runner.specs.Contracts.{Valued, At, left}
-use Rattle.runner.proofs.Sights.{signalAt, Sight, own-put, length-put, part-length}
+use Rattle.runner.specs.Contracts.{left}
+use Rattle.runner.proofs.Sights.{signalAt, own-put, length-put, part-length}
 use Rattle.runner.proofs.Fronts.{kind-known}
-use Rattle.runner.proofs.Deciding.{Part, Rear, rearOf, seen, front-part, rear-part, ahead}
+use Rattle.runner.proofs.Deciding.{Found, Part, rearOf, Rear, front-part, rear-part, ahead}
 
 -- what lies in the middle of a list lies in its front
 take-drop : (m n : ℕ) (l : List ℕ) → take m (drop n l) ≡ drop n (take (n + m) l)
 take-drop m zero l = rw (zero-add m)
 take-drop m (suc n) [] = take-nil m ∙ ap (drop (suc n)) (sym (take-nil (suc n + m)))
 take-drop m (suc n) (b ∷ l) = rw (suc-add n m) (take-drop m n l)
+
+-- two parts lie one after the other
+abbrev Apart : Front → Front → Type 0
+Apart f g = (f .to ≤ g .from) ⊎ (g .to ≤ f .from)
 
 -- the bytes of a node with those of a part put back
 abbrev pub put : Front → List ℕ → List ℕ → List ℕ
@@ -50,8 +54,7 @@ module _ (f : Front) (st ys : List ℕ) (order : f .from ≤ f .to) (within : f 
       (drop-at (take (f .from) st) (ys ++ rest) (f .from) (length-take-le (f .from) st (omega arith)))
       ∙ take-at ys rest (f .to - f .from) l
 
-  -- a part that lies behind or before it
-  part-kept : (g : Front) → g .from ≤ g .to → (f .to ≤ g .from) ⊎ (g .to ≤ f .from) → partIn g (put f st ys) ≡ partIn g st
+  part-kept : (g : Front) → g .from ≤ g .to → Apart f g → partIn g (put f st ys) ≡ partIn g st
   part-kept g o =
       ⊎-elim
       (λ h.
@@ -73,7 +76,7 @@ module _ (f : Front) (st ys : List ℕ) (order : f .from ≤ f .to) (within : f 
       ∙ ap (λ n. drop (g .from) (take n st)) (sym e)
       ∙ sym (take-drop (g .to - g .from) (g .from) st))
 
--- only a parallel has the forms of a parallel
+-- only a parallel has the forms beside and turned
 below : List ℕ → Bool
 below [] = true
 below (n ∷ ns) = ltb n beside && below ns
@@ -89,11 +92,12 @@ unfolding all any firstOf firstFrom below
 is-parallel kind tag k h =
     elim (decLt kind 10) [
       | yes l ↦
-          absurd (omega (arith, below-at (getD formRows kind []) tag (all-elim (λ n. below (getD formRows n [])) 10 refl kind l)))
+          let rows = all-elim (λ n. below (getD formRows n [])) 10 refl in
+          absurd (omega (arith, below-at (getD formRows kind []) tag (rows kind l)))
       | no n ↦ omega arith
     ]
 
--- the parts of a parallel lie one after the other
+-- its parts lie one after the other
 module _ (s : List ℕ) (k len : ℕ) where
   abbrev kind : ℕ
   kind = partOf s (node s k) .kind
@@ -104,23 +108,16 @@ module _ (s : List ℕ) (k len : ℕ) where
       by-cases (λ (f : Front). f .form ≡ formOf kind tag) (leb (formOf kind tag) mover) (λ _. refl)
       (λ _. by-cases (λ (f : Front). f .form ≡ formOf kind tag) (fromSecond (formOf kind tag)) (λ _. refl) (λ _. refl))
 
-  abbrev Apart : Front → Front → Type 0
-  Apart f g = (f .to ≤ g .from) ⊎ (g .to ≤ f .from)
-
   apart : kind ≡ 10 → (tag : ℕ) → tag ≤ 1 → Apart (frontOf s k tag len) (frontOf s k (1 - tag) len)
   unfolding frontOf
   apart e zero h = rw e (inl (le-refl _))
   apart e (suc zero) h = rw e (inr (le-refl _))
   apart e (suc (suc t)) h = absurd (omega arith)
 
-module _ {s : List ℕ} {k : ℕ} {st : List ℕ} {c : Script} {values : List ℤ} {f : Front} (v : Valued s c values)
-    (at : At s k st) (e : f ≡ frontOf s k (own st) (length st)) (some : mover < f .form) (ys : List ℕ)
-    (l : length ys ≡ length (partIn f st)) where
-  abbrev sees : Sight s k st f
-  sees = seen at v e
-
+module _ {s : List ℕ} {c : Script} {values : List ℤ} {k : ℕ} {st : List ℕ} {f : Front}
+    (found : Found s c values k st f) (some : mover < f .form) (ys : List ℕ) (l : length ys ≡ length (partIn f st)) where
   abbrev one : Part s k st f
-  one = front-part at sees some
+  one = front-part found some
 
   count : length ys ≡ f .to - f .from
   count = l ∙ part-length f st (one .within)
@@ -128,32 +125,33 @@ module _ {s : List ℕ} {k : ℕ} {st : List ℕ} {c : Script} {values : List �
   pub length-one : length (put f st ys) ≡ length st
   length-one = length-put (f .from) (f .to - f .from) st ys (omega (arith, one .order, one .within)) count
 
-  -- the part in front changes
+  -- the part in front has changed
   pub one-changed :
       f .form < beside → (f .form ≡ watched → present values (signalAt s k) ≡ false) →
       (f .form ≡ guarded → present values (signalAt s k) ≡ true) →
       left s (f .child) ys ≡ change (left s (f .child) (partIn f st)) values →
       left s k (put f st ys) ≡ change (left s k st) values
   one-changed b off on h =
-      let a = ahead values sees some b in
+      let a = ahead found some b in
       a .inside .after ys count
       ∙ ap (around (a .frame)) h
       ∙ sym (a .changes off on (left s (f .child) (partIn f st)))
       ∙ ap (λ p. change p values) (sym (a .inside .whole))
 
-  -- and of a parallel the part behind it
+  -- and then, of a parallel, the part behind it
   module _ {g : Front} (b : beside ≤ f .form) (u : g ≡ rearOf s k st) where
     abbrev rear : Rear s k st f
-    rear = rear-part at sees b
+    rear = rear-part found b
 
     two : Part s k st g
     two = rw u (rear .part)
 
-    parts-apart : (f .to ≤ g .from) ⊎ (g .to ≤ f .from)
+    parts-apart : Apart f g
     parts-apart =
-        let form = ap (λ (f : Front). f .form) e ∙ front-form s k (length st) (own st) in
-        let kind = is-parallel (partOf s (node s k) .kind) (own st) (kind-known s (v .checked) k (at .known)) (omega (arith, form)) in
-        rw (e, u) (apart s k (length st) kind (own st) (rear .byte))
+        let form = ap (λ (f : Front). f .form) (found .front) ∙ front-form s k (length st) (own st) in
+        let known = kind-known s (found .valued .checked) k (found .at .known) in
+        let kind = is-parallel (partOf s (node s k) .kind) (own st) known (omega (arith, form)) in
+        rw (found .front, u) (apart s k (length st) kind (own st) (rear .byte))
 
     rear-kept : partIn g (put f st ys) ≡ partIn g st
     rear-kept = part-kept f st ys (one .order) (one .within) count g (two .order) parts-apart
@@ -175,14 +173,15 @@ module _ {s : List ℕ} {k : ℕ} {st : List ℕ} {c : Script} {values : List �
       count-two : length zs ≡ g .to - g .from
       count-two = m ∙ part-length g (put f st ys) (rear-after .within)
 
+      ends-within : g .from + (g .to - g .from) ≤ length (put f st ys)
+      ends-within = omega (arith, two .order, rear-after .within)
+
       pub length-two : length after ≡ length st
-      length-two =
-          length-put (g .from) (g .to - g .from) (put f st ys) zs (omega (arith, two .order, rear-after .within)) count-two
-          ∙ length-one
+      length-two = length-put (g .from) (g .to - g .from) (put f st ys) zs ends-within count-two ∙ length-one
 
       own-two : own after ≡ own st
       own-two =
-          own-put (g .from) (g .to - g .from) (put f st ys) zs (two .starts) (omega (arith, two .order, rear-after .within))
+          own-put (g .from) (g .to - g .from) (put f st ys) zs (two .starts) (omega (arith, ends-within))
           ∙ own-put (f .from) (f .to - f .from) st ys (one .starts) (omega (arith, one .order, one .within))
 
       front-after : partIn f after ≡ ys
@@ -191,12 +190,18 @@ module _ {s : List ℕ} {k : ℕ} {st : List ℕ} {c : Script} {values : List �
           (⊎-elim (λ h. inr h) (λ h. inl h) parts-apart)
           ∙ part-put f st ys (one .order) (one .within) count
 
+      found-after : Found s c values k after f
+      found-after =
+          record {
+            valued = found .valued;
+            at = record { known = found .at .known; whole = length-two ∙ found .at .whole };
+            front = rw (own-two, length-two) (found .front);
+          }
+
       whole-after : left s k after ≡ parallel (left s (f .child) ys) (left s (g .child) zs)
       whole-after =
-          let same : At s k after = record { known = at .known; whole = length-two ∙ at .whole } in
-          let front : f ≡ frontOf s k (own after) (length after) = rw (own-two, length-two) e in
           let behind : rearOf s k after ≡ g = rw (own-two, length-two) (sym u) in
-          rear-part same (seen same v front) b .whole
+          rear-part found-after b .whole
           ∙ ap₂ parallel (ap (left s (f .child)) front-after)
           (ap (λ (g : Front). left s (g .child) (partIn g after)) behind
           ∙ ap (left s (g .child)) (part-put g (put f st ys) zs (two .order) (rear-after .within) count-two))
@@ -207,6 +212,7 @@ module _ {s : List ℕ} {k : ℕ} {st : List ℕ} {c : Script} {values : List �
           left s k after ≡ change (left s k st) values
       unfolding change
       two-changed h i =
+          let behind = ap (λ (g : Front). change (left s (g .child) (partIn g st)) values) u in
           whole-after
-          ∙ ap₂ parallel h (i ∙ ap (λ z. change (left s (g .child) z) values) rear-kept ∙ ap (λ (g : Front). change (left s (g .child) (partIn g st)) values) u)
+          ∙ ap₂ parallel h (i ∙ ap (λ z. change (left s (g .child) z) values) rear-kept ∙ behind)
           ∙ ap (λ p. change p values) (sym (rear .whole))

@@ -42,9 +42,10 @@ module _ (f : ℕ → ℤ) (old : List ℤ) where
     -- name x has its value
     pub renewed-kept : held old x ≡ f x → Renewed f old (x + 1) values
     renewed-kept e =
-        let same : held values x ≡ held old x =
-        rw (add-zero x) at (sym (getD-drop x values 0 (pos 0)) ∙ ap (λ l. held l 0) (r .rest) ∙ getD-drop x old 0 (pos 0)) in
+        let rest = sym (getD-drop x values 0 (pos 0)) ∙ ap (λ l. held l 0) (r .rest) ∙ getD-drop x old 0 (pos 0) in
+        let same : held values x ≡ held old x = rw (add-zero x) at rest in
         subst (Renewed f old (x + 1)) (set-getD values x (pos 0)) (renewed-set (held values x) (same ∙ e))
 
-  pub renewed-all : (x : ℕ) (values : List ℤ) → length old ≤ x → Renewed f old x values → values ≡ table f (length old)
+  pub renewed-all :
+      (x : ℕ) (values : List ℤ) → length old ≤ x → Renewed f old x values → values ≡ table f (length old)
   renewed-all x values h r = fill-all f values (length old) x (r .same) (r .within) h (r .done)

@@ -1,6 +1,6 @@
--- What the form of a node tells: whether it is suspended and what an instant change makes of it, by its parts.
+-- What the form of a node tells: its parts, and by them whether it is suspended and what an instant change makes of it.
 -- Assumes nothing.
-use mathlib.Core.Path.{_≡_, refl, sym, ap, ap₂, _∙_, subst}
+use mathlib.Core.Path.{_≡_, refl, sym, _∙_, subst}
 use mathlib.Core.Bool.{Bool, true, false}
 use mathlib.Core.Logic.{_⊎_, inl, inr, ⊎-elim}
 use mathlib.Core.List.{List}
@@ -21,7 +21,7 @@ use Rattle.runner.specs.Residual.{own, residual}
 use Rattle.runner.specs.Forms.{mover, first, second, before, watched, guarded, beside, turned, frontOf, partIn}
 use Rattle.runner.specs.Frames.{Frame, around}
 use Rattle.runner.specs.Contracts.{Valued, At, left, RearWaits}
-use Rattle.runner.proofs.Sights.{Inside, signalAt, Mover, Sight, sees-gone, sees-mover, sees-alone, sees-before, sees-watched, sees-guarded, sees-beside, sight, part-length, part-set}
+use Rattle.runner.proofs.Sights.{Inside, signalAt, Mover, Sight, sees-gone, sees-mover, sees-alone, sees-before, sees-watched, sees-guarded, sees-beside, sight, part-length}
 
 -- the forms of a part alone, and of a parallel
 alone-within : {n : ℕ} → (n ≡ first) ⊎ (n ≡ second) → (mover < n) × (n < before)
@@ -30,7 +30,13 @@ alone-within = ⊎-elim (λ e. (omega arith, omega arith)) (λ e. (omega arith, 
 beside-above : {n : ℕ} → (n ≡ beside) ⊎ (n ≡ turned) → guarded < n
 beside-above = ⊎-elim (λ e. omega arith) (λ e. omega arith)
 
--- a part of node k: a node with its own bytes
+-- node k with its bytes, and its front
+pub record Found (s : List ℕ) (c : Script) (values : List ℤ) (k : ℕ) (st : List ℕ) (f : Front) : Type 0 where
+  pub valued : Valued s c values
+  pub at : At s k st
+  pub front : f ≡ frontOf s k (own st) (length st)
+
+-- a part of it, which is a node with its own bytes
 pub record Part (s : List ℕ) (k : ℕ) (st : List ℕ) (f : Front) : Type 0 where
   pub earlier : f .child < k
   pub starts : 1 ≤ f .from
@@ -50,53 +56,12 @@ pub record Rear (s : List ℕ) (k : ℕ) (st : List ℕ) (f : Front) : Type 0 wh
       left s k st
       ≡ parallel (left s (f .child) (partIn f st)) (left s (rearOf s k st .child) (partIn (rearOf s k st) st))
 
-module _ {s : List ℕ} {k : ℕ} {st : List ℕ} (at : At s k st) where
-  -- what is seen with the node's front
-  pub seen :
-      {c : Script} {values : List ℤ} {f : Front} → Valued s c values → f ≡ frontOf s k (own st) (length st) → Sight s k st f
-  seen v e = subst (Sight s k st) (sym e) (sight s (v .checked) k (at .known) st (at .whole))
-
-  -- its own byte is not asked
-  inside-part : (v : ℕ) (f : Front) (F : Frame ℕ) → Inside s k (set st 0 v) f F → Part s k st f
-  inside-part v f F i =
-      let within : f .to ≤ length st = rw (length-set st 0 v) at (i .within) in
-      record {
-        earlier = i .earlier;
-        starts = i .starts;
-        order = i .order;
-        within = within;
-        at = record { known = omega (arith, i .earlier, at .known); whole = part-length f st within ∙ i .fits };
-      }
-
-  module _ {f : Front} where
-    part-of : (F : Frame ℕ) → Inside s k st f F → Part s k st f
-    part-of F i = inside-part (own st) f F (rw (set-getD st 0 0) i)
-
-    pub front-part : Sight s k st f → mover < f .form → Part s k st f
-    front-part (sees-gone e q) h = absurd (omega arith)
-    front-part (sees-mover e o m) h = absurd (omega arith)
-    front-part (sees-alone e i) h = part-of _ i
-    front-part (sees-before e o q i z) h = part-of _ i
-    front-part (sees-watched e n i z) h = part-of _ i
-    front-part (sees-guarded e n l i z) h = part-of _ i
-    front-part (sees-beside e o g u i j z) h = part-of _ i
-
-    pub rear-part : Sight s k st f → beside ≤ f .form → Rear s k st f
-    rear-part (sees-gone e q) h = absurd (omega arith)
-    rear-part (sees-mover e o m) h = absurd (omega arith)
-    rear-part (sees-alone e i) h = absurd (omega (arith, alone-within e))
-    rear-part (sees-before e o q i z) h = absurd (omega arith)
-    rear-part (sees-watched e n i z) h = absurd (omega arith)
-    rear-part (sees-guarded e n l i z) h = absurd (omega arith)
-    rear-part (sees-beside e o g u i j z) h =
-        record { byte = o; part = rw (← u) (inside-part (1 - own st) g _ j); whole = rw (← u) (i .whole) }
-
 -- p is suspended or not, and an instant change leaves it as it is
-pub record Stays (p : Proc ℕ) (values : List ℤ) (b : Bool) : Type 0 where
-  pub waits : suspended p values ≡ b
+pub record Stays (p : Proc ℕ) (values : List ℤ) (waiting : Bool) : Type 0 where
+  pub waits : suspended p values ≡ waiting
   pub same : change p values ≡ p
 
--- a frame whose part decides: no signal ends it or shuts it
+-- a frame that asks the part in front alone, if no signal ends it or shuts it
 pub record Ahead (s : List ℕ) (k : ℕ) (st : List ℕ) (f : Front) (values : List ℤ) : Type 0 where
   pub frame : Frame ℕ
   pub inside : Inside s k st f frame
@@ -109,15 +74,33 @@ pub record Ahead (s : List ℕ) (k : ℕ) (st : List ℕ) (f : Front) (values : 
       (p : Proc ℕ) → change (around frame p) values ≡ around frame (change p values)
 
 -- a frame with a signal
-pub record Signalled (s : List ℕ) (k : ℕ) (st : List ℕ) (f : Front) (values : List ℤ) : Type 0 where
+record Signalled (s : List ℕ) (k : ℕ) (st : List ℕ) (f : Front) (values : List ℤ) : Type 0 where
   pub known : signalAt s k < nameCount s
   pub ends :
       f .form ≡ watched → present values (signalAt s k) ≡ true → left s k (set st 0 4) ≡ change (left s k st) values
   pub shuts : f .form ≡ guarded → present values (signalAt s k) ≡ false → Stays (left s k st) values true
 
+-- the bytes of a part, whatever the node's own byte is
+module _ {s : List ℕ} {k : ℕ} {st : List ℕ} (at : At s k st) (f : Front) (F : Frame ℕ) where
+  inside-part : (v : ℕ) → Inside s k (set st 0 v) f F → Part s k st f
+  inside-part v i =
+      let within : f .to ≤ length st = rw (length-set st 0 v) at (i .within) in
+      record {
+        earlier = i .earlier;
+        starts = i .starts;
+        order = i .order;
+        within = within;
+        at = record { known = omega (arith, i .earlier, at .known); whole = part-length f st within ∙ i .fits };
+      }
+
+  part-of : Inside s k st f F → Part s k st f
+  part-of i = inside-part (own st) (rw (set-getD st 0 0) i)
+
 -- sequence, watching, when and parallel make no move of their own
 no-mover : {kind : ℕ} → Mover kind → (kind ≡ 5) ⊎ (7 < kind) → ⊥
-no-mover m = ⊎-elim (λ e. other m (omega arith) (λ n. omega arith) (λ n. omega arith)) (λ l. other m (omega arith) (λ n. omega arith) (λ n. omega arith))
+no-mover m =
+    ⊎-elim (λ e. other m (omega arith) (λ n. omega arith) (λ n. omega arith))
+    (λ l. other m (omega arith) (λ n. omega arith) (λ n. omega arith))
   where
     other : {kind : ℕ} → Mover kind → 4 < kind → (kind ≡ 6 → ⊥) → (kind ≡ 7 → ⊥) → ⊥
     other m h a b = b (m .others (λ e. omega arith) (λ e. omega arith) (λ e. omega arith) (λ e. omega arith) a)
@@ -138,65 +121,119 @@ mover-stays st values (aWatching e q x p) o m = absurd (no-mover m (inr (omega (
 mover-stays st values (aWhen e q x p) o m = absurd (no-mover m (inr (omega (arith, e))))
 mover-stays st values (aParallel e q p r) o m = absurd (no-mover m (inr (omega (arith, e))))
 
-module _ {s : List ℕ} {k : ℕ} {st : List ℕ} {f : Front} (values : List ℤ) where
-  pub ahead : Sight s k st f → mover < f .form → f .form < beside → Ahead s k st f values
-  unfolding suspended change
-  ahead (sees-gone e q) h l = absurd (omega arith)
-  ahead (sees-mover e o m) h l = absurd (omega arith)
-  ahead (sees-alone e i) h l =
-      record { frame = _; inside = i; waits = λ on p. refl; changes = λ off on p. refl }
-  ahead (sees-before e o q i z) h l =
-      record { frame = _; inside = i; waits = λ on p. refl; changes = λ off on p. refl }
-  ahead (sees-watched e n i z) h l =
-      record { frame = _; inside = i; waits = λ on p. refl; changes = λ off on p. rw (off e) }
-  ahead (sees-guarded e n l i z) h b =
-      record { frame = _; inside = i; waits = λ on p. rw (on e); changes = λ off on p. rw (on e) }
-  ahead (sees-beside e o g u i j z) h l = absurd (omega (arith, beside-above e))
+module _ {s : List ℕ} {c : Script} {values : List ℤ} {k : ℕ} {st : List ℕ} {f : Front}
+    (found : Found s c values k st f) where
+  sees : Sight s k st f
+  sees =
+      let at = found .at in
+      subst (Sight s k st) (sym (found .front)) (sight s (found .valued .checked) k (at .known) st (at .whole))
 
-  pub signalled : Sight s k st f → watched ≤ f .form → f .form ≤ guarded → Signalled s k st f values
-  unfolding suspended change
-  signalled (sees-gone e q) h l = absurd (omega arith)
-  signalled (sees-mover e o m) h l = absurd (omega arith)
-  signalled (sees-alone e i) h l = absurd (omega (arith, alone-within e))
-  signalled (sees-before e o q i z) h l = absurd (omega arith)
-  signalled (sees-watched e n i z) h l =
-      record { known = n; ends = λ u on. rw (i .whole, on) z; shuts = λ u off. absurd (omega arith) }
-  signalled (sees-guarded e n b i z) h l =
-      record {
-        known = n;
-        ends = λ u on. absurd (omega arith);
-        shuts = λ u off. record { waits = rw (i .whole, off); same = rw (i .whole, off) };
-      }
-  signalled (sees-beside e o g u i j z) h l = absurd (omega (arith, beside-above e))
+  pub front-part : mover < f .form → Part s k st f
+  front-part = part sees
+    where
+      part : Sight s k st f → mover < f .form → Part s k st f
+      part (sees-gone e q) h = absurd (omega arith)
+      part (sees-mover e o m) h = absurd (omega arith)
+      part (sees-alone e i) h = part-of (found .at) f _ i
+      part (sees-before e o q i z) h = part-of (found .at) f _ i
+      part (sees-watched e n i z) h = part-of (found .at) f _ i
+      part (sees-guarded e n l i z) h = part-of (found .at) f _ i
+      part (sees-beside e o g u i j z) h = part-of (found .at) f _ i
 
-  pub stays : NodeView s k → Sight s k st f → f .form ≤ mover → Stays (left s k st) values false
-  unfolding suspended change
-  stays v (sees-gone e q) h = rw q (record { waits = refl; same = refl })
-  stays v (sees-mover e o m) h = mover-stays st values v o m
-  stays v (sees-alone e i) h = absurd (omega (arith, alone-within e))
-  stays v (sees-before e o q i z) h = absurd (omega arith)
-  stays v (sees-watched e n i z) h = absurd (omega arith)
-  stays v (sees-guarded e n l i z) h = absurd (omega arith)
-  stays v (sees-beside e o g u i j z) h = absurd (omega (arith, beside-above e))
+  pub rear-part : beside ≤ f .form → Rear s k st f
+  rear-part = part sees
+    where
+      part : Sight s k st f → beside ≤ f .form → Rear s k st f
+      part (sees-gone e q) h = absurd (omega arith)
+      part (sees-mover e o m) h = absurd (omega arith)
+      part (sees-alone e i) h = absurd (omega (arith, alone-within e))
+      part (sees-before e o q i z) h = absurd (omega arith)
+      part (sees-watched e n i z) h = absurd (omega arith)
+      part (sees-guarded e n l i z) h = absurd (omega arith)
+      part (sees-beside e o g u i j z) h =
+          record { byte = o; part = rw (← u) (inside-part (found .at) g _ (1 - own st) j); whole = rw (← u) (i .whole) }
 
-  module _ (at : At s k st) (sees : Sight s k st f) (h : mover < f .form)
-      (on : f .form ≡ guarded → present values (signalAt s k) ≡ true) where
+  pub ahead : mover < f .form → f .form < beside → Ahead s k st f values
+  unfolding suspended change
+  ahead = part sees
+    where
+      part : Sight s k st f → mover < f .form → f .form < beside → Ahead s k st f values
+      part (sees-gone e q) h l = absurd (omega arith)
+      part (sees-mover e o m) h l = absurd (omega arith)
+      part (sees-alone e i) h l =
+          record { frame = _; inside = i; waits = λ on p. refl; changes = λ off on p. refl }
+      part (sees-before e o q i z) h l =
+          record { frame = _; inside = i; waits = λ on p. refl; changes = λ off on p. refl }
+      part (sees-watched e n i z) h l =
+          record { frame = _; inside = i; waits = λ on p. refl; changes = λ off on p. rw (off e) }
+      part (sees-guarded e n a i z) h l =
+          record { frame = _; inside = i; waits = λ on p. rw (on e); changes = λ off on p. rw (on e) }
+      part (sees-beside e o g u i j z) h l = absurd (omega (arith, beside-above e))
+
+  signalled : watched ≤ f .form → f .form ≤ guarded → Signalled s k st f values
+  unfolding suspended change
+  signalled = part sees
+    where
+      part : Sight s k st f → watched ≤ f .form → f .form ≤ guarded → Signalled s k st f values
+      part (sees-gone e q) h l = absurd (omega arith)
+      part (sees-mover e o m) h l = absurd (omega arith)
+      part (sees-alone e i) h l = absurd (omega (arith, alone-within e))
+      part (sees-before e o q i z) h l = absurd (omega arith)
+      part (sees-watched e n i z) h l =
+          record { known = n; ends = λ u on. rw (i .whole, on) z; shuts = λ u off. absurd (omega arith) }
+      part (sees-guarded e n a i z) h l =
+          record {
+            known = n;
+            ends = λ u on. absurd (omega arith);
+            shuts = λ u off. record { waits = rw (i .whole, off); same = rw (i .whole, off) };
+          }
+      part (sees-beside e o g u i j z) h l = absurd (omega (arith, beside-above e))
+
+  pub signal-known : watched ≤ f .form → f .form ≤ guarded → signalAt s k < length values
+  signal-known h l = omega (arith, signalled h l .known, found .valued .named)
+
+  pub ends :
+      f .form ≡ watched → present values (signalAt s k) ≡ true → left s k (set st 0 4) ≡ change (left s k st) values
+  ends e = signalled (omega arith) (omega arith) .ends e
+
+  pub shuts : f .form ≡ guarded → present values (signalAt s k) ≡ false → Stays (left s k st) values true
+  shuts e = signalled (omega arith) (omega arith) .shuts e
+
+  pub stays : f .form ≤ mover → Stays (left s k st) values false
+  unfolding suspended change
+  stays = part sees
+    where
+      part : Sight s k st f → f .form ≤ mover → Stays (left s k st) values false
+      part (sees-gone e q) h = rw q (record { waits = refl; same = refl })
+      part (sees-mover e o m) h =
+          mover-stays st values (node-view s (found .valued .checked) k (found .at .known)) o m
+      part (sees-alone e i) h = absurd (omega (arith, alone-within e))
+      part (sees-before e o q i z) h = absurd (omega arith)
+      part (sees-watched e n i z) h = absurd (omega arith)
+      part (sees-guarded e n l i z) h = absurd (omega arith)
+      part (sees-beside e o g u i j z) h = absurd (omega (arith, beside-above e))
+
+  -- whether it is suspended, where no when is shut
+  module _ (h : mover < f .form) (on : f .form ≡ guarded → present values (signalAt s k) ≡ true) where
+    abbrev front : Proc ℕ
+    front = left s (f .child) (partIn f st)
+
     -- the part in front is awake
-    pub awake-front : suspended (left s (f .child) (partIn f st)) values ≡ false → suspended (left s k st) values ≡ false
+    pub awake-front : suspended front values ≡ false → suspended (left s k st) values ≡ false
     unfolding suspended
     awake-front w =
         elim (decLt (f .form) beside) [
-          | yes l ↦ let a = ahead sees h l in rw (a .inside .whole, a .waits on (left s (f .child) (partIn f st))) w
-          | no n ↦ rw (rear-part at sees (omega arith) .whole, w)
+          | yes l ↦ let a = ahead h l in rw (a .inside .whole, a .waits on front) w
+          | no n ↦ rw (rear-part (omega arith) .whole, w)
         ]
 
     -- it waits, and so does the node if nothing behind it could move
     pub waiting-front :
-        {r : Bool} → suspended (left s (f .child) (partIn f st)) values ≡ true → RearWaits s k st values (f .form) r →
-        r ≡ suspended (left s k st) values
+        {waits : Bool} → suspended front values ≡ true → RearWaits s k st values (f .form) waits →
+        waits ≡ suspended (left s k st) values
     unfolding suspended
     waiting-front w b =
         elim (decLt (f .form) beside) [
-          | yes l ↦ let a = ahead sees h l in rw (a .inside .whole, a .waits on (left s (f .child) (partIn f st)), w) (b .none l)
-          | no n ↦ rw (rear-part at sees (omega arith) .whole, w) (b .other (omega arith))
+          | yes l ↦ let a = ahead h l in rw (a .inside .whole, a .waits on front, w) (b .none l)
+          | no n ↦ rw (rear-part (omega arith) .whole, w) (b .other (omega arith))
         ]

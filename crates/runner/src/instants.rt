@@ -4,7 +4,6 @@ use crate::forms::find_front;
 use crate::values;
 use script::layout::Script;
 ghost use mathlib.Core.Path.{_≡_};
-ghost use lib.ListN.{length};
 ghost use Rattle.language.specs.Steps.{change, instantStart};
 ghost use Rattle.language.specs.Calls.{givenBack};
 ghost use Rattle.script.specs.Layout.{nodeCount};

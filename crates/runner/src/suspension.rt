@@ -4,13 +4,12 @@ use crate::forms::find_front;
 use crate::values;
 use script::layout::Script;
 ghost use mathlib.Core.Path.{_≡_};
-ghost use Prim.Native.Nat.{_-_};
 ghost use lib.ListN.{length};
 ghost use Rattle.language.specs.Steps.{suspended};
 ghost use Rattle.script.specs.Layout.{nodeCount};
 ghost use Rattle.script.specs.Tree.{KeepsSizes};
 ghost use Rattle.runner.specs.Residual.{own};
-ghost use Rattle.runner.specs.Forms.{beside, frontOf};
+ghost use Rattle.runner.specs.Forms.{frontOf};
 ghost use Rattle.runner.specs.Contracts.{Valued, At, left, RearWaits};
 
 // The part in front is asked, and of a parallel the other part, too: it is suspended if both are.

@@ -18,7 +18,8 @@ use Rattle.runner.proofs.instants.clear_owned.Statement.{statement}
 use Rattle.runner.proofs.instants.clear_owned.Tie as tie
 
 abbrev Inv-loop : tie.InvT-loop
-Inv-loop s c values₀ n x₀ values x = Renewed (λ x. cond (isSession s x) (held values₀ x) (pos 0)) values₀ x values
+Inv-loop s c values₀ n x₀ values x =
+    Renewed (λ x. cond (isSession s x) (held values₀ x) (pos 0)) values₀ x values
 
 abbrev μ-loop : tie.MeasureT-loop
 μ-loop s c values₀ n x₀ values x = n - x

@@ -17,7 +17,8 @@ use Rattle.runner.proofs.instants.clear_signals.Statement.{statement}
 use Rattle.runner.proofs.instants.clear_signals.Tie as tie
 
 abbrev Inv-loop : tie.InvT-loop
-Inv-loop s c values₀ n x₀ values x = Renewed (λ x. cond (eqb (nameOf s x .kind) 1) (pos 0) (held values₀ x)) values₀ x values
+Inv-loop s c values₀ n x₀ values x =
+    Renewed (λ x. cond (eqb (nameOf s x .kind) 1) (pos 0) (held values₀ x)) values₀ x values
 
 abbrev μ-loop : tie.MeasureT-loop
 μ-loop s c values₀ n x₀ values x = n - x

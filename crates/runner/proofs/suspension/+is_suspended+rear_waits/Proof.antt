@@ -6,13 +6,12 @@ use native.Mathlib.Omega.{arith}
 use lib.ListN.{length}
 use borrow.Author.Tests.{not-true, not-false}
 use Rattle.language.specs.Steps.{present, suspended}
-use Rattle.script.proofs.Views.{node-view}
 use Rattle.runner.specs.Residual.{own}
 use Rattle.runner.specs.Forms.{guarded, frontOf, partIn}
 use Rattle.runner.specs.Contracts.{left}
-use Rattle.runner.proofs.Sights.{signalAt, Sight}
+use Rattle.runner.proofs.Sights.{signalAt}
 use Rattle.runner.proofs.Advancing.{some-bytes}
-use Rattle.runner.proofs.Deciding.{Part, Rear, seen, front-part, rear-part, stays, signalled, awake-front, waiting-front}
+use Rattle.runner.proofs.Deciding.{Found, Part, Rear, front-part, rear-part, stays, signal-known, shuts, awake-front, waiting-front}
 use Prim.Native.Nat.{ℕ, _+_, _*_, _<_}
 use borrow.Fn.Kinds.{In}
 use borrow.Fn.PlainCycle.{Measures, is, falls, and}
@@ -54,88 +53,120 @@ rear-waits-below t =
     and 4 rear-waits-kinds.ps (falls 4 rear-waits-kinds.ps _<_ μ-rear-waits t) rear-waits.Pre
 
 abbrev R : ℕ → is-suspended-lts.Claims
-R t = (find-front-reads.Asked, find-front-reads.Learnt, signal-is-present-reads.Asked, signal-is-present-reads.Learnt, is-suspended-below t, is-suspended.Post, rear-waits-below t, rear-waits.Post)
+R t = (
+  find-front-reads.Asked,
+  find-front-reads.Learnt,
+  signal-is-present-reads.Asked,
+  signal-is-present-reads.Learnt,
+  is-suspended-below t,
+  is-suspended.Post,
+  rear-waits-below t,
+  rear-waits.Post,
+)
 
 abbrev Q : ℕ → rear-waits-lts.Claims
 Q t = (find-front-reads.Asked, find-front-reads.Learnt, is-suspended-below t, is-suspended.Post)
 
--- what is seen of the node
-sees :
+-- the node and its front
+found :
     (t : ℕ) (c : is-suspended-lts.After-find-front (R t) (is-suspended-at t) is-suspended.Post) →
-    let args = c .before .before .before .before .args in Sight (args .s .now) (args .k) (args .state .now) (c .find-front .result)
-sees t c = let pre = c .before .before .before .before .pre .1 in seen (pre .1 .1) (pre .0) (c .find-front .ensures)
+    let args = c .before .before .before .before .args in
+    Found (args .s .now) (args .c) (args .values .now) (args .k) (args .state .now) (c .find-front .result)
+found t c =
+    let pre = c .before .before .before .before .pre .1 in
+    record { valued = pre .0; at = pre .1 .1; front = c .find-front .ensures }
 
 -- a when around its part is open
 shown :
     (t : ℕ) (c : is-suspended-lts.Joined2 (R t) (is-suspended-at t) is-suspended.Post) →
-    let args = c .before .before .before .before .before .before .before .before .args in
-    c .before .before .before .before .find-front .result .form ≡ guarded → present (args .values .now) (signalAt (args .s .now) (args .k)) ≡ true
+    let front = c .before .before .before .before in
+    let args = front .before .before .before .before .args in
+    front .find-front .result .form ≡ guarded →
+    present (args .values .now) (signalAt (args .s .now) (args .k)) ≡ true
 shown t c =
-    ⊎-elim
-    (λ w e. sym (w .1 .ensures) ∙ not-false _ (w .2 .left))
-    (λ w e. absurd (w .left e))
-    (c .if2 .came)
+    ⊎-elim (λ w e. sym (w .1 .ensures) ∙ not-false _ (w .2 .left)) (λ w e. absurd (w .left e)) (c .if2 .came)
 
 part :
     (t : ℕ) (c : is-suspended-lts.Joined2 (R t) (is-suspended-at t) is-suspended.Post) →
-    let args = c .before .before .before .before .before .before .before .before .args in Part (args .s .now) (args .k) (args .state .now) (c .before .before .before .before .find-front .result)
-part t c = front-part (c .before .before .before .before .before .before .before .before .pre .1 .1 .1) (sees t (c .before .before .before .before)) (c .before .before .if1 .left)
+    let front = c .before .before .before .before in
+    let args = front .before .before .before .before .args in
+    Part (args .s .now) (args .k) (args .state .now) (front .find-front .result)
+part t c =
+    let ahead = c .before .before in
+    front-part (found t (ahead .before .before)) (ahead .if1 .left)
 
-is-suspended-shared-slice-read-tag : (t : ℕ) → is-suspended-lts.Need-shared-slice-read-tag (R t) (is-suspended-at t) is-suspended.Post
-is-suspended-shared-slice-read-tag t c = let pre = c .before .before .before .pre .1 in some-bytes (pre .1 .1)
+is-suspended-shared-slice-read-tag :
+    (t : ℕ) → is-suspended-lts.Need-shared-slice-read-tag (R t) (is-suspended-at t) is-suspended.Post
+is-suspended-shared-slice-read-tag t c = some-bytes (c .before .before .before .pre .1 .1 .1)
 
-is-suspended-find-front-requires : (t : ℕ) → is-suspended-lts.Need-find-front-requires (R t) (is-suspended-at t) is-suspended.Post
-is-suspended-find-front-requires t c κs = let pre = c .before .before .before .pre .1 in (pre .0 .laid, (pre .0 .checked, (pre .1 .0, pre .1 .1 .known)))
+is-suspended-find-front-requires :
+    (t : ℕ) → is-suspended-lts.Need-find-front-requires (R t) (is-suspended-at t) is-suspended.Post
+is-suspended-find-front-requires t c κs =
+    let pre = c .before .before .before .pre .1 in
+    (pre .0 .laid, (pre .0 .checked, (pre .1 .0, pre .1 .1 .known)))
 
 is-suspended-returns : (t : ℕ) → is-suspended-lts.Need-returns (R t) (is-suspended-at t) is-suspended.Post
-is-suspended-returns t c =
-    let start = c .before .before .before .before .before .before in
-    let view = node-view (start .args .s .now) (start .pre .1 .0 .checked) (start .args .k) (start .pre .1 .1 .1 .known) in
-    sym (stays (start .args .values .now) view (sees t (c .before .before)) (c .if1 .taken) .waits)
+is-suspended-returns t c = sym (stays (found t (c .before .before)) (c .if1 .taken) .waits)
 
-is-suspended-signal-is-present-requires : (t : ℕ) → is-suspended-lts.Need-signal-is-present-requires (R t) (is-suspended-at t) is-suspended.Post
+is-suspended-signal-is-present-requires :
+    (t : ℕ) → is-suspended-lts.Need-signal-is-present-requires (R t) (is-suspended-at t) is-suspended.Post
 is-suspended-signal-is-present-requires t c κs =
-    let pre = c .before .before .before .before .before .before .before .before .pre .1 in
-    let signal = signalled (c .before .before .before .before .before .before .before .before .args .values .now) (sees t (c .before .before .before .before)) (omega (arith, c .if2 .taken)) (omega (arith, c .if2 .taken)) in
-    (pre .0 .laid, (pre .1 .1 .known, omega (arith, signal .known, pre .0 .named)))
+    let front = c .before .before .before .before in
+    let pre = front .before .before .before .before .pre .1 in
+    let known = signal-known (found t front) (omega (arith, c .if2 .taken)) (omega (arith, c .if2 .taken)) in
+    (pre .0 .laid, (pre .1 .1 .known, known))
 
 is-suspended-returns-2 : (t : ℕ) → is-suspended-lts.Need-returns-2 (R t) (is-suspended-at t) is-suspended.Post
 is-suspended-returns-2 t c =
-    let signal = signalled (c .before .before .before .before .before .before .before .before .before .before .args .values .now) (sees t (c .before .before .before .before .before .before)) (omega (arith, c .before .before .if2 .taken)) (omega (arith, c .before .before .if2 .taken)) in
-    sym (signal .shuts (c .before .before .if2 .taken) (sym (c .before .signal-is-present .ensures) ∙ not-true _ (c .if3 .taken)) .waits)
+    let signal = c .before in
+    let opened = signal .before in
+    let front = opened .before .before .before .before in
+    let absent = sym (signal .signal-is-present .ensures) ∙ not-true _ (c .if3 .taken) in
+    sym (shuts (found t front) (opened .if2 .taken) absent .waits)
 
-is-suspended-sub-is-suspended : (t : ℕ) → is-suspended-lts.Need-sub-is-suspended (R t) (is-suspended-at t) is-suspended.Post
+is-suspended-sub-is-suspended :
+    (t : ℕ) → is-suspended-lts.Need-sub-is-suspended (R t) (is-suspended-at t) is-suspended.Post
 is-suspended-sub-is-suspended t c = part t c .order
 
-is-suspended-part-is-suspended-start : (t : ℕ) → is-suspended-lts.Need-part-is-suspended-start (R t) (is-suspended-at t) is-suspended.Post
+is-suspended-part-is-suspended-start :
+    (t : ℕ) → is-suspended-lts.Need-part-is-suspended-start (R t) (is-suspended-at t) is-suspended.Post
 is-suspended-part-is-suspended-start t c = part t c .order
 
-is-suspended-part-is-suspended-end : (t : ℕ) → is-suspended-lts.Need-part-is-suspended-end (R t) (is-suspended-at t) is-suspended.Post
+is-suspended-part-is-suspended-end :
+    (t : ℕ) → is-suspended-lts.Need-part-is-suspended-end (R t) (is-suspended-at t) is-suspended.Post
 is-suspended-part-is-suspended-end t c = part t c .within
 
-is-suspended-is-suspended-requires : (t : ℕ) → is-suspended-lts.Need-is-suspended-requires (R t) (is-suspended-at t) is-suspended.Post
+is-suspended-is-suspended-requires :
+    (t : ℕ) → is-suspended-lts.Need-is-suspended-requires (R t) (is-suspended-at t) is-suspended.Post
 is-suspended-is-suspended-requires t c κs =
     let pre = c .before .before .before .before .before .before .before .before .before .pre in
     (omega (arith, pre .0, part t (c .before) .earlier), (pre .1 .0, (pre .1 .1 .0, part t (c .before) .at)))
 
 is-suspended-returns-3 : (t : ℕ) → is-suspended-lts.Need-returns-3 (R t) (is-suspended-at t) is-suspended.Post
 is-suspended-returns-3 t c =
-    let at = c .before .before .before in
-    sym
-    (awake-front (c .before .before .before .before .before .before .before .before .before .before .before .args .values .now) (c .before .before .before .before .before .before .before .before .before .before .before .pre .1 .1 .1) (sees t (c .before .before .before .before .before .before .before)) (c .before .before .before .before .before .if1 .left) (shown t at)
-    (sym (c .before .is-suspended .ensures) ∙ not-true _ (c .if4 .taken)))
+    let asked = c .before in
+    let opened = asked .before .before in
+    let ahead = opened .before .before in
+    let front = ahead .before .before in
+    let awake = sym (asked .is-suspended .ensures) ∙ not-true _ (c .if4 .taken) in
+    sym (awake-front (found t front) (ahead .if1 .left) (shown t opened) awake)
 
-is-suspended-rear-waits-requires : (t : ℕ) → is-suspended-lts.Need-rear-waits-requires (R t) (is-suspended-at t) is-suspended.Post
+is-suspended-rear-waits-requires :
+    (t : ℕ) → is-suspended-lts.Need-rear-waits-requires (R t) (is-suspended-at t) is-suspended.Post
 is-suspended-rear-waits-requires t c κs =
-    let pre = c .before .before .before .before .before .before .before .before .before .before .before .pre in
-    (omega (arith, pre .0), (pre .1, ap (λ f. f .form) (c .before .before .before .before .before .before .before .find-front .ensures)))
+    let front = c .before .before .before .before .before .before .before in
+    let pre = front .before .before .before .before .pre in
+    (omega (arith, pre .0), (pre .1, ap (λ f. f .form) (front .find-front .ensures)))
 
 is-suspended-returns-4 : (t : ℕ) → is-suspended-lts.Need-returns-4 (R t) (is-suspended-at t) is-suspended.Post
 is-suspended-returns-4 t c =
-    let at = c .before .before .before .before in
-    waiting-front (c .before .before .before .before .before .before .before .before .before .before .before .before .args .values .now) (c .before .before .before .before .before .before .before .before .before .before .before .before .pre .1 .1 .1) (sees t (c .before .before .before .before .before .before .before .before)) (c .before .before .before .before .before .before .if1 .left) (shown t at)
-    (sym (c .before .before .is-suspended .ensures) ∙ not-false _ (c .before .if4 .left))
-    (c .rear-waits .ensures)
+    let joined = c .before in
+    let asked = joined .before in
+    let opened = asked .before .before in
+    let ahead = opened .before .before in
+    let front = ahead .before .before in
+    let waits = sym (asked .is-suspended .ensures) ∙ not-false _ (joined .if4 .left) in
+    waiting-front (found t front) (ahead .if1 .left) (shown t opened) waits (c .rear-waits .ensures)
 
 -- the node is a parallel
 rear :
@@ -145,48 +176,60 @@ rear :
     (frontOf (args .s .now) (args .k) (own (args .state .now)) (length (args .state .now)))
 rear t c =
     let pre = c .before .before .before .pre .1 in
-    rear-part (pre .0 .1 .1) (seen (pre .0 .1 .1) (pre .0 .0) refl) (omega (arith, pre .1, c .if1 .left))
+    rear-part (record { valued = pre .0 .0; at = pre .0 .1 .1; front = refl }) (omega (arith, pre .1, c .if1 .left))
 
 behind :
     (t : ℕ) (c : rear-waits-lts.After-find-front (Q t) (rear-waits-at t) rear-waits.Post) →
-    let args = c .before .before .before .before .before .args in Part (args .s .now) (args .k) (args .state .now) (c .find-front .result)
+    let args = c .before .before .before .before .before .args in
+    Part (args .s .now) (args .k) (args .state .now) (c .find-front .result)
 behind t c = rw (c .find-front .ensures) (rear t (c .before .before) .part)
 
 rear-waits-returns : (t : ℕ) → rear-waits-lts.Need-returns (Q t) (rear-waits-at t) rear-waits.Post
 rear-waits-returns t c = record { none = λ h. refl; other = λ h. absurd (omega (arith, c .if1 .taken)) }
 
-rear-waits-shared-slice-read-tag : (t : ℕ) → rear-waits-lts.Need-shared-slice-read-tag (Q t) (rear-waits-at t) rear-waits.Post
-rear-waits-shared-slice-read-tag t c = let pre = c .before .before .before .before .pre .1 .0 in some-bytes (pre .1 .1)
+rear-waits-shared-slice-read-tag :
+    (t : ℕ) → rear-waits-lts.Need-shared-slice-read-tag (Q t) (rear-waits-at t) rear-waits.Post
+rear-waits-shared-slice-read-tag t c = some-bytes (c .before .before .before .before .pre .1 .0 .1 .1)
 
 rear-waits-sub-find-front : (t : ℕ) → rear-waits-lts.Need-sub-find-front (Q t) (rear-waits-at t) rear-waits.Post
 rear-waits-sub-find-front t c = rear t (c .before) .byte
 
-rear-waits-find-front-requires : (t : ℕ) → rear-waits-lts.Need-find-front-requires (Q t) (rear-waits-at t) rear-waits.Post
-rear-waits-find-front-requires t c κs = let pre = c .before .before .before .before .pre .1 .0 in (pre .0 .laid, (pre .0 .checked, (pre .1 .0, pre .1 .1 .known)))
+rear-waits-find-front-requires :
+    (t : ℕ) → rear-waits-lts.Need-find-front-requires (Q t) (rear-waits-at t) rear-waits.Post
+rear-waits-find-front-requires t c κs =
+    let pre = c .before .before .before .before .pre .1 .0 in
+    (pre .0 .laid, (pre .0 .checked, (pre .1 .0, pre .1 .1 .known)))
 
 rear-waits-sub-is-suspended : (t : ℕ) → rear-waits-lts.Need-sub-is-suspended (Q t) (rear-waits-at t) rear-waits.Post
 rear-waits-sub-is-suspended t c = behind t c .order
 
-rear-waits-part-is-suspended-start : (t : ℕ) → rear-waits-lts.Need-part-is-suspended-start (Q t) (rear-waits-at t) rear-waits.Post
+rear-waits-part-is-suspended-start :
+    (t : ℕ) → rear-waits-lts.Need-part-is-suspended-start (Q t) (rear-waits-at t) rear-waits.Post
 rear-waits-part-is-suspended-start t c = behind t c .order
 
-rear-waits-part-is-suspended-end : (t : ℕ) → rear-waits-lts.Need-part-is-suspended-end (Q t) (rear-waits-at t) rear-waits.Post
+rear-waits-part-is-suspended-end :
+    (t : ℕ) → rear-waits-lts.Need-part-is-suspended-end (Q t) (rear-waits-at t) rear-waits.Post
 rear-waits-part-is-suspended-end t c = behind t c .within
 
-rear-waits-is-suspended-requires : (t : ℕ) → rear-waits-lts.Need-is-suspended-requires (Q t) (rear-waits-at t) rear-waits.Post
+rear-waits-is-suspended-requires :
+    (t : ℕ) → rear-waits-lts.Need-is-suspended-requires (Q t) (rear-waits-at t) rear-waits.Post
 rear-waits-is-suspended-requires t c κs =
     let pre = c .before .before .before .before .before .before .pre in
-    (omega (arith, pre .0, behind t (c .before) .earlier), (pre .1 .0 .0, (pre .1 .0 .1 .0, behind t (c .before) .at)))
+    let part = behind t (c .before) in
+    (omega (arith, pre .0, part .earlier), (pre .1 .0 .0, (pre .1 .0 .1 .0, part .at)))
 
 rear-waits-returns-2 : (t : ℕ) → rear-waits-lts.Need-returns-2 (Q t) (rear-waits-at t) rear-waits.Post
 rear-waits-returns-2 t c =
-    let args = c .before .before .before .before .before .before .before .args in
+    let front = c .before .before in
+    let ahead = front .before .before in
+    let args = ahead .before .before .before .args in
+    let rear = front .find-front .ensures in
     record {
-      none = λ h. absurd (omega (arith, c .before .before .before .before .if1 .left));
+      none = λ h. absurd (omega (arith, ahead .if1 .left));
       other =
           λ h.
           c .is-suspended .ensures
-          ∙ ap (λ f. suspended (left (args .s .now) (f .child) (partIn f (args .state .now))) (args .values .now)) (c .before .before .find-front .ensures);
+          ∙ ap (λ f. suspended (left (args .s .now) (f .child) (partIn f (args .state .now))) (args .values .now)) rear;
     }
 
 pub +is-suspended+rear-waits-spec : {M : Type 1} → statement M
