@@ -123,7 +123,7 @@ mover-stays st values (aParallel e q p r) o m = absurd (no-mover m (inr (omega (
 
 module _ {s : List ℕ} {c : Script} {values : List ℤ} {k : ℕ} {st : List ℕ} {f : Front}
     (found : Found s c values k st f) where
-  sees : Sight s k st f
+  pub sees : Sight s k st f
   sees =
       let at = found .at in
       subst (Sight s k st) (sym (found .front)) (sight s (found .valued .checked) k (at .known) st (at .whole))

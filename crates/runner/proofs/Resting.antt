@@ -74,7 +74,7 @@ module _ (s : List ℕ) (k : ℕ) (st : List ℕ) (f : Front) (vs : List ℤ) wh
   trades (sees-beside (inr e) o g q i j r) h z p =
       moved-as isSuspended e (i .whole) (traded j) (trade inFront (left s (g .child) (partIn g st)) vs z (rear g q (omega (arith, e)) p))
 
-  -- a node that rests with its part: the part stands alone ..
+  -- a node whose part in front stands alone rests with it
   pub rests-alone :
       Sight s k st f → mover < f .form → f .form < before →
       (isNil (left s k st) ≡ isNil inFront) × (suspended (left s k st) vs ≡ suspended inFront vs)
@@ -86,23 +86,6 @@ module _ (s : List ℕ) (k : ℕ) (st : List ℕ) (f : Front) (vs : List ℤ) wh
   rests-alone (sees-guarded e x a i r) h l = absurd (omega (arith, e))
   rests-alone (sees-beside (inl e) o g q i j r) h l = absurd (omega (arith, e))
   rests-alone (sees-beside (inr e) o g q i j r) h l = absurd (omega (arith, e))
-
-  -- .. or it waits, and so does what is behind it
-  pub rests-waiting :
-      Sight s k st f → before ≤ f .form → suspended inFront vs ≡ true → RearWaits s k st vs (f .form) true →
-      suspended (left s k st) vs ≡ true
-  unfolding suspended
-  rests-waiting (sees-gone e r) h z p = absurd (omega (arith, e))
-  rests-waiting (sees-mover e o m) h z p = absurd (omega (arith, e))
-  rests-waiting (sees-alone (inl e) i) h z p = absurd (omega (arith, e))
-  rests-waiting (sees-alone (inr e) i) h z p = absurd (omega (arith, e))
-  rests-waiting (sees-before e o q i r) h z p = rw (i .whole) z
-  rests-waiting (sees-watched e x i r) h z p = rw (i .whole) z
-  rests-waiting (sees-guarded e x a i r) h z p = rw (i .whole) (or-true (not (present vs (signalAt s k))) _ z)
-  rests-waiting (sees-beside (inl e) o g q i j r) h z p =
-      rw (i .whole) (and-intro (suspended inFront vs) _ z (rear g q (omega (arith, e)) p))
-  rests-waiting (sees-beside (inr e) o g q i j r) h z p =
-      rw (i .whole) (and-intro (suspended inFront vs) _ z (rear g q (omega (arith, e)) p))
 
   -- the move of a node whose part in front rests
   pub settles :

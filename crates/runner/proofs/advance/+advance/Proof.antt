@@ -8,7 +8,7 @@ use lib.ListN.{length}
 use Rattle.runner.specs.Moves.{Running, isGone, isSuspended}
 use Rattle.runner.specs.Contracts.{seenIn, runningAt, Advances}
 use Rattle.runner.proofs.Sights.{part-length}
-use Rattle.runner.proofs.Deciding.{seen}
+use Rattle.runner.proofs.Deciding.{sees}
 use Rattle.runner.proofs.Turning.{Going, going, Turn, begins, same-turn, counted, valued, at-node, turns-on, turns-end, part-turn, part-ends, part-rests, front-kept, settled}
 use Prim.Native.Nat.{ℕ, _-_, _/_, _<_}
 use borrow.Fn.Kinds.{In}
@@ -60,7 +60,7 @@ part-goes t c =
     let e = c .before .before .before .before .before .before .before .before .enter in
     let u = in-turn t c in
     going _ _ _ _ _
-    (seen (at-node u (start .pre .1 .1 .1 .0)) (valued u (start .pre .1 .0)) (e .ensures .front (c .if1 .taken)))
+    (sees (record { valued = valued u (start .pre .1 .0); at = at-node u (start .pre .1 .1 .1 .0); front = e .ensures .front (c .if1 .taken) }))
     (e .ensures .part (c .if1 .taken))
     (e .ensures .shown (c .if1 .taken))
 

@@ -11,27 +11,21 @@ use Rattle.runner.specs.declared.forms.Front.{Front}
 use Rattle.runner.specs.Forms.{mover, guarded}
 use Rattle.runner.specs.Moves.{gone, waits}
 use Rattle.runner.specs.Contracts.{into, runningAt, Advances, Enters}
-use Rattle.runner.proofs.Sights.{Sight}
-use Rattle.runner.proofs.Deciding.{Signalled, seen, signalled}
+use Rattle.runner.proofs.Deciding.{Found, sees, signal-known, shuts}
 use Rattle.runner.proofs.Entries.{ends-here, goes-in, nil-seen, not-into}
 use Rattle.runner.proofs.Advancing.{some-bytes, ended}
 use borrow.Author.Needs.{needs}
 use Rattle.runner.proofs.advance.enter.Statement.{statement}
 use Rattle.runner.proofs.advance.enter.Tie as tie
 
--- what is seen of the node
-seen-as :
+-- what is found of the node
+found :
     (c : tie.After-find-front) →
     let start = c .before .before .before .before .before .before in
-    Sight (now (start .args .s)) (start .args .k) (now (start .args .state)) (c .find-front .result)
-seen-as c = let start = c .before .before .before .before .before .before in seen (start .pre .1 .1 .0) (start .pre .0) (c .find-front .ensures)
-
--- where it is a when
-signal :
-    (c : tie.After-find-front) → c .find-front .result .form ≡ guarded →
+    Found (now (start .args .s)) (start .args .c) (now (start .args .values)) (start .args .k) (now (start .args .state)) (c .find-front .result)
+found c =
     let start = c .before .before .before .before .before .before in
-    Signalled (now (start .args .s)) (start .args .k) (now (start .args .state)) (c .find-front .result) (now (start .args .values))
-signal c e = signalled _ (seen-as c) (omega (arith, e)) (omega (arith, e))
+    record { valued = start .pre .0; at = start .pre .1 .1 .0; front = c .find-front .ensures }
 
 two-or-more : (n : ℕ) → (n ≡ 0 → ⊥) → (n ≡ mover → ⊥) → mover < n
 two-or-more n a b = omega (arith, a, b)
@@ -48,7 +42,7 @@ returns : tie.Need-returns
 returns c =
     let start = c .before .before .before .before .before .before .before .before in
     ends-here (λ e. absurd (omega (arith, e))) (ended (start .pre .1 .1 .1 .0 .time) (omega (arith, start .pre .1 .1 .1 .0 .space)) (λ z. absurd (omega (arith, z)))
-    (gone refl (nil-seen (seen-as (c .before .before)) (c .if1 .taken))))
+    (gone refl (nil-seen (sees (found (c .before .before))) (c .if1 .taken))))
 
 move-own-requires : tie.Need-move-own-requires
 move-own-requires c κs =
@@ -74,7 +68,7 @@ signal-is-present-requires c κs =
       start .pre .0 .laid,
       (
         start .pre .1 .1 .0 .known,
-        omega (arith, signal ((c .before .before .before .before .before .before .before)) (c .before .if3 .taken) .known, start .pre .0 .named),
+        signal-known (found (c .before .before .before .before .before .before .before)) (omega (arith, c .before .if3 .taken)) (omega (arith, c .before .if3 .taken)),
       ),
     )
 
@@ -86,7 +80,7 @@ returns-3 c =
     let start = c .before .before .before .before .before .before .before .before .before .before .before .before .before .before .before in
     ends-here (λ e. absurd (omega (arith, e)))
     (ended (start .pre .1 .1 .1 .0 .time) (omega (arith, start .pre .1 .1 .1 .0 .space)) (λ z. absurd (omega (arith, z)))
-    (waits refl (signal ((c .before .before .before .before .before .before .before .before .before)) (c .before .before .before .if3 .taken) .shuts (c .before .before .before .if3 .taken) (sym (c .before .signal-is-present .ensures) ∙ not-true _ (c .if4 .taken)) .waits)))
+    (waits refl (shuts (found (c .before .before .before .before .before .before .before .before .before)) (c .before .before .before .if3 .taken) (sym (c .before .signal-is-present .ensures) ∙ not-true _ (c .if4 .taken)) .waits)))
 
 returns-4 : tie.Need-returns-4
 returns-4 c =

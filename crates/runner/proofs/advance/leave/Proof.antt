@@ -12,17 +12,18 @@ use Rattle.runner.specs.declared.forms.Front.{Front}
 use Rattle.runner.specs.Residual.{own}
 use Rattle.runner.specs.Moves.{Silent}
 use Rattle.runner.specs.Contracts.{left, byteAfter, RearWaits, restsOn, atLimit, makesMove}
-use Rattle.runner.proofs.Sights.{Sight}
-use Rattle.runner.proofs.Deciding.{seen}
+use Rattle.runner.proofs.Deciding.{Found, sees, waiting-front}
 use Rattle.runner.proofs.Advancing.{some-bytes}
-use Rattle.runner.proofs.Resting.{rests-alone, rests-waiting, settles, byte-bound}
+use Rattle.runner.proofs.Resting.{rests-alone, settles, byte-bound}
 use borrow.Author.Needs.{needs}
 use Rattle.runner.proofs.advance.leave.Statement.{statement}
 use Rattle.runner.proofs.advance.leave.Tie as tie
 
--- what is seen of the node
-seen-as : (c : tie.Start) → Sight (now (c .args .s)) (c .args .k) (now (c .args .state)) (c .args .f)
-seen-as c = seen (c .pre .0 .1 .1 .0) (c .pre .0 .0) (c .pre .1 .0)
+-- what is found of the node
+found :
+    (c : tie.Start) →
+    Found (now (c .args .s)) (c .args .c) (now (c .args .values)) (c .args .k) (now (c .args .state)) (c .args .f)
+found c = record { valued = c .pre .0 .0; at = c .pre .0 .1 .1 .0; front = c .pre .1 .0 }
 
 -- the node moves: its part in front is nil, or what is behind it can move in its place
 moves-on :
@@ -35,7 +36,7 @@ moves-on :
     (now (start .args .values))
 moves-on c =
     let start = c .before .before .before .before in
-    settles (now (start .args .s)) (start .args .k) (now (start .args .state)) (start .args .f) (now (start .args .values)) (seen-as start) (start .pre .1 .1) (c .before .if1 .left)
+    settles (now (start .args .s)) (start .args .k) (now (start .args .state)) (start .args .f) (now (start .args .values)) (sees (found start)) (start .pre .1 .1) (c .before .if1 .left)
     (λ e.
     ⊎-elim
     (λ t. subst (RearWaits (now (start .args .s)) (start .args .k) (now (start .args .state)) (now (start .args .values)) (start .args .f .form)) (t .3 .left) (t .2 .ensures))
@@ -46,7 +47,7 @@ returns : tie.Need-returns
 returns c =
     let start = c .before .before .before in
     let r = start .pre .1 .1 in
-    let same = rests-alone (now (start .args .s)) (start .args .k) (now (start .args .state)) (start .args .f) (now (start .args .values)) (seen-as start) (r .part) (c .if1 .taken) in
+    let same = rests-alone (now (start .args .s)) (start .args .k) (now (start .args .state)) (start .args .f) (now (start .args .values)) (sees (found start)) (r .part) (c .if1 .taken) in
     restsOn refl refl refl refl (λ e. same .0 ∙ r .gone e) (λ e. same .1 ∙ r .waits e)
 
 rear-waits-requires : tie.Need-rear-waits-requires
@@ -62,9 +63,7 @@ returns-2 c =
     let start = c .before .before .before .before .before .before .before in
     let r = start .pre .1 .1 in
     restsOn refl refl refl refl (λ e. absurd (omega (arith, e, c .before .before .before .if2 .taken)))
-    (λ e.
-    rests-waiting (now (start .args .s)) (start .args .k) (now (start .args .state)) (start .args .f) (now (start .args .values)) (seen-as start) (c .before .before .before .before .if1 .left) (r .waits e)
-    (subst (RearWaits (now (start .args .s)) (start .args .k) (now (start .args .state)) (now (start .args .values)) (start .args .f .form)) (c .if3 .taken) (c .before .rear-waits .ensures)))
+    (λ e. sym (waiting-front (found start) (r .part) (r .shown) (r .waits e) (subst (RearWaits (now (start .args .s)) (start .args .k) (now (start .args .state)) (now (start .args .values)) (start .args .f .form)) (c .if3 .taken) (c .before .rear-waits .ensures))))
 
 returns-3 : tie.Need-returns-3
 returns-3 c =
@@ -79,7 +78,7 @@ slice-read-byte-after c =
 byte-after-requires : tie.Need-byte-after-requires
 byte-after-requires c κs =
     let start = c .before .before .before .before .before .before .before .before in
-    byte-bound (now (start .args .s)) (start .args .k) (now (start .args .state)) (start .args .f) (now (start .args .values)) (seen-as start) (c .before .before .before .before .before .if1 .left)
+    byte-bound (now (start .args .s)) (start .args .k) (now (start .args .state)) (start .args .f) (now (start .args .values)) (sees (found start)) (c .before .before .before .before .before .if1 .left)
 
 slice-write-state : tie.Need-slice-write-state
 slice-write-state c =
