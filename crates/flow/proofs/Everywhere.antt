@@ -1,0 +1,131 @@
+-- The needs of a script hold exactly when every node has its own; the first node whose need fails.
+-- Assumes nothing.
+use mathlib.Core.Path.{_≡_, refl, sym, ap, _∙_}
+use mathlib.Core.Bool.{Bool, true, false, not, _&&_}
+use mathlib.Core.List.{List}
+use Prim.Native.Nat.{ℕ, zero, suc, _-_, _<_}
+use native.Mathlib.Nat.{not-suc-le-zero}
+use native.Mathlib.Decide.{decLt}
+use native.Mathlib.Omega.{arith}
+use lib.Dec.{eqb}
+use borrow.Author.Tests.{eq-eqb, eqb-true, not-true, not-false}
+use Rattle.prelude.proofs.Bools.{and-intro, and-left, and-right, same-truth, fails}
+use Rattle.prelude.proofs.Searches.{first-is, first-none, first-at-end}
+use Rattle.lattice.specs.Lattice.{Lattice}
+use Rattle.language.specs.Levels.{needs}
+use Rattle.script.specs.Layout.{layoutOf, nodeCount}
+use Rattle.script.specs.Entries.{partOf, node, firstChild, secondChild}
+use Rattle.script.specs.Tree.{namesOf, processOf, tree}
+use Rattle.script.specs.Checked.{Checked}
+use Rattle.script.proofs.Layouts.{few-bounds}
+use Rattle.flow.specs.Kinds.{childCount, childrenOf}
+use Rattle.flow.specs.Flow.{needAt, firstFailing, Under, itself, inFirst, inSecond, Smallest, FailsUnder}
+use Rattle.flow.proofs.ByKind.{needsOf, needs-by-kind}
+use Rattle.flow.proofs.Shapes.{Children, none, one, two, children}
+use Rattle.flow.proofs.UnderLast.{under-last}
+
+module _ (𝓛 : Lattice ℕ) (s : List ℕ) (ok : Checked s) where
+  abbrev needsAt : ℕ → Bool
+  needsAt k = needs 𝓛 (namesOf s) (processOf s k)
+
+  module _ (k : ℕ) where
+    abbrev ofChildren : Bool
+    ofChildren = needsOf 𝓛 (namesOf s) (childrenOf (processOf s k))
+
+    own-need : needsAt k ≡ true → needAt 𝓛 s k ≡ true
+    own-need e = and-left (needAt 𝓛 s k) ofChildren (needs-by-kind 𝓛 (namesOf s) (processOf s k) ∙ e)
+
+    children-need : needsAt k ≡ true → ofChildren ≡ true
+    children-need e = and-right (needAt 𝓛 s k) ofChildren (needs-by-kind 𝓛 (namesOf s) (processOf s k) ∙ e)
+
+    abbrev first : ℕ
+    first = firstChild (partOf s (node s k))
+
+    abbrev second : ℕ
+    second = secondChild (partOf s (node s k))
+
+    first-need :
+        Children s k → 0 < childCount (partOf s (node s k) .kind) → needsAt k ≡ true →
+        (first < k) × (needsAt first ≡ true)
+    first-need (none n q) h e = absurd (omega arith)
+    first-need (one n q a) h e =
+        (a, and-left (needsAt first) true (sym (ap (needsOf 𝓛 (namesOf s)) q) ∙ children-need e))
+    first-need (two n q a b) h e =
+        (a, and-left (needsAt first) (needsAt second && true) (sym (ap (needsOf 𝓛 (namesOf s)) q) ∙ children-need e))
+
+    second-need :
+        Children s k → 1 < childCount (partOf s (node s k) .kind) → needsAt k ≡ true →
+        (second < k) × (needsAt second ≡ true)
+    second-need (none n q) h e = absurd (omega arith)
+    second-need (one n q a) h e = absurd (omega arith)
+    second-need (two n q a b) h e = (
+      b,
+      and-left (needsAt second) true
+          (and-right (needsAt first) (needsAt second && true) (sym (ap (needsOf 𝓛 (namesOf s)) q) ∙ children-need e)),
+    )
+
+    -- what a node and its children need makes its process's needs
+    all-needs :
+        Children s k → needAt 𝓛 s k ≡ true → ((j : ℕ) → j < k → needsAt j ≡ true) → needsAt k ≡ true
+    all-needs c own below =
+        sym (needs-by-kind 𝓛 (namesOf s) (processOf s k)) ∙ and-intro (needAt 𝓛 s k) ofChildren own (go c)
+      where
+        go : Children s k → ofChildren ≡ true
+        go (none n q) = ap (needsOf 𝓛 (namesOf s)) q
+        go (one n q a) = ap (needsOf 𝓛 (namesOf s)) q ∙ and-intro (needsAt first) true (below first a) refl
+        go (two n q a b) =
+            ap (needsOf 𝓛 (namesOf s)) q
+            ∙ and-intro (needsAt first) (needsAt second && true) (below first a)
+            (and-intro (needsAt second) true (below second b) refl)
+
+  need-under : {k j : ℕ} → Under s k j → k < nodeCount s → needsAt k ≡ true → needAt 𝓛 s j ≡ true
+  need-under {k} itself h e = own-need k e
+  need-under {k} (inFirst c u) h e =
+      let w = first-need k (children s ok k h) c e in need-under u (omega (arith, w .0)) (w .1)
+  need-under {k} (inSecond c u) h e =
+      let w = second-need k (children s ok k h) c e in need-under u (omega (arith, w .0)) (w .1)
+
+  last : nodeCount s - 1 < nodeCount s
+  last = omega (arith, few-bounds (layoutOf s) (ok .laid .few) .1 .1 .0)
+
+  pub everywhere :
+      needs 𝓛 (namesOf s) (tree s) ≡ true → (k : ℕ) → k < nodeCount s → needAt 𝓛 s k ≡ true
+  everywhere e k h = need-under (under-last s ok k h) last e
+
+  module _ (all : (k : ℕ) → k < nodeCount s → needAt 𝓛 s k ≡ true) where
+    enough-below : (n k : ℕ) → k < n → k < nodeCount s → needsAt k ≡ true
+    enough-below zero k l h = absurd (not-suc-le-zero l)
+    enough-below (suc n) k l h =
+        all-needs k (children s ok k h) (all k h) (λ j b. enough-below n j (omega arith) (omega arith))
+
+    pub enough : needs 𝓛 (namesOf s) (tree s) ≡ true
+    enough = enough-below (nodeCount s) (nodeCount s - 1) last last
+
+  pub needs-first : needs 𝓛 (namesOf s) (tree s) ≡ eqb (firstFailing 𝓛 s) (nodeCount s)
+  needs-first =
+      same-truth _ _
+      (λ e. eq-eqb _ _ (first-none (λ k. not (needAt 𝓛 s k)) (nodeCount s) (λ k h. ap not (everywhere e k h))))
+      (λ e.
+      enough
+      (λ k h.
+      not-false _ (first-at-end (λ k. not (needAt 𝓛 s k)) (nodeCount s) (eqb-true _ _ e) k h)))
+
+  -- the smallest failing node under the last is the first of all
+  pub failing-first : (r : ℕ) → Smallest (FailsUnder 𝓛 s (nodeCount s - 1)) (nodeCount s) r → r ≡ firstFailing 𝓛 s
+  failing-first r w =
+      elim (decLt r (nodeCount s)) [
+        | yes l ↦
+            sym (first-is (λ k. not (needAt 𝓛 s k)) (nodeCount s) r l (ap not (w .holds l .1)) passed)
+        | no l ↦
+            let e : r ≡ nodeCount s = omega (arith, w .within) in
+            e ∙ sym (first-none (λ k. not (needAt 𝓛 s k)) (nodeCount s) (λ k h. passed k (omega arith)))
+      ]
+    where
+      passed : (k : ℕ) → k < r → not (needAt 𝓛 s k) ≡ false
+      passed k h =
+          fails (not (needAt 𝓛 s k))
+          (λ e.
+          omega (
+            arith,
+            w .least k (under-last s ok k (omega (arith, w .within)), not-true (needAt 𝓛 s k) e),
+          ))

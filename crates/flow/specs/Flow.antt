@@ -1,0 +1,121 @@
+-- Write level, test level and first failing node of a checked script under a checked book; what the walks ask and give.
+use mathlib.Core.Path.{_≡_}
+use mathlib.Core.Bool.{Bool, false, not}
+use mathlib.Core.List.{List}
+use Prim.Native.Nat.{ℕ, _≤_, _<_}
+use Rattle.prelude.specs.Search.{first}
+use Rattle.lattice.specs.declared.book.Book.{Book}
+use Rattle.lattice.specs.Order as orders
+use Rattle.lattice.specs.Order.{Relation, leastUpper, greatestLower, LevelLattice}
+use Rattle.lattice.specs.LevelBook.{mostLevels, atOrBelow}
+use Rattle.lattice.specs.Bounds.{Keeps}
+use Rattle.lattice.specs.Lattice.{Lattice, latticeOf}
+use Rattle.language.specs.Levels.{expLevel, writeLevel, testLevel, need}
+use Rattle.script.specs.declared.layout.Script.{Script}
+use Rattle.script.specs.declared.entries.Part.{Part}
+use Rattle.script.specs.Layout.{nodeCount, Laid}
+use Rattle.script.specs.Entries.{partOf, node, firstChild, secondChild}
+use Rattle.script.specs.Tree.{namesOf, expressionOf, processOf, tree}
+use Rattle.script.specs.Checked.{Checked, Levelled}
+use Rattle.flow.specs.declared.levels.Levels.{Levels}
+use Rattle.flow.specs.declared.levels.Flow.{Flow}
+use Rattle.flow.specs.declared.nodes.Own.{Own}
+use Rattle.flow.specs.Kinds.{childCount}
+use Rattle.flow.specs.Nodes.{ownOf}
+
+-- row 11: 'a need above fails', at 'first node': node k has its need
+abbrev pub needAt : Lattice ℕ → List ℕ → ℕ → Bool
+needAt 𝓛 s k = need 𝓛 (namesOf s) (processOf s k)
+
+-- the first node whose need fails, or the number of nodes
+abbrev pub firstFailing : Lattice ℕ → List ℕ → ℕ
+firstFailing 𝓛 s = first (λ k. not (needAt 𝓛 s k)) (nodeCount s)
+
+-- node j lies under node k: it is k, or it lies under a child of k
+pub data Under (s : List ℕ) : ℕ → ℕ → Type 0 where
+  itself : {k : ℕ} → Under s k k
+  inFirst :
+      {k j : ℕ} → 0 < childCount (partOf s (node s k) .kind) → Under s (firstChild (partOf s (node s k))) j → Under s k j
+  inSecond :
+      {k j : ℕ} → 1 < childCount (partOf s (node s k) .kind) → Under s (secondChild (partOf s (node s k))) j → Under s k j
+
+-- the smallest number that P holds of, or n if it holds of none below n
+pub record Smallest (P : ℕ → Type 0) (n r : ℕ) : Type 0 where
+  pub within : r ≤ n
+  pub holds : r < n → P r
+  pub least : (j : ℕ) → P j → r ≤ j
+
+-- the nodes under k whose need fails
+abbrev pub FailsUnder : Lattice ℕ → List ℕ → ℕ → ℕ → Type 0
+FailsUnder 𝓛 s k j = Under s k j × (needAt 𝓛 s j ≡ false)
+
+-- a book with its top and bottom, and its lattice
+abbrev pub orderOf : Book → Relation
+orderOf b = atOrBelow (b .rows)
+
+abbrev pub levelsOf : Book → Levels
+levelsOf b = record { book = b; top = orders.top (orderOf b) (b .count); bottom = orders.bottom (orderOf b) (b .count) }
+
+abbrev pub lattice : Levels → Lattice ℕ
+lattice l = latticeOf (orderOf (l .book)) (l .book .count)
+
+-- the book is a lattice of at most 16 levels, and beside it stand its own top and bottom
+pub record Ordered (l : Levels) : Type 0 where
+  pub laws : LevelLattice (orderOf (l .book)) (l .book .count)
+  pub few : l .book .count ≤ mostLevels
+  pub own : l ≡ levelsOf (l .book)
+
+-- What a walk asks: a checked script with its layout and a checked book, which has a level for each name.
+pub record Ready (s : List ℕ) (c : Script) (l : Levels) : Type 0 where
+  pub laid : Laid s c
+  pub checked : Checked s
+  pub levelled : Levelled s (l .book .count)
+  pub ordered : Ordered l
+
+-- the table of joins, and of meets, of a book
+abbrev pub Joins : Levels → List (List ℕ) → Type 0
+Joins l t = Keeps t (l .book .count) (leastUpper (orderOf (l .book)) (l .book .count))
+
+abbrev pub Meets : Levels → List (List ℕ) → Type 0
+Meets l t = Keeps t (l .book .count) (greatestLower (orderOf (l .book)) (l .book .count))
+
+-- p has the bytes of node k
+pub record IsNodeAt (s : List ℕ) (p : Part) (k : ℕ) : Type 0 where
+  pub known : k < nodeCount s
+  pub same : p ≡ partOf s (node s k)
+
+abbrev pub IsNode : List ℕ → Part → Type 0
+IsNode s p = (k : ℕ) × IsNodeAt s p k
+
+-- levels below n
+pub record OwnWithin (n : ℕ) (own : Own) : Type 0 where
+  pub level : own .level < n
+  pub name : own .name < n
+
+pub record FlowWithin (n : ℕ) (f : Flow) : Type 0 where
+  pub write : f .write < n
+  pub test : f .test < n
+
+-- What the walks find: of an expression, ..
+pub record LevelAt (l : Levels) (s : List ℕ) (e level : ℕ) : Type 0 where
+  pub same : level ≡ expLevel (lattice l) (namesOf s) (expressionOf s e)
+  pub inside : level < l .book .count
+
+-- .. of what a node with these bytes brings itself, ..
+pub record OwnOf (l : Levels) (s : List ℕ) (p : Part) (own : Own) : Type 0 where
+  pub same : (k : ℕ) → IsNodeAt s p k → own ≡ ownOf (lattice l) (namesOf s) (processOf s k)
+  pub inside : OwnWithin (l .book .count) own
+
+-- .. of a node with all that lies under it, ..
+pub record FlowAt (l : Levels) (s : List ℕ) (k : ℕ) (f : Flow) : Type 0 where
+  pub write : f .write ≡ writeLevel (lattice l) (namesOf s) (processOf s k)
+  pub test : f .test ≡ testLevel (lattice l) (namesOf s) (processOf s k)
+  pub inside : FlowWithin (l .book .count) f
+  pub failing : Smallest (FailsUnder (lattice l) s k) (nodeCount s) (f .failing)
+
+-- .. of the whole script
+pub record FlowOf (l : Levels) (s : List ℕ) (f : Flow) : Type 0 where
+  pub write : f .write ≡ writeLevel (lattice l) (namesOf s) (tree s)
+  pub test : f .test ≡ testLevel (lattice l) (namesOf s) (tree s)
+  pub inside : FlowWithin (l .book .count) f
+  pub failing : f .failing ≡ firstFailing (lattice l) s
