@@ -1,7 +1,12 @@
 -- What a node of a checked file has, from what it brings itself and what its children have.
 -- Assumes nothing.
+<<<<<<< HEAD
 use mathlib.Core.Path.{_≡_, refl, sym, ap, ap₂, _∙_, subst}
 use mathlib.Core.Bool.{Bool, true, false, cond, _&&_, _||_, true≢false}
+=======
+use mathlib.Core.Path.{_≡_, sym, ap, ap₂, _∙_, subst}
+use mathlib.Core.Bool.{Bool, true, cond, _&&_, _||_}
+>>>>>>> cd02c451946993146d0fe3bdf2b35f2515119082
 use mathlib.Core.List.{List, [], _∷_}
 use mathlib.Core.Logic.{_⊎_, inl, inr, ⊎-elim}
 use Prim.Native.Nat.{ℕ, _<_}
@@ -12,9 +17,14 @@ use Rattle.prelude.proofs.Bools.{by-cases}
 use Rattle.lattice.specs.LevelBook.{atOrBelow}
 use Rattle.lattice.specs.Bounds.{kept}
 use Rattle.language.specs.Syntax.{Proc}
+<<<<<<< HEAD
 use Rattle.language.specs.Levels.{writeLevel, testLevel, need}
 use Rattle.script.specs.declared.layout.Script.{Script}
 use Rattle.script.specs.declared.entries.Part.{Part}
+=======
+use Rattle.language.specs.Levels.{writeLevel, testLevel}
+use Rattle.script.specs.declared.layout.Script.{Script}
+>>>>>>> cd02c451946993146d0fe3bdf2b35f2515119082
 use Rattle.script.specs.Layout.{nodeCount}
 use Rattle.script.specs.Entries.{partOf, node, firstChild, secondChild}
 use Rattle.script.specs.Tree.{namesOf, processOf}
@@ -25,6 +35,7 @@ use Rattle.flow.specs.declared.nodes.Own.{Own}
 use Rattle.flow.specs.Kinds as kind
 use Rattle.flow.specs.Kinds.{kindOf, hasWrite, hasTest, childCount, childrenOf}
 use Rattle.flow.specs.Nodes.{ownOf, writeFrom, testFrom, ownNeed, pairNeed, bothFrom, flowFrom}
+<<<<<<< HEAD
 use Rattle.flow.specs.Flow.{needAt, Under, itself, inFirst, inSecond, Smallest, FailsUnder, lattice, Ordered, Ready, Joins, Meets, OwnWithin, FlowWithin, IsNodeAt, OwnOf, FlowAt}
 use Rattle.flow.proofs.BookLevels.{top-is, bottom-is, top-inside, bottom-inside, order-said, join-kept, meet-kept, join-inside, meet-inside, write-inside, test-inside}
 use Rattle.flow.proofs.ByKind.{together, pairHolds, write-by-kind, test-by-kind, need-by-kind}
@@ -83,6 +94,22 @@ module _ (l : Levels) (s : List ℕ) (k : ℕ) where
         ⊎-elim (λ q. subst (FailsUnder (lattice l) s k) q (itself, e)) (λ u. (under-below j (u .0), u .1)))
         (λ j u. ⊎-elim inl (λ b. inr (b, u .1)) (under-cases j (u .0)))
         (smallest-either (λ j. k ≡ j) (nodeCount s) FailsBelow k f only w)
+=======
+use Rattle.flow.specs.Flow.{needAt, Smallest, FailsUnder, lattice, Ready, Joins, Meets, OwnWithin, FlowWithin, FlowAt}
+use Rattle.flow.proofs.BookLevels.{top-is, bottom-is, top-inside, bottom-inside, order-said, join-kept, meet-kept, join-inside, meet-inside, write-inside, test-inside}
+use Rattle.flow.proofs.ByKind.{together, pairHolds, write-by-kind, test-by-kind, need-by-kind}
+use Rattle.flow.proofs.Shapes.{Children, none, one, two, kind-is}
+use Rattle.flow.proofs.FailingNodes.{FailsBelow, passes, fails}
+use Rattle.flow.proofs.Least.{smallest-none, smallest-same, smallest-either}
+
+-- what the children of node k have together, and whether it has what it needs of two children
+pub record PartsAt (l : Levels) (s : List ℕ) (k : ℕ) (parts : Flow) (pair : Bool) : Type 0 where
+  pub write : parts .write ≡ together (lattice l) (namesOf s) (childrenOf (processOf s k)) .write
+  pub test : parts .test ≡ together (lattice l) (namesOf s) (childrenOf (processOf s k)) .test
+  pub need : pair ≡ pairHolds (lattice l) (namesOf s) (partOf s (node s k) .kind) (childrenOf (processOf s k))
+  pub inside : FlowWithin (l .book .count) parts
+  pub failing : Smallest (FailsBelow l s k) (nodeCount s) (parts .failing)
+>>>>>>> cd02c451946993146d0fe3bdf2b35f2515119082
 
 -- node k, from its children together
 module _ {s : List ℕ} {c : Script} {l : Levels} (ready : Ready s c l) (k : ℕ) (h : k < nodeCount s) where
@@ -154,16 +181,25 @@ module _ {s : List ℕ} {c : Script} {l : Levels} (ready : Ready s c l) (k : ℕ
   abbrev second : ℕ
   second = secondChild (partOf s (node s k))
 
+<<<<<<< HEAD
   first-view : Children s k → (count ≡ 0 → ⊥) → first < k
+=======
+  pub first-view : Children s k → (count ≡ 0 → ⊥) → first < k
+>>>>>>> cd02c451946993146d0fe3bdf2b35f2515119082
   first-view (none n q) m = absurd (m n)
   first-view (one n q a) m = a
   first-view (two n q a b) m = a
 
+<<<<<<< HEAD
   second-view : Children s k → (count ≡ 0 → ⊥) → (count ≡ 1 → ⊥) → second < k
+=======
+  pub second-view : Children s k → (count ≡ 0 → ⊥) → (count ≡ 1 → ⊥) → second < k
+>>>>>>> cd02c451946993146d0fe3bdf2b35f2515119082
   second-view (none n q) l m = absurd (l n)
   second-view (one n q a) l m = absurd (m n)
   second-view (two n q a b) l m = b
 
+<<<<<<< HEAD
   parts-none :
       Children s k → count ≡ 0 → (f : Flow) → f ≡ record { write = l .top; test = l .bottom; failing = c .nodes } →
       PartsAt l s k f true
@@ -188,6 +224,26 @@ module _ {s : List ℕ} {c : Script} {l : Levels} (ready : Ready s c l) (k : ℕ
   parts-none (two n q a b) m f e = absurd (omega arith)
 
   parts-one : Children s k → count ≡ 1 → (f : Flow) → FlowAt l s first f → PartsAt l s k f true
+=======
+  pub parts-none :
+      Children s k → count ≡ 0 →
+      PartsAt l s k (record { write = l .top; test = l .bottom; failing = c .nodes }) true
+  parts-none (none n q) m =
+      record {
+        write = top-is (ready .ordered) ∙ sym (ap (λ ps. together (lattice l) (namesOf s) ps .write) q);
+        test = bottom-is (ready .ordered) ∙ sym (ap (λ ps. together (lattice l) (namesOf s) ps .test) q);
+        need = sym (ap (pairHolds (lattice l) (namesOf s) (partOf s (node s k) .kind)) q);
+        inside = record { write = top-inside (ready .ordered); test = bottom-inside (ready .ordered) };
+        failing =
+            subst (Smallest (FailsBelow l s k) (nodeCount s)) (sym (nodes-are (ready .laid)))
+            (smallest-none (FailsBelow l s k) (nodeCount s)
+            (λ j u. ⊎-elim (λ h. absurd (omega (arith, h .0))) (λ h. absurd (omega (arith, h .0))) (u .0)));
+      }
+  parts-none (one n q a) m = absurd (omega arith)
+  parts-none (two n q a b) m = absurd (omega arith)
+
+  pub parts-one : Children s k → count ≡ 1 → (f : Flow) → FlowAt l s first f → PartsAt l s k f true
+>>>>>>> cd02c451946993146d0fe3bdf2b35f2515119082
   parts-one (none n q) m f a = absurd (omega arith)
   parts-one (one n q b) m f a =
       record {
@@ -254,7 +310,11 @@ module _ {s : List ℕ} {c : Script} {l : Levels} (ready : Ready s c l) (k : ℕ
         (a .failing)
         (b .failing))
 
+<<<<<<< HEAD
     parts-two :
+=======
+    pub parts-two :
+>>>>>>> cd02c451946993146d0fe3bdf2b35f2515119082
         Children s k → (count ≡ 0 → ⊥) → (count ≡ 1 → ⊥) → (r : Flow) → r ≡ bothFrom (kept join) (kept meet) f g →
         (p : Bool) → p ≡ pairNeed (atOrBelow (l .book .rows)) (partOf s (node s k) .kind) f g → PartsAt l s k r p
     parts-two (none n q) m₀ m₁ r e p d = absurd (m₀ n)
@@ -270,6 +330,7 @@ module _ {s : List ℕ} {c : Script} {l : Levels} (ready : Ready s c l) (k : ℕ
           failing =
               subst (λ f. Smallest (FailsBelow l s k) (nodeCount s) (f .failing)) (sym e) (failing-both n);
         }
+<<<<<<< HEAD
 
 -- what is known where node k has been read: its part, what it brings itself, and how many children it has
 pub record Read
@@ -364,3 +425,5 @@ module _
       flow-at (read .ready) k (read .at .known) own parts pair (read .brings .same k (read .at)) (read .brings .inside) at
       r
       (e ∙ ap (λ p. flowFrom (lattice l .join) (lattice l .leq) k (p .kind) own parts pair) (read .at .same))
+=======
+>>>>>>> cd02c451946993146d0fe3bdf2b35f2515119082
