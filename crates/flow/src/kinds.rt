@@ -6,20 +6,14 @@ ghost use lib.Dec.{eqb};
 ghost use Rattle.script.specs.Roles.{nodeKinds};
 ghost use Rattle.flow.specs.Kinds.{hasSignal, hasTest, childCount};
 
-<<<<<<< HEAD
-=======
 // Expressions: those of the kinds between have two operands.
->>>>>>> cd02c451946993146d0fe3bdf2b35f2515119082
 pub const CONSTANT: usize = 0;
 
 pub const REGISTER: usize = 1;
 
 pub const NOT: usize = 8;
 
-<<<<<<< HEAD
-=======
 // Nodes.
->>>>>>> cd02c451946993146d0fe3bdf2b35f2515119082
 pub const ASSIGN: usize = 1;
 
 pub const LET: usize = 2;

@@ -25,10 +25,7 @@ pub struct Own {
     pub name: usize,
 }
 
-<<<<<<< HEAD
-=======
 // What the node of part p brings itself.
->>>>>>> cd02c451946993146d0fe3bdf2b35f2515119082
 pub fn own_levels(s: &[u8], c: Script, l: Levels, join: &PairTable, p: Part) -> Own
     requires { ⌜ Ready (now s) c l × (Joins l (now join) × IsNode (now s) p) ⌝ }
     ensures { λ r. ⌜ OwnOf l (now (s .entry)) p r ⌝ }
@@ -105,10 +102,7 @@ fn own_need(b: Book, kind: usize, own: Own, write: usize, test: usize) -> bool
     true
 }
 
-<<<<<<< HEAD
-=======
 // W of a node: that of its name, if it assigns or emits; else that of its children.
->>>>>>> cd02c451946993146d0fe3bdf2b35f2515119082
 fn write_of(kind: usize, own: Own, parts: Flow) -> usize
     ensures { λ r. ⌜ r ≡ writeFrom kind own parts ⌝ }
 {
@@ -118,10 +112,7 @@ fn write_of(kind: usize, own: Own, parts: Flow) -> usize
     parts.write
 }
 
-<<<<<<< HEAD
-=======
 // T of a node: that of its children, joined with D, if it tests.
->>>>>>> cd02c451946993146d0fe3bdf2b35f2515119082
 fn test_of(join: &PairTable, kind: usize, own: Own, parts: Flow) -> usize
     requires { ⌜ OwnWithin mostLevels own × FlowWithin mostLevels parts ⌝ }
     ensures { λ r. ⌜ r ≡ testFrom (kept (now (join .entry))) kind own parts ⌝ }
