@@ -1,0 +1,2 @@
+-- Laws that the proofs of several functions use, and the theorems of the crate.
+pub mod Preparing
