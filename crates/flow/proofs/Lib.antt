@@ -5,7 +5,9 @@ pub mod OwnViews
 pub mod ByKind
 pub mod Least
 pub mod Shapes
+pub mod FailingNodes
 pub mod NodeFlows
+pub mod NodeReads
 pub mod UnderLast
 pub mod Everywhere
 pub mod Theorems

@@ -1,7 +1,7 @@
 -- What a node of a checked file has, from what it brings itself and what its children have.
 -- Assumes nothing.
-use mathlib.Core.Path.{_≡_, refl, sym, ap, ap₂, _∙_, subst}
-use mathlib.Core.Bool.{Bool, true, false, cond, _&&_, _||_, true≢false}
+use mathlib.Core.Path.{_≡_, sym, ap, ap₂, _∙_, subst}
+use mathlib.Core.Bool.{Bool, true, cond, _&&_, _||_}
 use mathlib.Core.List.{List, [], _∷_}
 use mathlib.Core.Logic.{_⊎_, inl, inr, ⊎-elim}
 use Prim.Native.Nat.{ℕ, _<_}
@@ -12,9 +12,8 @@ use Rattle.prelude.proofs.Bools.{by-cases}
 use Rattle.lattice.specs.LevelBook.{atOrBelow}
 use Rattle.lattice.specs.Bounds.{kept}
 use Rattle.language.specs.Syntax.{Proc}
-use Rattle.language.specs.Levels.{writeLevel, testLevel, need}
+use Rattle.language.specs.Levels.{writeLevel, testLevel}
 use Rattle.script.specs.declared.layout.Script.{Script}
-use Rattle.script.specs.declared.entries.Part.{Part}
 use Rattle.script.specs.Layout.{nodeCount}
 use Rattle.script.specs.Entries.{partOf, node, firstChild, secondChild}
 use Rattle.script.specs.Tree.{namesOf, processOf}
@@ -25,64 +24,20 @@ use Rattle.flow.specs.declared.nodes.Own.{Own}
 use Rattle.flow.specs.Kinds as kind
 use Rattle.flow.specs.Kinds.{kindOf, hasWrite, hasTest, childCount, childrenOf}
 use Rattle.flow.specs.Nodes.{ownOf, writeFrom, testFrom, ownNeed, pairNeed, bothFrom, flowFrom}
-use Rattle.flow.specs.Flow.{needAt, Under, itself, inFirst, inSecond, Smallest, FailsUnder, lattice, Ordered, Ready, Joins, Meets, OwnWithin, FlowWithin, IsNodeAt, OwnOf, FlowAt}
+use Rattle.flow.specs.Flow.{needAt, Smallest, FailsUnder, lattice, Ready, Joins, Meets, OwnWithin, FlowWithin, FlowAt}
 use Rattle.flow.proofs.BookLevels.{top-is, bottom-is, top-inside, bottom-inside, order-said, join-kept, meet-kept, join-inside, meet-inside, write-inside, test-inside}
 use Rattle.flow.proofs.ByKind.{together, pairHolds, write-by-kind, test-by-kind, need-by-kind}
-use Rattle.flow.proofs.Shapes.{Children, none, one, two, children, kind-is}
+use Rattle.flow.proofs.Shapes.{Children, none, one, two, kind-is}
+use Rattle.flow.proofs.FailingNodes.{FailsBelow, passes, fails}
 use Rattle.flow.proofs.Least.{smallest-none, smallest-same, smallest-either}
 
-module _ (l : Levels) (s : List ℕ) (k : ℕ) where
-  abbrev part : Part
-  part = partOf s (node s k)
-
-  abbrev process : Proc ℕ
-  process = processOf s k
-
-  -- node j lies under a child of k
-  abbrev Below : ℕ → Type 0
-  Below j =
-      ((0 < childCount (part .kind)) × Under s (firstChild part) j)
-      ⊎ ((1 < childCount (part .kind)) × Under s (secondChild part) j)
-
-  abbrev FailsBelow : ℕ → Type 0
-  FailsBelow j = Below j × (needAt (lattice l) s j ≡ false)
-
-  under-cases : (j : ℕ) → Under s k j → (k ≡ j) ⊎ Below j
-  under-cases j itself = inl refl
-  under-cases j (inFirst h u) = inr (inl (h, u))
-  under-cases j (inSecond h u) = inr (inr (h, u))
-
-  under-below : (j : ℕ) → Below j → Under s k j
-  under-below j = ⊎-elim (λ h. inFirst (h .0) (h .1)) (λ h. inSecond (h .0) (h .1))
-
-  -- what the children of node k have together
-  pub record PartsAt (parts : Flow) (pair : Bool) : Type 0 where
-    pub write : parts .write ≡ together (lattice l) (namesOf s) (childrenOf process) .write
-    pub test : parts .test ≡ together (lattice l) (namesOf s) (childrenOf process) .test
-    pub need : pair ≡ pairHolds (lattice l) (namesOf s) (part .kind) (childrenOf process)
-    pub inside : FlowWithin (l .book .count) parts
-    pub failing : Smallest FailsBelow (nodeCount s) (parts .failing)
-
-  -- node k among the failing ones
-  module _ (h : k < nodeCount s) (f : ℕ) (w : Smallest FailsBelow (nodeCount s) f) where
-    passes : needAt (lattice l) s k ≡ true → Smallest (FailsUnder (lattice l) s k) (nodeCount s) f
-    passes e =
-        smallest-same FailsBelow (nodeCount s) (FailsUnder (lattice l) s k) f (λ j u. (under-below j (u .0), u .1))
-        (λ j u.
-        ⊎-elim (λ q. absurd (true≢false (sym e ∙ ap (needAt (lattice l) s) q ∙ u .1))) (λ b. (b, u .1))
-        (under-cases j (u .0)))
-        w
-
-    only : Smallest (λ j. k ≡ j) (nodeCount s) k
-    only = record { within = omega arith; holds = λ _. refl; least = λ j e. omega arith }
-
-    fails : needAt (lattice l) s k ≡ false → Smallest (FailsUnder (lattice l) s k) (nodeCount s) (lesser k f)
-    fails e =
-        smallest-same (λ j. (k ≡ j) ⊎ FailsBelow j) (nodeCount s) (FailsUnder (lattice l) s k) (lesser k f)
-        (λ j.
-        ⊎-elim (λ q. subst (FailsUnder (lattice l) s k) q (itself, e)) (λ u. (under-below j (u .0), u .1)))
-        (λ j u. ⊎-elim inl (λ b. inr (b, u .1)) (under-cases j (u .0)))
-        (smallest-either (λ j. k ≡ j) (nodeCount s) FailsBelow k f only w)
+-- what the children of node k have together, and whether it has what it needs of two children
+pub record PartsAt (l : Levels) (s : List ℕ) (k : ℕ) (parts : Flow) (pair : Bool) : Type 0 where
+  pub write : parts .write ≡ together (lattice l) (namesOf s) (childrenOf (processOf s k)) .write
+  pub test : parts .test ≡ together (lattice l) (namesOf s) (childrenOf (processOf s k)) .test
+  pub need : pair ≡ pairHolds (lattice l) (namesOf s) (partOf s (node s k) .kind) (childrenOf (processOf s k))
+  pub inside : FlowWithin (l .book .count) parts
+  pub failing : Smallest (FailsBelow l s k) (nodeCount s) (parts .failing)
 
 -- node k, from its children together
 module _ {s : List ℕ} {c : Script} {l : Levels} (ready : Ready s c l) (k : ℕ) (h : k < nodeCount s) where
@@ -154,40 +109,34 @@ module _ {s : List ℕ} {c : Script} {l : Levels} (ready : Ready s c l) (k : ℕ
   abbrev second : ℕ
   second = secondChild (partOf s (node s k))
 
-  first-view : Children s k → (count ≡ 0 → ⊥) → first < k
+  pub first-view : Children s k → (count ≡ 0 → ⊥) → first < k
   first-view (none n q) m = absurd (m n)
   first-view (one n q a) m = a
   first-view (two n q a b) m = a
 
-  second-view : Children s k → (count ≡ 0 → ⊥) → (count ≡ 1 → ⊥) → second < k
+  pub second-view : Children s k → (count ≡ 0 → ⊥) → (count ≡ 1 → ⊥) → second < k
   second-view (none n q) l m = absurd (l n)
   second-view (one n q a) l m = absurd (m n)
   second-view (two n q a b) l m = b
 
-  parts-none :
-      Children s k → count ≡ 0 → (f : Flow) → f ≡ record { write = l .top; test = l .bottom; failing = c .nodes } →
-      PartsAt l s k f true
-  parts-none (none n q) m f e =
+  pub parts-none :
+      Children s k → count ≡ 0 →
+      PartsAt l s k (record { write = l .top; test = l .bottom; failing = c .nodes }) true
+  parts-none (none n q) m =
       record {
-        write =
-            ap (λ f. f .write) e ∙ top-is (ready .ordered)
-            ∙ sym (ap (λ ps. together (lattice l) (namesOf s) ps .write) q);
-        test =
-            ap (λ f. f .test) e ∙ bottom-is (ready .ordered)
-            ∙ sym (ap (λ ps. together (lattice l) (namesOf s) ps .test) q);
+        write = top-is (ready .ordered) ∙ sym (ap (λ ps. together (lattice l) (namesOf s) ps .write) q);
+        test = bottom-is (ready .ordered) ∙ sym (ap (λ ps. together (lattice l) (namesOf s) ps .test) q);
         need = sym (ap (pairHolds (lattice l) (namesOf s) (partOf s (node s k) .kind)) q);
-        inside =
-            subst (FlowWithin (l .book .count)) (sym e)
-            (record { write = top-inside (ready .ordered); test = bottom-inside (ready .ordered) });
+        inside = record { write = top-inside (ready .ordered); test = bottom-inside (ready .ordered) };
         failing =
-            subst (Smallest (FailsBelow l s k) (nodeCount s)) (sym (ap (λ f. f .failing) e ∙ nodes-are (ready .laid)))
+            subst (Smallest (FailsBelow l s k) (nodeCount s)) (sym (nodes-are (ready .laid)))
             (smallest-none (FailsBelow l s k) (nodeCount s)
             (λ j u. ⊎-elim (λ h. absurd (omega (arith, h .0))) (λ h. absurd (omega (arith, h .0))) (u .0)));
       }
-  parts-none (one n q a) m f e = absurd (omega arith)
-  parts-none (two n q a b) m f e = absurd (omega arith)
+  parts-none (one n q a) m = absurd (omega arith)
+  parts-none (two n q a b) m = absurd (omega arith)
 
-  parts-one : Children s k → count ≡ 1 → (f : Flow) → FlowAt l s first f → PartsAt l s k f true
+  pub parts-one : Children s k → count ≡ 1 → (f : Flow) → FlowAt l s first f → PartsAt l s k f true
   parts-one (none n q) m f a = absurd (omega arith)
   parts-one (one n q b) m f a =
       record {
@@ -254,7 +203,7 @@ module _ {s : List ℕ} {c : Script} {l : Levels} (ready : Ready s c l) (k : ℕ
         (a .failing)
         (b .failing))
 
-    parts-two :
+    pub parts-two :
         Children s k → (count ≡ 0 → ⊥) → (count ≡ 1 → ⊥) → (r : Flow) → r ≡ bothFrom (kept join) (kept meet) f g →
         (p : Bool) → p ≡ pairNeed (atOrBelow (l .book .rows)) (partOf s (node s k) .kind) f g → PartsAt l s k r p
     parts-two (none n q) m₀ m₁ r e p d = absurd (m₀ n)
@@ -270,97 +219,3 @@ module _ {s : List ℕ} {c : Script} {l : Levels} (ready : Ready s c l) (k : ℕ
           failing =
               subst (λ f. Smallest (FailsBelow l s k) (nodeCount s) (f .failing)) (sym e) (failing-both n);
         }
-
--- what is known where node k has been read: its part, what it brings itself, and how many children it has
-pub record Read
-    (s : List ℕ) (c : Script) (l : Levels) (join meet : List (List ℕ)) (k : ℕ) (p : Part) (own : Own)
-    (m : ℕ) : Type 0 where
-  pub ready : Ready s c l
-  pub joins : Joins l join
-  pub meets : Meets l meet
-  pub at : IsNodeAt s p k
-  pub brings : OwnOf l s p own
-  pub count : m ≡ childCount (p .kind)
-
-module _
-    {s : List ℕ} {c : Script} {l : Levels} {join meet : List (List ℕ)} {k : ℕ} {p : Part} {own : Own} {m : ℕ}
-    (read : Read s c l join meet k p own m) where
-  shape : Children s k
-  shape = children s (read .ready .checked) k (read .at .known)
-
-  count-is : m ≡ childCount (partOf s (node s k) .kind)
-  count-is = read .count ∙ ap (λ p. childCount (p .kind)) (read .at .same)
-
-  -- what the walk asks of a node below k
-  abbrev Asks : ℕ → Type 0
-  Asks j = (j < k) × (Ready s c l × (Joins l join × (Meets l meet × (j < c .nodes))))
-
-  asks : (j : ℕ) → j < k → Asks j
-  asks j h = (
-    h,
-    (
-      read .ready,
-      (read .joins, (read .meets, omega (arith, h, read .at .known, nodes-are (read .ready .laid)))),
-    ),
-  )
-
-  pub none-parts : m ≡ 0 → PartsAt l s k (record { write = l .top; test = l .bottom; failing = c .nodes }) true
-  none-parts z = parts-none (read .ready) k (read .at .known) shape (sym count-is ∙ z) _ refl
-
-  module _ {i : ℕ} (first-child : i ≡ firstChild p) where
-    first-same : i ≡ firstChild (partOf s (node s k))
-    first-same = first-child ∙ ap firstChild (read .at .same)
-
-    pub first-asks : (m ≡ 0 → ⊥) → Asks i
-    first-asks n =
-        asks i (omega (arith, first-same, first-view (read .ready) k (read .at .known) shape (λ z. n (count-is ∙ z))))
-
-    pub one-parts : m ≡ 1 → {f : Flow} → FlowAt l s i f → PartsAt l s k f true
-    one-parts z {f} a =
-        parts-one (read .ready) k (read .at .known) shape (sym count-is ∙ z) f
-        (subst (λ j. FlowAt l s j f) first-same a)
-
-    module _ {j : ℕ} (second-child : j ≡ secondChild p) (n₀ : m ≡ 0 → ⊥) (n₁ : m ≡ 1 → ⊥) where
-      second-same : j ≡ secondChild (partOf s (node s k))
-      second-same = second-child ∙ ap secondChild (read .at .same)
-
-      pub second-asks : Asks j
-      second-asks =
-          asks j
-          (omega (
-            arith,
-            second-same,
-            second-view (read .ready) k (read .at .known) shape (λ z. n₀ (count-is ∙ z)) (λ z. n₁ (count-is ∙ z)),
-          ))
-
-      pub two-parts :
-          {f g : Flow} → FlowAt l s i f → FlowAt l s j g → {r : Flow} → r ≡ bothFrom (kept join) (kept meet) f g →
-          {b : Bool} → b ≡ pairNeed (atOrBelow (l .book .rows)) (p .kind) f g → PartsAt l s k r b
-      two-parts {f} {g} a d {r} e {b} q =
-          parts-two (read .ready) k (read .at .known) f g (subst (λ j. FlowAt l s j f) first-same a)
-          (subst (λ j. FlowAt l s j g) second-same d)
-          join
-          meet
-          (read .joins)
-          (read .meets)
-          shape
-          (λ z. n₀ (count-is ∙ z))
-          (λ z. n₁ (count-is ∙ z))
-          r
-          e
-          b
-          (q ∙ ap (λ p. pairNeed (atOrBelow (l .book .rows)) (p .kind) f g) (read .at .same))
-
-  -- what `node_flow` asks
-  pub node-asks :
-      {parts : Flow} → FlowWithin (l .book .count) parts →
-      Ordered l × (Joins l join × (OwnWithin (l .book .count) own × FlowWithin (l .book .count) parts))
-  node-asks inside = (read .ready .ordered, (read .joins, (read .brings .inside, inside)))
-
-  pub node-at :
-      {parts : Flow} {pair : Bool} → PartsAt l s k parts pair → {r : Flow} →
-      r ≡ flowFrom (lattice l .join) (lattice l .leq) k (p .kind) own parts pair → FlowAt l s k r
-  node-at {parts} {pair} at {r} e =
-      flow-at (read .ready) k (read .at .known) own parts pair (read .brings .same k (read .at)) (read .brings .inside) at
-      r
-      (e ∙ ap (λ p. flowFrom (lattice l .join) (lattice l .leq) k (p .kind) own parts pair) (read .at .same))

@@ -12,8 +12,8 @@ use Rattle.lattice.specs.Bounds.{Keeps}
 use Rattle.lattice.specs.Lattice.{Lattice, latticeOf}
 use Rattle.language.specs.Levels.{expLevel, writeLevel, testLevel, need}
 use Rattle.script.specs.declared.layout.Script.{Script}
-use Rattle.script.specs.Layout.{nodeCount, Laid}
 use Rattle.script.specs.declared.entries.Part.{Part}
+use Rattle.script.specs.Layout.{nodeCount, Laid}
 use Rattle.script.specs.Entries.{partOf, node, firstChild, secondChild}
 use Rattle.script.specs.Tree.{namesOf, expressionOf, processOf, tree}
 use Rattle.script.specs.Checked.{Checked, Levelled}
@@ -45,6 +45,7 @@ pub record Smallest (P : ℕ → Type 0) (n r : ℕ) : Type 0 where
   pub holds : r < n → P r
   pub least : (j : ℕ) → P j → r ≤ j
 
+-- the nodes under k whose need fails
 abbrev pub FailsUnder : Lattice ℕ → List ℕ → ℕ → ℕ → Type 0
 FailsUnder 𝓛 s k j = Under s k j × (needAt 𝓛 s j ≡ false)
 

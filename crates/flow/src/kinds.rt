@@ -6,12 +6,14 @@ ghost use lib.Dec.{eqb};
 ghost use Rattle.script.specs.Roles.{nodeKinds};
 ghost use Rattle.flow.specs.Kinds.{hasSignal, hasTest, childCount};
 
+// Expressions: those of the kinds between have two operands.
 pub const CONSTANT: usize = 0;
 
 pub const REGISTER: usize = 1;
 
 pub const NOT: usize = 8;
 
+// Nodes.
 pub const ASSIGN: usize = 1;
 
 pub const LET: usize = 2;

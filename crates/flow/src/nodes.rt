@@ -25,6 +25,7 @@ pub struct Own {
     pub name: usize,
 }
 
+// What the node of part p brings itself.
 pub fn own_levels(s: &[u8], c: Script, l: Levels, join: &PairTable, p: Part) -> Own
     requires { ⌜ Ready (now s) c l × (Joins l (now join) × IsNode (now s) p) ⌝ }
     ensures { λ r. ⌜ OwnOf l (now (s .entry)) p r ⌝ }
@@ -101,6 +102,7 @@ fn own_need(b: Book, kind: usize, own: Own, write: usize, test: usize) -> bool
     true
 }
 
+// W of a node: that of its name, if it assigns or emits; else that of its children.
 fn write_of(kind: usize, own: Own, parts: Flow) -> usize
     ensures { λ r. ⌜ r ≡ writeFrom kind own parts ⌝ }
 {
@@ -110,6 +112,7 @@ fn write_of(kind: usize, own: Own, parts: Flow) -> usize
     parts.write
 }
 
+// T of a node: that of its children, joined with D, if it tests.
 fn test_of(join: &PairTable, kind: usize, own: Own, parts: Flow) -> usize
     requires { ⌜ OwnWithin mostLevels own × FlowWithin mostLevels parts ⌝ }
     ensures { λ r. ⌜ r ≡ testFrom (kept (now (join .entry))) kind own parts ⌝ }

@@ -9,7 +9,8 @@ use Rattle.script.proofs.Layouts.{few-bounds, expressions-are, nodes-are}
 use Rattle.flow.specs.Flow.{FlowWithin, IsNodeAt}
 use Rattle.flow.proofs.BookLevels.{flow-index}
 use Rattle.flow.proofs.Shapes.{kind-below}
-use Rattle.flow.proofs.NodeFlows.{PartsAt, Read, none-parts, first-asks, one-parts, second-asks, two-parts, node-asks, node-at}
+use Rattle.flow.proofs.NodeFlows.{PartsAt}
+use Rattle.flow.proofs.NodeReads.{Read, none-parts, first-asks, one-parts, second-asks, two-parts, node-asks, node-at}
 use Prim.Native.Nat.{ℕ, _+_, _<_}
 use borrow.Fn.Kinds.{In}
 use borrow.Fn.PlainCycle.{Measures, is, falls, and}
