@@ -5,3 +5,4 @@ pub mod Seen
 pub mod Passing
 pub mod Records
 pub mod Theorems
+pub mod Worked

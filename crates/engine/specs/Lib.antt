@@ -5,3 +5,4 @@ pub mod Contracts
 pub mod Records
 pub mod Results
 pub mod Interface
+pub mod Examples
