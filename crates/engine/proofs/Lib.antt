@@ -1,5 +1,8 @@
--- Laws that the proofs of the two calls use, and the theorems about them.
+-- Laws that the proofs of the functions use, and the theorems about the two calls.
+pub mod Preparing
+pub mod Outs
 pub mod Seen
 pub mod Passing
 pub mod Records
 pub mod Theorems
+pub mod Worked

@@ -1,13 +1,13 @@
 -- What the inner functions ask for and promise.
 use mathlib.Core.Path.{_≡_}
-use mathlib.Core.Bool.{true}
+use mathlib.Core.Bool.{true, false}
 use mathlib.Core.List.{List}
-use Prim.Native.Nat.{ℕ, _<_}
+use Prim.Native.Nat.{ℕ, _≤_, _<_}
 use lib.IntN.{ℤ}
 use Rattle.prelude.specs.declared.Refusal.{Refusal}
 use Rattle.prelude.specs.Refusals.{passes}
 use Rattle.lattice.specs.declared.book.Book.{Book}
-use Rattle.lattice.specs.LevelBook.{atOrBelow}
+use Rattle.lattice.specs.LevelBook.{mostLevels, atOrBelow}
 use Rattle.lattice.specs.Load.{noBook, bookOf}
 use Rattle.lattice.specs.Lattice.{bookLattice}
 use Rattle.language.specs.Levels.{writeLevel, testLevel}
@@ -24,6 +24,8 @@ pub record Prepares (b s : List ℕ) (r : Prepared) : Type 0 where
   pub refusal : r .refusal ≡ checkRefusal b s
   pub book : passes (checkRefusal b s) ≡ true → r .book ≡ bookOf b
   pub layout : passes (checkRefusal b s) ≡ true → r .script ≡ layoutOf s
+  pub none : passes (checkRefusal b s) ≡ false → (r .write ≡ 0) × (r .test ≡ 0)
+  pub few : (r .write ≤ mostLevels) × (r .test ≤ mostLevels)
   pub write : passes (checkRefusal b s) ≡ true → r .write ≡ writeLevel (bookLattice b) (namesOf s) (tree s)
   pub test : passes (checkRefusal b s) ≡ true → r .test ≡ testLevel (bookLattice b) (namesOf s) (tree s)
 

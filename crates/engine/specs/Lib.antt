@@ -4,3 +4,5 @@ pub mod Answers
 pub mod Contracts
 pub mod Records
 pub mod Results
+pub mod Interface
+pub mod Examples

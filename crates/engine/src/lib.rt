@@ -1,6 +1,7 @@
 // The two calls on a level book and a script file. They take any bytes and numbers.
 mod prepare; // prepare.rt: book and script are checked, refusals 1 to 11
 mod values; // values.rt: refusals 12 to 14, and which names the reader sees
+pub mod interface; // interface.rt: the calls for C
 
 use prelude::Refusal;
 use script::layout::Script;

@@ -1,25 +1,37 @@
-use borrow.Author.Needs.{needs}
+-- `check`: what was prepared is the answer.
+use mathlib.Core.Path.{_≡_, refl, sym, ap, _∙_}
+use mathlib.Core.Bool.{Bool, true, false}
+use mathlib.Core.List.{List}
+use Prim.Native.Nat.{ℕ}
+use native.Mathlib.Omega.{arith}
+use denote.Ref.{now}
+use Rattle.prelude.specs.declared.Refusal.{Refusal}
+use Rattle.prelude.specs.Refusals.{passes}
+use Rattle.engine.specs.declared.prepare.Prepared.{Prepared}
+use Rattle.engine.specs.Refusals.{checkRefusal}
+use Rattle.engine.specs.Answers.{verdictBy, verdict}
+use Rattle.engine.specs.Contracts.{Prepares}
+use borrow.Author.Needs.{needs, fits-under}
 use Rattle.engine.proofs.check.Statement.{statement}
 use Rattle.engine.proofs.check.Tie as tie
-use Rattle.engine.proofs.check.Reads as reads
-use Rattle.engine.proofs.check.Lts as lts
-use Rattle.engine.proofs.prepare.prepare.Reads as prepare-reads
 
--- src/lib.rt:32:9
+-- by whether it is refused
+answers : (b s : List ℕ) (r : Prepared) → Prepares b s r → (t : Bool) → passes (checkRefusal b s) ≡ t → verdictBy (r .refusal) (r .write) (r .test) ≡ verdict b s
+unfolding verdict
+answers b s r p true e = rw (p .refusal, e, p .write e, p .test e)
+answers b s r p false e = rw (p .refusal, e, p .none e .0, p .none e .1)
+
 prepare-requires : tie.Need-prepare-requires
 prepare-requires c κs = search needs
 
--- src/lib.rt:36:16
 cast-t4 : tie.Need-cast-t4
-cast-t4 c = ?
+cast-t4 c = fits-under _ _ 17 (omega (arith, c .before .prepare .ensures .few)) tt
 
--- src/lib.rt:37:15
 cast-t5 : tie.Need-cast-t5
-cast-t5 c = ?
+cast-t5 c = fits-under _ _ 17 (omega (arith, c .before .before .prepare .ensures .few)) tt
 
--- src/lib.rt:29:1
 returns : tie.Need-returns
-returns c = ?
+returns c = answers _ _ (c .before .before .prepare .result) (c .before .before .prepare .ensures) _ refl
 
 pub check-spec : {M : Type 1} → statement M
 check-spec = tie.close (tie.spec prepare-requires cast-t4 cast-t5 returns)

@@ -1,0 +1,47 @@
+// The two calls for C. A slice is a pointer and then a length in elements. An `out` of another length than 4 or 6 is left
+// untouched, and nothing else happens.
+ghost use mathlib.Core.Path.{_≡_};
+ghost use Rattle.engine.specs.Answers.{verdict, left};
+ghost use Rattle.engine.specs.Interface.{verdictWords, reportWords, whereAsked};
+
+// `out` becomes number, place, W, T.
+#[no_mangle]
+pub extern "C" fn station_check(book: &[u8], script: &[u8], out: &mut [u32])
+    ensures { λ _. ⌜ now (out .exit) ≡ whereAsked 4 (now (out .entry)) (verdictWords (verdict (now (book .entry)) (now (script .entry)))) (now (out .entry)) ⌝ }
+{
+    if out.len() != 4 {
+        return;
+    }
+    let v = crate::check(book, script);
+    out[0] = v.number;
+    out[1] = v.place;
+    out[2] = v.write;
+    out[3] = v.test;
+}
+
+// `out` becomes number, place, ending, steps, instants, lines.
+#[no_mangle]
+pub extern "C" fn station_run(
+    book: &[u8],
+    script: &[u8],
+    reader: u32,
+    values: &mut [i32],
+    limit: u32,
+    log: &mut [u32],
+    out: &mut [u32],
+)
+    ensures { λ _. ⌜ now (out .exit) ≡ whereAsked 6 (now (out .entry)) (reportWords (left (now (book .entry)) (now (script .entry)) reader (now (values .entry)) limit (now (log .entry)) .report)) (now (out .entry)) ⌝ }
+    ensures { λ _. ⌜ now (values .exit) ≡ whereAsked 6 (now (out .entry)) (left (now (book .entry)) (now (script .entry)) reader (now (values .entry)) limit (now (log .entry)) .values) (now (values .entry)) ⌝ }
+    ensures { λ _. ⌜ now (log .exit) ≡ whereAsked 6 (now (out .entry)) (left (now (book .entry)) (now (script .entry)) reader (now (values .entry)) limit (now (log .entry)) .log) (now (log .entry)) ⌝ }
+{
+    if out.len() != 6 {
+        return;
+    }
+    let r = crate::run(book, script, reader, values, limit, log);
+    out[0] = r.number;
+    out[1] = r.place;
+    out[2] = r.ending;
+    out[3] = r.steps;
+    out[4] = r.instants;
+    out[5] = r.lines;
+}
