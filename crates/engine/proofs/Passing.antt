@@ -1,9 +1,9 @@
 -- What a call that is not refused has: of its book and script, and of its values.
 -- Assumes nothing.
 use mathlib.Core.Path.{_≡_, refl, sym, _∙_}
-use mathlib.Core.Bool.{Bool, true, false, cond, not, _||_, true≢false, false≢true}
+use mathlib.Core.Bool.{Bool, true, false, cond, not, _||_, true≢false}
 use mathlib.Core.List.{List}
-use Prim.Native.Nat.{ℕ, _≤_, _<_}
+use Prim.Native.Nat.{ℕ, _≤_}
 use native.Mathlib.Decide.{decLt}
 use native.Mathlib.Omega.{arith}
 use lib.Dec.{eqb, ltb}
@@ -26,11 +26,11 @@ use Rattle.script.specs.Refusals as scripts
 use Rattle.script.specs.Checked.{Checked}
 use Rattle.script.specs.Tree.{namesOf, tree}
 use Rattle.script.proofs.Theorems.{accepted-exactly}
-use Rattle.flow.specs.Flow.{needAt, firstFailing}
+use Rattle.flow.specs.Flow.{firstFailing}
 use Rattle.flow.proofs.Theorems.{needs-everywhere}
 use Rattle.engine.specs.Refusals.{orElse, flowRefusal, checkRefusal, valueIsRight, firstWrong, valuesRefusal, callRefusal, runRefusal}
 
--- a refusal passes where none is found
+-- a row of the table passes where no fault is found, and where what it tests is right
 module _ (number place : ℕ) (refuses : passes (refusedBy number place) ≡ false) where
   found-passes : (first n : ℕ) → first ≤ n → passes (cond (ltb first n) (refusedBy number place) notRefused) ≡ eqb first n
   found-passes first n h =
@@ -45,6 +45,7 @@ module _ (number place : ℕ) (refuses : passes (refusedBy number place) ≡ fal
   passes-test true rest h = (refl, h)
   passes-test false rest h = absurd (true≢false (sym h ∙ refuses))
 
+-- two rows pass where each does
 module _ (r next : Refusal) where
   passes-both : passes (orElse r next) ≡ true → (passes r ≡ true) × (passes next ≡ true)
   passes-both =
@@ -64,9 +65,13 @@ module _ (b s : List ℕ) where
     pub script : scripts.isAccepted s (count b) ≡ true
     pub flow : needs (bookLattice b) (namesOf s) (tree s) ≡ true
 
+  pub checked : scripts.isAccepted s (count b) ≡ true → Checked s
+  checked h = accepted-exactly .checked s (count b) h .0
+
   flow-passes : Checked s → passes (flowRefusal b s) ≡ needs (bookLattice b) (namesOf s) (tree s)
   flow-passes ok =
-      found-passes 11 (firstFailing (bookLattice b) s) refl (firstFailing (bookLattice b) s) (nodeCount s) (first-within _ (nodeCount s))
+      let f : ℕ = firstFailing (bookLattice b) s in
+      found-passes 11 f refl f (nodeCount s) (first-within _ (nodeCount s))
       ∙ sym (needs-everywhere .first (bookLattice b) s ok)
 
   pub accepted : passes (checkRefusal b s) ≡ true → Accepted
@@ -77,7 +82,7 @@ module _ (b s : List ℕ) where
       record {
         book = one .0;
         script = two .0;
-        flow = sym (flow-passes (accepted-exactly .checked s (count b) (two .0) .0)) ∙ two .1;
+        flow = sym (flow-passes (checked (two .0))) ∙ two .1;
       }
 
   pub accepts : Accepted → passes (checkRefusal b s) ≡ true
@@ -85,13 +90,14 @@ module _ (b s : List ℕ) where
   accepts a =
       both-pass (books.refusal b) (orElse (scripts.refusal s (count b)) (flowRefusal b s)) (a .book)
       (both-pass (scripts.refusal s (count b)) (flowRefusal b s) (a .script)
-      (flow-passes (accepted-exactly .checked s (count b) (a .script) .0) ∙ a .flow))
+      (flow-passes (checked (a .script)) ∙ a .flow))
 
 module _ (s : List ℕ) (values : List ℤ) where
-  -- what row 13 leaves, as far as demand 3 needs it
+  -- what row 13 leaves, as far as demand 3 needs it: 'owned names 0'; past the names nothing is held
   pub record Started : Type 0 where
     pub named : length values ≡ nameCount s
-    pub owned : (x : ℕ) → x < nameCount s → namesOf s .isSession x ≡ false → held values x ≡ pos 0
+    pub past : (x : ℕ) → nameCount s ≤ x → held values x ≡ pos 0
+    pub owned : (x : ℕ) → namesOf s .isSession x ≡ false → held values x ≡ pos 0
 
   right-owned : (x : ℕ) → valueIsRight s values x ≡ true → namesOf s .isSession x ≡ false → held values x ≡ pos 0
   right-owned x h n =
@@ -106,10 +112,19 @@ module _ (s : List ℕ) (values : List ℤ) where
       let n : ℕ = nameCount s in
       let w : ℕ = firstWrong s values in
       let t = passes-test 13 0 refl (eqb (length values) n) _ h in
-      let e : w ≡ n = eqb-true w n (sym (found-passes 13 w refl w n (first-within _ n)) ∙ t .1) in
+      let named : length values ≡ n = eqb-true _ _ (t .0) in
+      let none : w ≡ n = eqb-true w n (sym (found-passes 13 w refl w n (first-within _ n)) ∙ t .1) in
+      let past : (x : ℕ) → n ≤ x → held values x ≡ pos 0 =
+      λ x l. List·getD-eq-default values (pos 0) (omega (arith, named)) in
       record {
-        named = eqb-true _ _ (t .0);
-        owned = λ x l. right-owned x (not-false _ (first-at-end _ n e x l));
+        named = named;
+        past = past;
+        owned =
+            λ x k.
+            elim (decLt x n) [
+              | yes l ↦ right-owned x (not-false _ (first-at-end _ n none x l)) k
+              | no l ↦ past x (omega arith)
+            ];
       }
 
 pub run-accepted :

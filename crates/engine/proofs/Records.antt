@@ -11,7 +11,6 @@ use Rattle.language.specs.Results.{upTo}
 use Rattle.runner.specs.Outcome.{lineWords, words}
 use Rattle.engine.specs.Answers.{leftBy}
 use Rattle.engine.specs.Records.{linesIn, recordOf, stampedUpTo}
-use Rattle.prelude.proofs.Bools.{by-both}
 
 lines-in : (ls : List Line) (rest : List ℕ) → linesIn (length ls) (words ls ++ rest) ≡ map lineWords ls
 unfolding linesIn words
@@ -22,6 +21,7 @@ lines-in (l ∷ ls) rest = ap (λ z. lineWords l ∷ z) (lines-in ls rest)
 pub record-of : (r : Run) (log : List ℕ) → recordOf (leftBy r log) ≡ map lineWords (r .lines)
 record-of r log = lines-in (r .lines) _
 
+-- the stamp of a line is its first word
 pub stamped-words : (n : ℕ) (ls : List Line) → stampedUpTo n (map lineWords ls) ≡ map lineWords (upTo n ls)
 unfolding stampedUpTo upTo
 stamped-words n [] = refl
