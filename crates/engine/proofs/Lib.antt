@@ -6,4 +6,5 @@ pub mod Seen
 pub mod Passing
 pub mod Records
 pub mod Theorems
+pub mod Leaving
 pub mod Worked
