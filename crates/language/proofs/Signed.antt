@@ -136,7 +136,7 @@ same-itself : (a : ℤ) → sameValue a a ≡ true
 same-itself (pos n) = eq-eqb n n refl
 same-itself (negsuc n) = eq-eqb n n refl
 
-same-is : (a b : ℤ) → sameValue a b ≡ true → a ≡ b
+pub same-is : (a b : ℤ) → sameValue a b ≡ true → a ≡ b
 same-is (pos m) (pos n) e = ap pos (eqb-true m n e)
 same-is (pos m) (negsuc n) e = absurd (false≢true e)
 same-is (negsuc m) (pos n) e = absurd (false≢true e)

@@ -1,0 +1,107 @@
+-- What each way out of `run` has to show.
+-- Assumes nothing.
+use mathlib.Core.Path.{_≡_, refl, sym, ap, _∙_, subst}
+use mathlib.Core.Bool.{true, false}
+use mathlib.Core.List.{List}
+use Prim.Native.Nat.{ℕ, _+_, _*_, _/_, _≤_, _<_}
+use native.Mathlib.Nat.{sub-zero, zero-add}
+use native.Mathlib.Omega.{arith}
+use lib.IntN.{ℤ}
+use lib.ListN.{length}
+use Rattle.prelude.specs.declared.Refusal.{Refusal}
+use Rattle.prelude.specs.Refusals.{passes}
+use Rattle.lattice.specs.LevelBook.{count}
+use Rattle.lattice.specs.Lattice.{bookLattice}
+use Rattle.language.specs.Calls.{readable}
+use Rattle.script.specs.Layout.{nameCount}
+use Rattle.script.specs.Checked.{Checked}
+use Rattle.script.specs.Tree.{namesOf}
+use Rattle.runner.specs.declared.Ran.{Ran}
+use Rattle.runner.specs.Outcome.{outcome, recorded}
+use Rattle.runner.specs.Contracts.{seenIn, starting, endingNumber, Gives}
+use Rattle.runner.proofs.Outcomes.{written-is}
+use Rattle.engine.specs.declared.Report.{Report}
+use Rattle.engine.specs.Refusals.{checkRefusal, callRefusal, runRefusal}
+use Rattle.engine.specs.Answers.{runOf, Left, leftBy, refusedLeft, left}
+use Rattle.engine.proofs.Seen.{run-seen, run-few}
+use Rattle.engine.proofs.Theorems.{run-agrees}
+
+module _ (b s : List ℕ) (reader : ℕ) (values : List ℤ) (limit : ℕ) (log : List ℕ) where
+  -- a refused call
+  pub refused-left :
+      {R : Refusal} → R ≡ runRefusal b s reader values limit → passes R ≡ false →
+      refusedLeft R values log ≡ left b s reader values limit log
+  unfolding left
+  refused-left e f = rw (e, ap passes (sym e) ∙ f)
+
+  pub by-check : {R : Refusal} → R ≡ checkRefusal b s → passes R ≡ false → R ≡ runRefusal b s reader values limit
+  unfolding runRefusal
+  by-check e f = e ∙ sym (rw (ap passes (sym e) ∙ f))
+
+  pub by-call :
+      {R : Refusal} → passes (checkRefusal b s) ≡ true → R ≡ callRefusal (count b) s reader values limit →
+      R ≡ runRefusal b s reader values limit
+  unfolding runRefusal
+  by-call p e = e ∙ sym (rw p)
+
+  -- a call that is not refused: what the runner leaves
+  module _ (ok : Checked s) (seen : List ℕ)
+      (agree : (x : ℕ) → x < nameCount s → seenIn seen x ≡ readable (bookLattice b) (namesOf s) reader x) where
+    outcome-is :
+        outcome (namesOf s) (seenIn seen) limit (length log / 4) (starting s values log)
+        ≡ recorded 0 log (runOf b s reader values limit log)
+    unfolding outcome
+    outcome-is =
+        rw (sub-zero limit, sub-zero (length log / 4))
+        (ap (recorded 0 log) (run-seen s ok (seenIn seen) _ agree limit (length log / 4) values))
+
+    -- the report of a run
+    abbrev reported : Ran → Report
+    reported r =
+        record {
+          number = 0;
+          place = 0;
+          ending = r .ending;
+          steps = r .steps;
+          instants = r .instants;
+          lines = r .lines;
+        }
+
+    module _ {r : Ran} {values′ : List ℤ} {log′ : List ℕ}
+        (g :
+        Gives (outcome (namesOf s) (seenIn seen) limit (length log / 4) (starting s values log)) r values′ log′) where
+      given : Gives (recorded 0 log (runOf b s reader values limit log)) r values′ log′
+      given = subst (λ o. Gives o r values′ log′) outcome-is g
+
+      pub few-lines : r .lines ≤ limit
+      few-lines =
+          omega
+          (arith, given .lines, run-few (namesOf s) (readable (bookLattice b) (namesOf s) reader) limit (length log / 4) _)
+
+      module _ (p : passes (runRefusal b s reader values limit) ≡ true) where
+        is : leftBy (runOf b s reader values limit log) log ≡ left b s reader values limit log
+        unfolding left
+        is = sym (rw p)
+
+        pub report-is : reported r ≡ left b s reader values limit log .report
+        report-is =
+            (λ i.
+            record {
+              number = 0;
+              place = 0;
+              ending = given .ending i;
+              steps = given .steps i;
+              instants = given .instants i;
+              lines = (given .lines ∙ zero-add (length (runOf b s reader values limit log .lines))) i;
+            })
+            ∙ ap (λ (l : Left). l .report) is
+
+        pub values-are : values′ ≡ left b s reader values limit log .values
+        values-are = given .final ∙ ap (λ (l : Left). l .values) is
+
+        pub log-is : log′ ≡ left b s reader values limit log .log
+        log-is =
+            given .logged
+            ∙ written-is (runOf b s reader values limit log .lines) log
+            (omega (arith, run-agrees b s reader values limit log .path .inRoom))
+            ∙ ap (λ (l : Left). l .log) is
