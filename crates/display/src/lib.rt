@@ -1,11 +1,16 @@
 // Prints what comes of a script, in the form that 01 gives the program.
 use libc::STDOUT_FILENO;
+use prelude::Refusal;
 ghost use Prim.Native.Nat.{_+_, _*_, _≤_};
 ghost use lib.ListN.{length};
 
 pub fn say(word: &[u8], n: usize) {
     io::write_all(STDOUT_FILENO, word);
     io::print_decimal(STDOUT_FILENO, n as u64);
+}
+
+fn say_word(word: &[u8], n: u32) {
+    say(word, n as usize);
 }
 
 // The number whose two's complement is w.
@@ -23,9 +28,9 @@ pub fn end_line() {
     io::write_all(STDOUT_FILENO, b"\n");
 }
 
-pub fn say_refusal(number: u32, place: u32) {
-    say(b"refused ", number as usize);
-    say(b" ", place as usize);
+pub fn say_refusal(r: Refusal) {
+    say_word(b"refused ", r.number);
+    say_word(b" ", r.place);
     end_line();
 }
 
@@ -33,9 +38,9 @@ pub fn say_refusal(number: u32, place: u32) {
 fn say_line(log: &[u32], at: usize)
     requires { ⌜ at + 4 ≤ length (now log) ⌝ }
 {
-    say(b"", log[at] as usize);
-    say(b" ", log[at + 1] as usize);
-    say(b" ", log[at + 2] as usize);
+    say_word(b"", log[at]);
+    say_word(b" ", log[at + 1]);
+    say_word(b" ", log[at + 2]);
     say_signed(b" ", log[at + 3]);
     end_line();
 }
@@ -67,15 +72,18 @@ pub fn show(book: &[u8], script: &[u8], values: &mut [i32], limit: u32) {
     let v = engine::check(book, script);
     let r = engine::run(book, script, 0, values, limit, &mut log);
     if r.number != 0 {
-        say_refusal(r.number, r.place);
+        say_refusal(Refusal {
+            number: r.number,
+            place: r.place,
+        });
         return;
     }
-    say(b"accepted ", v.write as usize);
-    say(b" ", v.test as usize);
+    say_word(b"accepted ", v.write);
+    say_word(b" ", v.test);
     end_line();
     say_lines(&log, r.lines as usize);
     say_ending(r.ending);
-    say(b" ", r.steps as usize);
-    say(b" ", r.instants as usize);
+    say_word(b" ", r.steps);
+    say_word(b" ", r.instants);
     end_line();
 }

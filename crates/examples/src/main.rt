@@ -1,27 +1,14 @@
 // Prints what the library makes of some level books and script files. What it prints is held to the file stdout.
 mod scripts; // scripts.rt: script files
 
+use display::end_line;
+use display::say;
+use display::say_refusal;
 use lattice::book::Book;
 use lattice::book::PairTable;
 use libc::STDOUT_FILENO;
-use prelude::Refusal;
 ghost use Prim.Native.Nat.{_<_, _≤_};
 ghost use Rattle.lattice.specs.LevelBook.{mostLevels};
-
-fn say(word: &[u8], n: usize) {
-    io::write_all(STDOUT_FILENO, word);
-    io::print_decimal(STDOUT_FILENO, n as u64);
-}
-
-fn end_line() {
-    io::write_all(STDOUT_FILENO, b"\n");
-}
-
-fn say_refusal(r: Refusal) {
-    say(b"refused ", r.number as usize);
-    say(b" ", r.place as usize);
-    end_line();
-}
 
 // The levels that a table keeps for level i and each level.
 fn say_row(t: &PairTable, n: usize, i: usize)
@@ -93,7 +80,4 @@ fn main() {
     scripts::show(
         b"\x00\x00\xff\xff\x00\x00\x00\x00\x00\x00\x00\x07\x00\x00\x00\x00\x00\x00\x00\x00\x00\x04\x00\x0c\x00\x14ST",
     );
-    // 64 names pass, 65 give 5
-    scripts::show_names(64);
-    scripts::show_names(65);
 }

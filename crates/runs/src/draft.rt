@@ -24,12 +24,31 @@ pub struct Draft {
 
 fn with_word(bytes: [u8; SIZE], at: usize, word: usize) -> [u8; SIZE] {
     let mut b = bytes;
-    if SIZE - 2 < at || 65535 < word {
+    if SIZE - 2 < at {
+        return b;
+    }
+    if 65535 < word {
         return b;
     }
     b[at] = (word / 256) as u8;
     b[at + 1] = (word % 256) as u8;
     b
+}
+
+// What comes of the script that the first bytes are, with the first values.
+fn show_file(bytes: &[u8], end: usize, values: &mut [i32], names: usize, limit: u32) {
+    if bytes.len() < end {
+        return;
+    }
+    if values.len() < names {
+        return;
+    }
+    display::show(
+        b"\x02\x00\x03\x00\x02",
+        &bytes[0..end],
+        &mut values[0..names],
+        limit,
+    );
 }
 
 impl Draft {
@@ -47,12 +66,16 @@ impl Draft {
     fn name(self, kind: u8, level: u8, owner: usize, value: i32) -> Draft {
         let n = self.names;
         let end = self.end;
-        if MOST <= n || SIZE - 4 < end {
+        if MOST <= n {
+            return self;
+        }
+        if SIZE - 4 < end {
             return self;
         }
         let mut values = self.values;
         values[n] = value;
-        let mut bytes = with_word(self.bytes, end + 2, owner);
+        let before = self.bytes;
+        let mut bytes = with_word(before, end + 2, owner);
         bytes[end] = kind;
         bytes[end + 1] = level;
         Draft {
@@ -88,19 +111,15 @@ impl Draft {
         if SIZE - 8 < end {
             return self;
         }
-        let mut bytes = with_word(self.bytes, end + 2, a);
-        bytes = with_word(bytes, end + 4, b);
-        bytes = with_word(bytes, end + 6, c);
+        let before = self.bytes;
+        let bytes = with_word(before, end + 2, a);
+        let bytes = with_word(bytes, end + 4, b);
+        let mut bytes = with_word(bytes, end + 6, c);
         bytes[end] = kind;
-        let values = self.values;
-        Draft {
-            bytes,
-            values,
-            names: self.names,
-            expressions: self.expressions,
-            nodes: self.nodes,
-            end: end + 8,
-        }
+        let mut d = self;
+        d.bytes = bytes;
+        d.end = end + 8;
+        d
     }
 
     fn expression(self, kind: u8, a: usize, b: usize, c: usize) -> Draft {
@@ -192,27 +211,31 @@ impl Draft {
             .local(a, k + 5)
     }
 
-    // Ends the file, and prints the title and what comes of the script within so many steps.
+    // The file with its tail.
+    fn ended(self) -> Draft {
+        let end = self.end;
+        if SIZE - 8 < end {
+            return self;
+        }
+        let before = self.bytes;
+        let bytes = with_word(before, end, self.expressions);
+        let bytes = with_word(bytes, end + 2, self.nodes);
+        let bytes = with_word(bytes, end + 4, end);
+        let bytes = with_word(bytes, end + 6, 0x5354);
+        let mut d = self;
+        d.bytes = bytes;
+        d.end = end + 8;
+        d
+    }
+
+    // Prints the title, and what comes of the script within so many steps.
     pub fn show(self, title: &[u8], limit: u32) {
         io::write_all(STDOUT_FILENO, title);
         display::end_line();
-        let n = self.names;
-        let end = self.end;
-        if MOST < n || SIZE - 8 < end {
-            return;
-        }
-        let mut bytes = with_word(self.bytes, end, self.expressions);
-        bytes = with_word(bytes, end + 2, self.nodes);
-        bytes = with_word(bytes, end + 4, end);
-        bytes = with_word(bytes, end + 6, 0x5354);
-        let mut values = self.values;
-        let whole = end + 8;
-        display::show(
-            b"\x02\x00\x03\x00\x02",
-            &bytes[..whole],
-            &mut values[..n],
-            limit,
-        );
+        let file = self.ended();
+        let bytes = file.bytes;
+        let mut values = file.values;
+        show_file(&bytes, file.end, &mut values, file.names, limit);
         display::end_line();
     }
 }

@@ -1,6 +1,7 @@
 // Runs the script of the folder that it is run in: levels.lvl, script.scr and values.val.
 mod values; // values.rt: the values that a file holds
 
+use script::layout::Script;
 ghost use Prim.Native.Nat.{_≤_};
 ghost use lib.ListN.{length};
 
@@ -18,9 +19,9 @@ fn load(path: &[u8], buffer: &mut [u8]) -> usize
 }
 
 fn show(book: &[u8], script: &[u8], bytes: &[u8]) {
-    let mut values = [0i32; values::TOO_MANY];
+    let mut values = [0i32; Script::MAX_NAMES + 1];
     let n = values::read_values(bytes, &mut values);
-    display::show(book, script, &mut values[..n], 1000);
+    display::show(book, script, &mut values[0..n], 1000);
 }
 
 fn main() {
@@ -30,5 +31,5 @@ fn main() {
     let b = load(b"levels.lvl", &mut book);
     let s = load(b"script.scr", &mut script);
     let v = load(b"values.val", &mut bytes);
-    show(&book[..b], &script[..s], &bytes[..v]);
+    show(&book[0..b], &script[0..s], &bytes[0..v]);
 }

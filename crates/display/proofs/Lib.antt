@@ -1,0 +1,2 @@
+-- A law that the proof of `show` uses.
+pub mod Lines
