@@ -12,10 +12,10 @@ use Rattle.prelude.specs.declared.Refusal.{Refusal}
 use Rattle.prelude.specs.Refusals.{passes}
 use Rattle.lattice.specs.LevelBook.{count}
 use Rattle.lattice.specs.Lattice.{bookLattice}
-use Rattle.language.specs.Calls.{readable}
+use Rattle.language.specs.Calls.{starts, readable}
 use Rattle.script.specs.Layout.{nameCount}
 use Rattle.script.specs.Checked.{Checked}
-use Rattle.script.specs.Tree.{namesOf}
+use Rattle.script.specs.Tree.{namesOf, tree}
 use Rattle.runner.specs.declared.Ran.{Ran}
 use Rattle.runner.specs.Outcome.{outcome, recorded}
 use Rattle.runner.specs.Contracts.{seenIn, starting, endingNumber, Gives}
@@ -76,7 +76,7 @@ module _ (b s : List ℕ) (reader : ℕ) (values : List ℤ) (limit : ℕ) (log 
       pub few-lines : r .lines ≤ limit
       few-lines =
           omega
-          (arith, given .lines, run-few (namesOf s) (readable (bookLattice b) (namesOf s) reader) limit (length log / 4) _)
+          (arith, given .lines, run-few (namesOf s) (readable (bookLattice b) (namesOf s) reader) limit (length log / 4) (starts (tree s) values))
 
       module _ (p : passes (runRefusal b s reader values limit) ≡ true) where
         is : leftBy (runOf b s reader values limit log) log ≡ left b s reader values limit log
