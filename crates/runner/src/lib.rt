@@ -1,5 +1,5 @@
 // Runs a checked script, as far as the step limit and the log let it.
-mod words; // words.rt: signed values and their words
+pub mod words; // words.rt: signed values and their words
 pub mod forms; // forms.rt: the form that a node has come to
 mod values; // values.rt: what the names hold, and the values of expressions
 pub mod log; // log.rt: the lines of the log
