@@ -1,9 +1,9 @@
 -- What each way out of `run` has to show.
 -- Assumes nothing.
-use mathlib.Core.Path.{_≡_, refl, sym, ap, _∙_, subst}
+use mathlib.Core.Path.{_≡_, sym, ap, _∙_, subst}
 use mathlib.Core.Bool.{true, false}
 use mathlib.Core.List.{List}
-use Prim.Native.Nat.{ℕ, _+_, _*_, _/_, _≤_, _<_}
+use Prim.Native.Nat.{ℕ, _/_, _≤_, _<_}
 use native.Mathlib.Nat.{sub-zero, zero-add}
 use native.Mathlib.Omega.{arith}
 use lib.IntN.{ℤ}
@@ -18,7 +18,7 @@ use Rattle.script.specs.Checked.{Checked}
 use Rattle.script.specs.Tree.{namesOf, tree}
 use Rattle.runner.specs.declared.Ran.{Ran}
 use Rattle.runner.specs.Outcome.{outcome, recorded}
-use Rattle.runner.specs.Contracts.{seenIn, starting, endingNumber, Gives}
+use Rattle.runner.specs.Contracts.{seenIn, starting, Gives}
 use Rattle.runner.proofs.Outcomes.{written-is}
 use Rattle.engine.specs.declared.Report.{Report}
 use Rattle.engine.specs.Refusals.{checkRefusal, callRefusal, runRefusal}

@@ -1,5 +1,5 @@
 -- `station_run`: the run's report is stored, where there is room for exactly its words.
-use mathlib.Core.Path.{_≡_, sym, ap, _∙_}
+use mathlib.Core.Path.{sym, ap, _∙_}
 use borrow.Author.Tests.{eq-eqb, ne-eqb}
 use Rattle.engine.specs.Interface.{reportWords}
 use borrow.Author.Needs.{needs}
