@@ -1,5 +1,4 @@
 // What the names hold, and the values of expressions.
-use crate::words;
 use script::entries::Part;
 use script::layout::Script;
 ghost use mathlib.Core.Path.{_≡_};
@@ -32,7 +31,7 @@ fn constant_of(p: Part) -> i32
     requires { ⌜ (p .b ≤ 65535) × (p .c ≤ 65535) ⌝ }
     ensures { λ r. ⌜ r ≡ constantOf p ⌝ }
 {
-    words::value_of_word((65536 * p.b + p.c) as u32)
+    language::words::value_of_word((65536 * p.b + p.c) as u32)
 }
 
 // The result of a binary operator, which is what kinds 2 to 7 are.
