@@ -5,7 +5,7 @@
 test:
 	@rt ci
 
-# Proves, builds and runs the example program.
+# Proves and builds the program, and runs it on the example of 01.
 run:
-	@mkdir -p target && rt check examples >target/run.log 2>&1 || { cat target/run.log; exit 1; }
-	@./target/bin/examples
+	@mkdir -p target && rt check station >target/run.log 2>&1 || { cat target/run.log; exit 1; }
+	@cd crates/station/data && ../../../target/bin/station

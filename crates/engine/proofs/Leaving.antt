@@ -1,9 +1,9 @@
 -- What each way out of `run` has to show.
 -- Assumes nothing.
-use mathlib.Core.Path.{_≡_, refl, sym, ap, _∙_, subst}
+use mathlib.Core.Path.{_≡_, sym, ap, _∙_, subst}
 use mathlib.Core.Bool.{true, false}
 use mathlib.Core.List.{List}
-use Prim.Native.Nat.{ℕ, _+_, _*_, _/_, _≤_, _<_}
+use Prim.Native.Nat.{ℕ, _/_, _≤_, _<_}
 use native.Mathlib.Nat.{sub-zero, zero-add}
 use native.Mathlib.Omega.{arith}
 use lib.IntN.{ℤ}
@@ -12,13 +12,13 @@ use Rattle.prelude.specs.declared.Refusal.{Refusal}
 use Rattle.prelude.specs.Refusals.{passes}
 use Rattle.lattice.specs.LevelBook.{count}
 use Rattle.lattice.specs.Lattice.{bookLattice}
-use Rattle.language.specs.Calls.{readable}
+use Rattle.language.specs.Calls.{starts, readable}
 use Rattle.script.specs.Layout.{nameCount}
 use Rattle.script.specs.Checked.{Checked}
-use Rattle.script.specs.Tree.{namesOf}
+use Rattle.script.specs.Tree.{namesOf, tree}
 use Rattle.runner.specs.declared.Ran.{Ran}
 use Rattle.runner.specs.Outcome.{outcome, recorded}
-use Rattle.runner.specs.Contracts.{seenIn, starting, endingNumber, Gives}
+use Rattle.runner.specs.Contracts.{seenIn, starting, Gives}
 use Rattle.runner.proofs.Outcomes.{written-is}
 use Rattle.engine.specs.declared.Report.{Report}
 use Rattle.engine.specs.Refusals.{checkRefusal, callRefusal, runRefusal}
@@ -76,7 +76,7 @@ module _ (b s : List ℕ) (reader : ℕ) (values : List ℤ) (limit : ℕ) (log 
       pub few-lines : r .lines ≤ limit
       few-lines =
           omega
-          (arith, given .lines, run-few (namesOf s) (readable (bookLattice b) (namesOf s) reader) limit (length log / 4) _)
+          (arith, given .lines, run-few (namesOf s) (readable (bookLattice b) (namesOf s) reader) limit (length log / 4) (starts (tree s) values))
 
       module _ (p : passes (runRefusal b s reader values limit) ≡ true) where
         is : leftBy (runOf b s reader values limit log) log ≡ left b s reader values limit log

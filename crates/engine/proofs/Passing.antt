@@ -1,15 +1,15 @@
 -- What a call that is not refused has: of its book and script, and of its values.
 -- Assumes nothing.
 use mathlib.Core.Path.{_≡_, refl, sym, _∙_}
-use mathlib.Core.Bool.{Bool, true, false, cond, not, _||_, true≢false}
+use mathlib.Core.Bool.{Bool, true, false, cond, not, _||_, true≢false, false≢true}
 use mathlib.Core.List.{List}
-use Prim.Native.Nat.{ℕ, _≤_}
+use Prim.Native.Nat.{ℕ, _≤_, _<_}
 use native.Mathlib.Decide.{decLt}
 use native.Mathlib.Omega.{arith}
 use lib.Dec.{eqb, ltb}
 use lib.IntN.{ℤ, pos}
 use lib.ListN.{length, List·getD-eq-default}
-use borrow.Author.Tests.{eq-eqb, ne-eqb, eqb-true, lt-ltb, le-ltb, not-false}
+use borrow.Author.Tests.{eq-eqb, ne-eqb, eqb-true, ltb-true, ltb-false, lt-ltb, le-ltb, not-false}
 use Rattle.prelude.specs.declared.Refusal.{Refusal}
 use Rattle.prelude.specs.Refusals.{refusedBy, notRefused, passes}
 use Rattle.prelude.proofs.Bools.{and-right, or-second, by-cases}
@@ -28,6 +28,7 @@ use Rattle.script.specs.Tree.{namesOf, tree}
 use Rattle.script.proofs.Theorems.{accepted-exactly}
 use Rattle.flow.specs.Flow.{firstFailing}
 use Rattle.flow.proofs.Theorems.{needs-everywhere}
+use Rattle.runner.specs.Contracts.{mostSteps}
 use Rattle.engine.specs.Refusals.{orElse, flowRefusal, checkRefusal, valueIsRight, firstWrong, valuesRefusal, callRefusal, runRefusal}
 
 -- a row of the table passes where no fault is found, and where what it tests is right
@@ -135,3 +136,18 @@ run-accepted b s reader values limit h =
     let one = passes-both (checkRefusal b s) (callRefusal (count b) s reader values limit) h in
     let two = passes-test 12 0 refl (ltb reader (count b)) _ (one .1) in
     (accepted b s (one .0), started s values (passes-both (valuesRefusal s values) _ (two .1) .0))
+
+-- rows 12 and 14
+pub run-bounds :
+    (b s : List ℕ) (reader : ℕ) (values : List ℤ) (limit : ℕ) → passes (runRefusal b s reader values limit) ≡ true →
+    (reader < count b) × (limit ≤ mostSteps)
+unfolding runRefusal callRefusal
+run-bounds b s reader values limit h =
+    let one = passes-both (checkRefusal b s) (callRefusal (count b) s reader values limit) h in
+    let two = passes-test 12 0 refl (ltb reader (count b)) _ (one .1) in
+    let last = passes-both (valuesRefusal s values) _ (two .1) .1 in
+    (ltb-true reader (count b) (two .0), in-limit (ltb mostSteps limit) refl last)
+  where
+    in-limit : (t : Bool) → ltb mostSteps limit ≡ t → passes (cond t (refusedBy 14 0) notRefused) ≡ true → limit ≤ mostSteps
+    in-limit true e h = absurd (false≢true h)
+    in-limit false e h = ltb-false mostSteps limit e

@@ -1,6 +1,8 @@
 // The two calls for C. A slice is a pointer and then a length in elements. An `out` of another length than 4 or 6 is left
 // untouched, and nothing else happens.
+use crate::Report;
 ghost use mathlib.Core.Path.{_≡_};
+ghost use lib.ListN.{length};
 ghost use Rattle.engine.specs.Answers.{verdict, left};
 ghost use Rattle.engine.specs.Interface.{verdictWords, reportWords, whereAsked};
 
@@ -17,6 +19,18 @@ pub extern "C" fn station_check(book: &[u8], script: &[u8], out: &mut [u32])
     out[1] = v.place;
     out[2] = v.write;
     out[3] = v.test;
+}
+
+fn put_report(r: Report, out: &mut [u32])
+    requires { ⌜ length (now out) ≡ 6 ⌝ }
+    ensures { λ _. ⌜ now (out .exit) ≡ reportWords r ⌝ }
+{
+    out[0] = r.number;
+    out[1] = r.place;
+    out[2] = r.ending;
+    out[3] = r.steps;
+    out[4] = r.instants;
+    out[5] = r.lines;
 }
 
 // `out` becomes number, place, ending, steps, instants, lines.
@@ -38,10 +52,5 @@ pub extern "C" fn station_run(
         return;
     }
     let r = crate::run(book, script, reader, values, limit, log);
-    out[0] = r.number;
-    out[1] = r.place;
-    out[2] = r.ending;
-    out[3] = r.steps;
-    out[4] = r.instants;
-    out[5] = r.lines;
+    put_report(r, out);
 }

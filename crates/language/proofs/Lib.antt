@@ -1,5 +1,6 @@
 -- Laws that the proofs of several functions use, and the theorems of the crate.
 pub mod Signed
+pub mod Bits
 pub mod Orders
 pub mod Needs
 pub mod Typing

@@ -4,9 +4,8 @@ use mathlib.Core.Path.{_≡_, refl, sym, ap, _∙_, subst}
 use mathlib.Core.Bool.{Bool, true, false}
 use mathlib.Core.Option.{Option, none, some}
 use mathlib.Core.List.{List}
-use Prim.Native.Nat.{ℕ, suc, _+_, _≤_, _<_}
+use Prim.Native.Nat.{ℕ, suc, _≤_, _<_}
 use native.Mathlib.Nat.{le-refl, le-of-lt}
-use native.Mathlib.Numerals.{add-one}
 use native.Mathlib.Omega.{arith}
 use lib.IntN.{ℤ}
 use lib.ListN.{length, set}
@@ -16,9 +15,9 @@ use Rattle.language.specs.Syntax.{Proc, nil, assign, letIn, ifThenElse, while, 
 use Rattle.language.specs.Calls.{Line, lineFor}
 use Rattle.script.specs.Tree.{processOf, size}
 use Rattle.runner.specs.Residual.{own, residual}
-use Rattle.runner.specs.Moves.{Running, system, logAfter, linesAfter, hasRoom, nextLine, moved, Live, Silent, isGone, isSpent, isFull, Path, stays, moves, Ends, gone, spent, full}
+use Rattle.runner.specs.Moves.{Running, system, logAfter, linesAfter, hasRoom, moved, Silent, isGone, isFull, Path, stays, moves, Ends, gone, full}
 use Rattle.runner.specs.Contracts.{At, Writes, Advances}
-use Rattle.runner.proofs.Framing.{joined, silently, silent-move}
+use Rattle.runner.proofs.Framing.{silently, silent-move}
 
 -- past all forms a node is nil
 pub nil-at-four : {L : Type 0} (p : Proc L) (st : List ℕ) → own st ≡ 4 → residual p st ≡ nil

@@ -4,7 +4,7 @@
 use mathlib.Core.Path.{_≡_, refl, sym, ap, ap₂, _∙_}
 use mathlib.Core.Bool.{Bool, true, false, _&&_}
 use mathlib.Core.Logic.{_⊎_, inl, inr, ⊎-elim}
-use mathlib.Core.List.{List, [], _∷_, _++_}
+use mathlib.Core.List.{List, [], _∷_}
 use Prim.Native.Nat.{ℕ, zero, suc, _+_, _-_, _≤_, _<_}
 use native.Mathlib.Nat.{zero-add, suc-add, le-refl}
 use native.Mathlib.Decide.{decLt}
@@ -14,7 +14,7 @@ use borrow.Rule.Slice.PartMut.{putMid, take-put, drop-put}
 use lib.Dec.{ltb, leb}
 use lib.IntN.{ℤ}
 use lib.ListN.{getD, length, take, drop}
-use lib.Seq.{length-take-le, take-nil, take-at, drop-at, take-take, drop-drop}
+use lib.Seq.{take-nil, take-take, drop-drop}
 use Rattle.prelude.specs.Search.{firstFrom, first as firstOf, any, all}
 use Rattle.prelude.proofs.Bools.{and-left, and-right, by-cases}
 use Rattle.prelude.proofs.Searches.{all-elim}
@@ -27,7 +27,7 @@ use Rattle.runner.specs.Residual.{own}
 use Rattle.runner.specs.Forms.{gone, mover, watched, guarded, beside, formRows, formOf, fromSecond, frontOf, partIn}
 use Rattle.runner.specs.Frames.{around}
 use Rattle.runner.specs.Contracts.{left}
-use Rattle.runner.proofs.Sights.{signalAt, own-put, length-put, part-length}
+use Rattle.runner.proofs.Sights.{signalAt, own-put, length-put, part-length, part-put}
 use Rattle.runner.proofs.Fronts.{kind-known}
 use Rattle.runner.proofs.Deciding.{Found, Part, rearOf, Rear, front-part, rear-part, ahead}
 
@@ -47,13 +47,6 @@ put f st ys = putMid (f .from) (f .to - f .from) st ys
 
 module _ (f : Front) (st ys : List ℕ) (order : f .from ≤ f .to) (within : f .to ≤ length st)
     (l : length ys ≡ f .to - f .from) where
-  part-put : partIn f (put f st ys) ≡ ys
-  part-put =
-      let rest : List ℕ = drop (f .to - f .from) (drop (f .from) st) in
-      ap (take (f .to - f .from))
-      (drop-at (take (f .from) st) (ys ++ rest) (f .from) (length-take-le (f .from) st (omega arith)))
-      ∙ take-at ys rest (f .to - f .from) l
-
   part-kept : (g : Front) → g .from ≤ g .to → Apart f g → partIn g (put f st ys) ≡ partIn g st
   part-kept g o =
       ⊎-elim

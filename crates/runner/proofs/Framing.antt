@@ -13,7 +13,7 @@ use lib.Seq.{getD-set-same, getD-set-other, set-out}
 use borrow.Author.Tests.{eqb-false, not-true}
 use Rattle.prelude.proofs.Bools.{fails, and-intro, and-left, and-right, by-cases}
 use Rattle.language.specs.Syntax.{Proc, nil, assign, letIn, ifThenElse, while, sequence, emit, local, watching, when, parallel, isNil}
-use Rattle.language.specs.Steps.{present, test, value, Outcome, leaves, inside, suspended, move}
+use Rattle.language.specs.Steps.{present, test, value, Outcome, inside, suspended, move}
 use Rattle.language.specs.Calls.{calledFor}
 use Rattle.runner.specs.Frames.{Frame, alone, beforeThe, watchedBy, guardedBy, besideThe, around, leavesAlone, Open}
 use Rattle.runner.specs.Moves.{Running, withProcess, nextLine, hasRoom, moved, Live, Silent, isSpent, Path, stays, moves, Ends, gone, waits, spent, full}

@@ -1,23 +1,19 @@
 -- The form of a node, as it is found: where a part is in front, the node has a first child.
 -- Assumes nothing.
-use mathlib.Core.Path.{_≡_, refl, sym, ap, _∙_, subst}
+use mathlib.Core.Path.{_≡_, sym, ap, _∙_, subst}
 use mathlib.Core.Bool.{true, false}
-use mathlib.Core.List.{List, []}
+use mathlib.Core.List.{List}
 use Prim.Native.Nat.{ℕ, zero, suc, _+_, _≤_, _<_}
 use native.Mathlib.Omega.{arith}
-use lib.Dec.{eqb, leb}
-use lib.ListN.{getD}
-use borrow.Author.Tests.{le-leb, lt-leb, eqb-true}
-use Rattle.prelude.specs.Search.{all}
-use Rattle.prelude.proofs.Searches.{all-elim}
+use lib.Dec.{leb}
+use borrow.Author.Tests.{le-leb, lt-leb}
 use Rattle.script.specs.Layout.{nodeCount}
 use Rattle.script.specs.Entries.{partOf, node, firstChild, secondChild}
 use Rattle.script.specs.Tree.{processOf, size}
 use Rattle.script.specs.Checked.{Checked}
 use Rattle.script.proofs.Views.{NodeView, aNil, anAssign, aLet, anIf, aWhile, aSequence, anEmit, aLocal, aWatching, aWhen, aParallel, node-view}
 use Rattle.script.specs.declared.entries.Part.{Part}
-use Rattle.runner.specs.declared.forms.Front.{Front}
-use Rattle.runner.specs.Forms.{mover, formRows, formOf, fromSecond, frontOf}
+use Rattle.runner.specs.Forms.{mover, formOf, fromSecond, frontOf}
 
 module _ (s : List ℕ) (ok : Checked s) (k : ℕ) (h : k < nodeCount s) where
   kind-of : NodeView s k → partOf s (node s k) .kind < 11

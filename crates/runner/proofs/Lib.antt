@@ -1,5 +1,4 @@
 -- Laws that the proofs of several functions use.
-pub mod Bits
 pub mod Reading
 pub mod Clearing
 pub mod Framing

@@ -18,7 +18,7 @@ use Rattle.script.specs.Layout.{nameCount, nodeCount}
 use Rattle.script.specs.Entries.{nameOf, partOf, node}
 use Rattle.script.specs.Checked.{Checked}
 use Rattle.script.specs.Tree.{expressionOf, processOf, size}
-use Rattle.script.proofs.Views.{UsesName, NewName, UsesExpression, UsesNode, NodeView, aNil, anAssign, aLet, anIf, aWhile, aSequence, anEmit, aLocal, aWatching, aWhen, aParallel, node-view}
+use Rattle.script.proofs.Views.{UsesExpression, NodeView, aNil, anAssign, aLet, anIf, aWhile, aSequence, anEmit, aLocal, aWatching, aWhen, aParallel, node-view}
 use Rattle.runner.specs.declared.forms.Front.{Front}
 use Rattle.runner.specs.Forms.{mover}
 use Rattle.runner.specs.Residual.{own, firstOf, secondOf, residual}

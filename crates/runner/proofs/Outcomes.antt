@@ -10,7 +10,7 @@ use native.Mathlib.Nat.{add-zero}
 use native.Mathlib.Omega.{arith}
 use lib.IntN.{ℤ}
 use lib.ListN.{length, drop}
-use lib.Seq.{sets, length-sets, sets-eq}
+use lib.Seq.{sets, sets-eq}
 use borrow.Author.Tests.{ltb-true, ltb-false}
 use Rattle.language.specs.Syntax.{Names, Proc, isNil}
 use Rattle.language.specs.Steps.{Outcome as Left, leaves, suspended, move, change, instantStart, step}
@@ -170,9 +170,6 @@ length-words : (ls : List Line) → length (words ls) ≡ 4 * length ls
 unfolding words
 length-words [] = refl
 length-words (l ∷ ls) = omega (arith, length-words ls)
-
-pub length-written : (ls : List Line) (n : ℕ) (log : List ℕ) → length (written ls n log) ≡ length log
-length-written ls n log = ap length (written-sets ls n log) ∙ length-sets log (4 * n) (words ls)
 
 pub written-is :
     (ls : List Line) (log : List ℕ) → 4 * length ls ≤ length log →

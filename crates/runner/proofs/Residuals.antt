@@ -24,7 +24,7 @@ drop-zeros zero n = rw sub-zero
 drop-zeros (suc i) zero = rw zero-sub
 drop-zeros (suc i) (suc n) = rw suc-sub-suc (drop-zeros i n)
 
-take-zeros : (i n : ℕ) → i ≤ n → take {A = ℕ} i (replicate n 0) ≡ replicate i 0
+pub take-zeros : (i n : ℕ) → i ≤ n → take {A = ℕ} i (replicate n 0) ≡ replicate i 0
 take-zeros zero n h = refl
 take-zeros (suc i) zero h = absurd (not-suc-le-zero h)
 take-zeros (suc i) (suc n) h = ap (λ l. 0 ∷ l) (take-zeros i n (le-of-suc-le-suc h))

@@ -1,19 +1,17 @@
 -- A node whose part in front rests: nil, or suspended.
 -- Assumes nothing.
-use mathlib.Core.Path.{_≡_, refl, sym, ap, _∙_, subst}
-use mathlib.Core.Bool.{Bool, true, false, not, false≢true}
+use mathlib.Core.Path.{_≡_, sym, ap, _∙_, subst}
+use mathlib.Core.Bool.{Bool, true, false, false≢true}
 use mathlib.Core.Logic.{_⊎_, inl, inr, ⊎-elim}
 use mathlib.Core.List.{List}
 use Prim.Native.Nat.{ℕ, _-_, _≤_, _<_}
 use native.Mathlib.Omega.{arith}
 use lib.IntN.{ℤ}
 use lib.ListN.{length, set}
-use Rattle.prelude.proofs.Bools.{and-intro, or-true}
 use Rattle.language.specs.Syntax.{Proc, parallel, isNil}
 use Rattle.language.specs.Steps.{present, suspended}
-use Rattle.script.specs.Tree.{processOf}
 use Rattle.runner.specs.declared.forms.Front.{Front}
-use Rattle.runner.specs.Residual.{own, residual}
+use Rattle.runner.specs.Residual.{own}
 use Rattle.runner.specs.Forms.{mover, before, guarded, beside, frontOf, partIn}
 use Rattle.runner.specs.Frames.{besideThe}
 use Rattle.runner.specs.Moves.{Silent, isGone, isSuspended}

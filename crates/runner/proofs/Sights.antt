@@ -78,6 +78,16 @@ module _ (from n : ℕ) (st ys : List ℕ) where
 pub part-length : (f : Front) (st : List ℕ) → f .to ≤ length st → length (partIn f st) ≡ f .to - f .from
 part-length f st h = mid-len (f .from) (f .to) st h
 
+-- the bytes of a part that were put back
+pub part-put :
+    (f : Front) (st ys : List ℕ) → f .from ≤ f .to → f .to ≤ length st → length ys ≡ f .to - f .from →
+    partIn f (putMid (f .from) (f .to - f .from) st ys) ≡ ys
+part-put f st ys order within l =
+    let rest : List ℕ = drop (f .to - f .from) (drop (f .from) st) in
+    ap (take (f .to - f .from))
+    (drop-at (take (f .from) st) (ys ++ rest) (f .from) (length-take-le (f .from) st (omega arith)))
+    ∙ take-at ys rest (f .to - f .from) l
+
 -- a node's own byte lies in none of its parts
 pub part-set : (f : Front) (st : List ℕ) (v : ℕ) → 1 ≤ f .from → partIn f (set st 0 v) ≡ partIn f st
 part-set f st v h = ap (take (f .to - f .from)) (drop-set-lt (f .from) st 0 v h)

@@ -1,21 +1,19 @@
 -- A node's turns: it is entered, its part in front is advanced, it is left, and it is entered again.
 -- Assumes nothing.
-use mathlib.Core.Path.{_≡_, refl, sym, ap, _∙_, subst}
-use mathlib.Core.Bool.{Bool, true, false}
+use mathlib.Core.Path.{_≡_, refl, ap, _∙_, subst}
+use mathlib.Core.Bool.{Bool, true}
 use mathlib.Core.Logic.{_⊎_, inl, inr, ⊎-elim}
-use mathlib.Core.List.{List, _++_}
-use Prim.Native.Nat.{ℕ, suc, _-_, _/_, _≤_, _<_}
+use mathlib.Core.List.{List}
+use Prim.Native.Nat.{ℕ, _-_, _/_, _≤_, _<_}
 use native.Mathlib.Decide.{ℕ-discrete}
 use native.Mathlib.Nat.{le-refl, le-trans}
 use native.Mathlib.Omega.{arith}
 use borrow.Rule.Slice.PartMut.{putMid}
 use lib.IntN.{ℤ}
-use lib.ListN.{length, take, drop}
-use lib.Seq.{length-take-le, take-at, drop-at}
+use lib.ListN.{length}
 use Rattle.language.specs.Syntax.{Proc, isNil}
 use Rattle.language.specs.Steps.{present, suspended}
 use Rattle.script.specs.declared.layout.Script.{Script}
-use Rattle.script.specs.Tree.{processOf, size}
 use Rattle.runner.specs.declared.forms.Front.{Front}
 use Rattle.runner.specs.Residual.{own}
 use Rattle.runner.specs.Forms.{mover, guarded, frontOf, partIn}
@@ -24,7 +22,7 @@ use Rattle.runner.specs.Moves.{Running, isGone, isSuspended, isSpent, Pa
 use Rattle.runner.specs.Contracts.{mostSteps, Valued, At, Counted, left, runningAt, Advances, Rests, Settles, restsOn, atLimit, makesMove}
 use Rattle.runner.proofs.Framing.{joined, open-path, lift, ends-around}
 use Rattle.runner.proofs.Advancing.{ended, again}
-use Rattle.runner.proofs.Sights.{signalAt, Inside, Sight, sees-gone, sees-mover, sees-alone, sees-before, sees-watched, sees-guarded, sees-beside, own-put, length-put}
+use Rattle.runner.proofs.Sights.{signalAt, Inside, Sight, sees-gone, sees-mover, sees-alone, sees-before, sees-watched, sees-guarded, sees-beside, own-put, length-put, part-put}
 
 module _ {seen : ℕ → Bool} {limit room : ℕ} {at : Running ℕ} {why : ℕ} where
   ended-gone : Ends seen limit room at why → why ≡ isGone → isNil (at .process) ≡ true
@@ -72,12 +70,8 @@ module _ {s : List ℕ} {k : ℕ} {st : List ℕ} {f : Front} {vs : List ℤ} (g
   put ys = putMid (f .from) (f .to - f .from) st ys
 
   module _ (ys : List ℕ) (l : length ys ≡ f .to - f .from) where
-    part-put : partIn f (put ys) ≡ ys
-    part-put =
-        ap (take (f .to - f .from))
-        (drop-at (take (f .from) st) (ys ++ drop (f .to - f .from) (drop (f .from) st)) (f .from)
-        (length-take-le (f .from) st (omega (arith, g .inside .order, g .inside .within))))
-        ∙ take-at ys (drop (f .to - f .from) (drop (f .from) st)) (f .to - f .from) l
+    put-back : partIn f (put ys) ≡ ys
+    put-back = part-put f st ys (g .inside .order) (g .inside .within) l
 
     own-kept : own (put ys) ≡ own st
     own-kept =
@@ -114,8 +108,8 @@ module _ {s : List ℕ} {k : ℕ} {st : List ℕ} {f : Front} {vs : List ℤ} (g
       rests m h =
           record {
             known = one-or-two why some h;
-            gone = λ e. ap (λ z. isNil (left s (f .child) z)) part-put ∙ ended-gone stopped e;
-            waits = λ e. ap (λ z. suspended (left s (f .child) z) ws) part-put ∙ ended-waits stopped e;
+            gone = λ e. ap (λ z. isNil (left s (f .child) z)) put-back ∙ ended-gone stopped e;
+            waits = λ e. ap (λ z. suspended (left s (f .child) z) ws) put-back ∙ ended-waits stopped e;
             part = m;
             shown = g .shown ys ws stays-open;
           }

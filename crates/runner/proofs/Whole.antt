@@ -1,32 +1,28 @@
 -- A whole run: what comes of it, from its start and from where it has come to.
 -- Assumes nothing.
-use mathlib.Core.Path.{_≡_, refl, sym, ap, _∙_, subst}
-use mathlib.Core.Bool.{Bool, true, false}
+use mathlib.Core.Path.{_≡_, refl, sym, _∙_, subst}
+use mathlib.Core.Bool.{Bool, true}
 use mathlib.Core.List.{List}
-use Prim.Native.Nat.{ℕ, suc, _+_, _-_, _/_, _≤_, _<_}
-use native.Mathlib.Nat.{le-trans}
+use Prim.Native.Nat.{ℕ, suc, _-_, _/_, _≤_, _<_}
 use native.Mathlib.Omega.{arith}
 use lib.IntN.{ℤ}
-use lib.ListN.{length, replicate, length-replicate}
-use borrow.Author.Tests.{eq-eqb, ne-eqb}
+use lib.ListN.{length, replicate}
 use Rattle.language.specs.Syntax.{Names, Proc}
 use Rattle.language.specs.Steps.{suspended, change, instantStart}
 use Rattle.language.specs.Calls.{Ending, finished, logFull, givenBack}
 use Rattle.language.specs.Calls as calls
-use Rattle.script.specs.Layout.{nodeCount, layoutOf, Laid}
+use Rattle.script.specs.Layout.{nodeCount}
 use Rattle.script.specs.declared.layout.Script.{Script}
 use Rattle.script.specs.Checked.{Checked}
-use Rattle.script.specs.Tree.{namesOf, processOf, tree, size}
-use Rattle.script.proofs.Layouts.{few-bounds, nodes-are}
+use Rattle.script.specs.Tree.{tree}
 use Rattle.script.proofs.NodeSizes.{whole-size}
 use Rattle.runner.specs.declared.Ran.{Ran}
-use Rattle.runner.specs.Moves.{Running, Live, isSuspended, changed, Ends, gone, waits, spent, full}
+use Rattle.runner.specs.Moves.{Running, isSuspended, Ends, gone, waits, spent, full}
 use Rattle.runner.specs.Outcome.{outcome, stopped}
-use Rattle.runner.specs.Contracts.{mostSteps, Valued, At, Counted, left, runningAt, Advances, starting, endingNumber, endingOf, Gives}
+use Rattle.runner.specs.Contracts.{mostSteps, Valued, Counted, left, Advances, endingNumber, endingOf, Gives}
 use Rattle.runner.proofs.Framing.{waits-some}
 use Rattle.runner.proofs.Residuals.{zeros}
 use Rattle.runner.proofs.Outcomes.{outcome-moves, outcome-finished, outcome-spent, outcome-full, outcome-changes}
-use Rattle.runner.proofs.Turning.{ended-waits}
 
 module _ (names : Names ℕ) (seen : ℕ → Bool) (limit : ℕ) where
   -- a run that stands at `at`, with the bytes st, comes to the same as from where it began

@@ -1,12 +1,11 @@
 // Runs a checked script, as far as the step limit and the log let it.
-pub mod words; // words.rt: signed values and their words
-pub mod forms; // forms.rt: the form that a node has come to
+mod forms; // forms.rt: the form that a node has come to
 mod values; // values.rt: what the names hold, and the values of expressions
-pub mod log; // log.rt: the lines of the log
-pub mod moves; // moves.rt: a node's own moves
-pub mod suspension; // suspension.rt: whether what is left of a node is suspended
-pub mod instants; // instants.rt: instant changes, and what an instant begins with
-pub mod advance; // advance.rt: a node is run as far as it goes within the instant
+mod log; // log.rt: the lines of the log
+mod moves; // moves.rt: a node's own moves
+mod suspension; // suspension.rt: whether what is left of a node is suspended
+mod instants; // instants.rt: instant changes, and what an instant begins with
+mod advance; // advance.rt: a node is run as far as it goes within the instant
 
 use crate::moves::Counts;
 use crate::moves::Limits;

@@ -1,12 +1,10 @@
 // What the names hold, and the values of expressions.
-use crate::words;
 use script::entries::Part;
 use script::layout::Script;
 ghost use mathlib.Core.Path.{_≡_};
 ghost use Prim.Native.Nat.{_≤_, _<_};
-ghost use lib.IntN.{ℤ};
 ghost use lib.ListN.{length};
-ghost use Rattle.language.specs.Steps.{present, value, test, suspended};
+ghost use Rattle.language.specs.Steps.{present, value, test};
 ghost use Rattle.script.specs.Layout.{nameCount, expressionCount, nodeCount, Laid};
 ghost use Rattle.script.specs.Entries.{partOf, node};
 ghost use Rattle.script.specs.Tree.{constantOf, expressionOf};
@@ -33,7 +31,7 @@ fn constant_of(p: Part) -> i32
     requires { ⌜ (p .b ≤ 65535) × (p .c ≤ 65535) ⌝ }
     ensures { λ r. ⌜ r ≡ constantOf p ⌝ }
 {
-    words::value_of_word((65536 * p.b + p.c) as u32)
+    language::words::value_of_word((65536 * p.b + p.c) as u32)
 }
 
 // The result of a binary operator, which is what kinds 2 to 7 are.

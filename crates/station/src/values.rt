@@ -7,7 +7,7 @@ fn value_at(bytes: &[u8], at: usize) -> i32
 {
     let high = prelude::word_of(bytes[at], bytes[at + 1]);
     let low = prelude::word_of(bytes[at + 2], bytes[at + 3]);
-    runner::words::value_of_word(65536 * (high as u32) + (low as u32))
+    language::words::value_of_word(65536 * (high as u32) + (low as u32))
 }
 
 // Reads the values and answers how many there are: as many as there is room for if they are more, or if the last has fewer

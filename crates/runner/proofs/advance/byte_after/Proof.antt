@@ -1,6 +1,6 @@
 -- `byte_after`: by the tests.
-use mathlib.Core.Path.{_≡_, ap, _∙_}
-use mathlib.Core.Bool.{true, false, _||_, false≢true}
+use mathlib.Core.Path.{_≡_}
+use mathlib.Core.Bool.{true, _||_}
 use mathlib.Core.Logic.{⊎-elim}
 use Prim.Native.Nat.{_≤_}
 use native.Mathlib.Omega.{arith}
@@ -9,7 +9,6 @@ use borrow.Author.Tests.{eq-eqb, ne-eqb, eqb-false}
 use Rattle.prelude.proofs.Bools.{or-first, or-true}
 use Rattle.runner.specs.Forms.{before, watched, guarded}
 use Rattle.runner.specs.Moves.{isSuspended}
-use borrow.Author.Needs.{needs}
 use Rattle.runner.proofs.advance.byte_after.Statement.{statement}
 use Rattle.runner.proofs.advance.byte_after.Tie as tie
 

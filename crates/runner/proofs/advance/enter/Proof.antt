@@ -1,16 +1,13 @@
 -- `enter`: by the form of the node.
-use mathlib.Core.Path.{_≡_, refl, sym, ap, _∙_, subst}
-use mathlib.Core.Bool.{Bool, true, false}
+use mathlib.Core.Path.{_≡_, refl, sym, ap, _∙_}
 use mathlib.Core.Logic.{⊎-elim}
-use Prim.Native.Nat.{ℕ, _/_, _≤_, _<_}
+use Prim.Native.Nat.{ℕ, _<_}
 use native.Mathlib.Omega.{arith}
 use denote.Ref.{now}
-use lib.ListN.{length}
-use borrow.Author.Tests.{not-true, not-false, eqb-true}
+use borrow.Author.Tests.{not-true, not-false}
 use Rattle.runner.specs.declared.forms.Front.{Front}
-use Rattle.runner.specs.Forms.{mover, guarded}
+use Rattle.runner.specs.Forms.{mover}
 use Rattle.runner.specs.Moves.{gone, waits}
-use Rattle.runner.specs.Contracts.{into, runningAt, Advances, Enters}
 use Rattle.runner.proofs.Deciding.{Found, sees, signal-known, shuts}
 use Rattle.runner.proofs.Entries.{ends-here, goes-in, nil-seen, not-into}
 use Rattle.runner.proofs.Advancing.{some-bytes, ended}

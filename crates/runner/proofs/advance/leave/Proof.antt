@@ -1,13 +1,11 @@
 -- `leave`: a node whose part in front rests: it rests too, or it moves.
-use mathlib.Core.Path.{_≡_, refl, sym, ap, _∙_, subst}
-use mathlib.Core.Bool.{Bool, true, false}
+use mathlib.Core.Path.{refl, sym, ap, _∙_, subst}
 use mathlib.Core.Logic.{⊎-elim}
-use Prim.Native.Nat.{ℕ, _≤_, _<_}
 use native.Mathlib.Nat.{le-antisymm}
 use native.Mathlib.Numerals.{add-one}
 use native.Mathlib.Omega.{arith}
 use denote.Ref.{now}
-use lib.ListN.{length, set}
+use lib.ListN.{set}
 use Rattle.runner.specs.declared.forms.Front.{Front}
 use Rattle.runner.specs.Residual.{own}
 use Rattle.runner.specs.Moves.{Silent}

@@ -1,6 +1,5 @@
 -- `find_front`: the entry, its form, and its children, put together as `frontOf` does.
 use mathlib.Core.Path.{_≡_, sym, ap, _∙_, subst}
-use mathlib.Core.Bool.{true, false, _||_}
 use mathlib.Core.Logic.{⊎-elim}
 use Prim.Native.Nat.{ℕ, _+_, _<_}
 use native.Mathlib.Omega.{arith}
@@ -8,12 +7,11 @@ use lib.Dec.{eqb}
 use borrow.Author.Tests.{eq-eqb, ne-eqb}
 use Rattle.prelude.proofs.Bools.{or-first, or-true}
 use Rattle.script.specs.declared.entries.Part.{Part}
-use Rattle.script.specs.Layout.{nodeCount, layoutOf}
 use Rattle.script.specs.Entries.{partOf, node, firstChild}
 use Rattle.script.specs.Tree.{processOf, size}
 use Rattle.script.proofs.Layouts.{few-bounds, nodes-are}
 use Rattle.script.proofs.NodeSizes.{size-within}
-use Rattle.runner.specs.Forms.{mover, second, turned, formOf, fromSecond}
+use Rattle.runner.specs.Forms.{mover, second, turned, formOf}
 use Rattle.runner.proofs.Reading.{node-read}
 use Rattle.runner.proofs.Fronts.{kind-known, child-known, front-none, front-second, front-first}
 use borrow.Author.Needs.{needs, fits-under}

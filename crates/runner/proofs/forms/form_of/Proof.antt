@@ -1,9 +1,7 @@
 -- `form_of`: the rows of the code are those of the definition, filled up with GONE.
 use mathlib.Core.Path.{_≡_, refl, sym, ap, _∙_}
-use mathlib.Core.Bool.{true}
 use mathlib.Core.List.{List, [], _∷_}
 use Prim.Native.Nat.{ℕ, _≤_, _<_}
-use native.Mathlib.Omega.{arith}
 use native.Mathlib.Nat.{le-trans}
 use lib.Dec.{eqb, leb}
 use lib.ListN.{getD, length, List·getD-eq-default}

@@ -1,13 +1,12 @@
 -- `move_if`: the node's byte says which branch is left.
-use mathlib.Core.Path.{_≡_, refl, sym, ap, _∙_, subst}
-use Prim.Native.Nat.{ℕ, _<_}
+use mathlib.Core.Path.{_≡_, sym, ap, _∙_, subst}
+use Prim.Native.Nat.{_<_}
 use native.Mathlib.Omega.{arith}
 use denote.Ref.{now}
-use lib.ListN.{length, set}
 use Rattle.script.specs.declared.entries.Part.{Part}
-use Rattle.script.specs.Layout.{nameCount, expressionCount}
+use Rattle.script.specs.Layout.{expressionCount}
 use Rattle.script.specs.Entries.{partOf, node}
-use Rattle.script.proofs.Layouts.{few-bounds, names-are, nodes-are}
+use Rattle.script.proofs.Layouts.{nodes-are}
 use Rattle.runner.proofs.Reading.{node-read}
 use Rattle.runner.proofs.Advancing.{some-bytes}
 use Rattle.language.specs.Steps.{test}

@@ -1,19 +1,17 @@
 -- `move_let`: the name is set, and the node's byte says that it is in its body.
-use mathlib.Core.Path.{_≡_, refl, sym, ap, _∙_, subst}
-use Prim.Native.Nat.{ℕ, _<_}
+use mathlib.Core.Path.{_≡_, sym, subst}
+use Prim.Native.Nat.{_<_}
 use native.Mathlib.Omega.{arith}
 use denote.Ref.{now}
-use lib.ListN.{length, set}
+use lib.ListN.{length}
 use Rattle.script.specs.declared.entries.Part.{Part}
-use Rattle.script.specs.Layout.{nameCount, expressionCount}
+use Rattle.script.specs.Layout.{expressionCount}
 use Rattle.script.specs.Entries.{partOf, node}
 use Rattle.script.proofs.Layouts.{few-bounds, names-are, nodes-are}
 use Rattle.runner.proofs.Reading.{node-read}
 use Rattle.runner.proofs.Advancing.{some-bytes}
 use mir.Syntax.{w32}
 use mir.Facts.{toZ-ofZ}
-use Rattle.language.specs.Steps.{value}
-use Rattle.script.specs.Tree.{expressionOf}
 use Rattle.runner.proofs.Movers.{known, let-moves}
 use borrow.Author.Needs.{fits-under}
 use borrow.Author.Needs.{needs}

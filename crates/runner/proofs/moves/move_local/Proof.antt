@@ -1,15 +1,12 @@
 -- `move_local`: the signal is made absent, and the node's byte says that it is in its body.
-use mathlib.Core.Path.{_≡_, sym, ap, _∙_, subst}
-use Prim.Native.Nat.{ℕ, _+_, _<_}
+use mathlib.Core.Path.{_≡_, sym, subst}
+use Prim.Native.Nat.{_<_}
 use native.Mathlib.Omega.{arith}
 use denote.Ref.{now}
-use lib.ListN.{length, set}
-use lib.IntN.{pos}
+use lib.ListN.{length}
 use Rattle.script.specs.declared.entries.Part.{Part}
 use Rattle.script.specs.Entries.{partOf, node}
 use Rattle.script.proofs.Layouts.{few-bounds, names-are, nodes-are}
-use Rattle.runner.specs.Moves.{Silent}
-use Rattle.runner.specs.Contracts.{left}
 use Rattle.runner.proofs.Reading.{node-read}
 use Rattle.runner.proofs.Advancing.{some-bytes}
 use Rattle.runner.proofs.Movers.{known, local-moves}

@@ -7,7 +7,7 @@ use Rattle.script.specs.Entries.{partAt}
 use Rattle.script.proofs.Layouts.{few-bounds, names-are, parts-are}
 use Rattle.script.proofs.Values.{word-fits}
 use Rattle.runner.specs.Contracts.{applied}
-use Rattle.runner.proofs.Bits.{given-back}
+use Rattle.language.proofs.Bits.{given-back}
 use Rattle.runner.proofs.Evaluating.{Evaluates, evaluates}
 use borrow.Author.Needs.{fits-under}
 use borrow.Fn.Kinds.{In}

@@ -10,7 +10,7 @@ use Rattle.language.specs.Syntax.{Operator, add, subtract, multiply, divide, le
 use Rattle.language.specs.Steps.{apply}
 use Rattle.language.proofs.Signed.{readBack}
 use Rattle.runner.specs.Contracts.{operatorOf, applied}
-use Rattle.runner.proofs.Bits.{given-back}
+use Rattle.language.proofs.Bits.{given-back}
 use borrow.Author.Needs.{needs}
 use Rattle.runner.proofs.values.operate.Statement.{statement}
 use Rattle.runner.proofs.values.operate.Tie as tie

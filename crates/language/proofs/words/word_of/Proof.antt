@@ -1,8 +1,8 @@
 -- `word_of`: a negative value plus 2 to the 32 is its word; any other value is its own.
 use Rattle.language.proofs.Signed.{widens}
-use Rattle.runner.proofs.Bits.{raised-fits, raised-casts, raised-word, plain-casts, plain-word}
-use Rattle.runner.proofs.words.word_of.Statement.{statement}
-use Rattle.runner.proofs.words.word_of.Tie as tie
+use Rattle.language.proofs.Bits.{raised-fits, raised-casts, raised-word, plain-casts, plain-word}
+use Rattle.language.proofs.words.word_of.Statement.{statement}
+use Rattle.language.proofs.words.word_of.Tie as tie
 
 cast-result : tie.Need-cast-result
 cast-result c = widens (c .before .fits .v)

@@ -1,8 +1,8 @@
 -- `value_of_word`: a word of the upper half, less 2 to the 32, is its value.
-use Rattle.runner.proofs.Bits.{lowered-fits, lowered-casts, lowered-value}
+use Rattle.language.proofs.Bits.{lowered-fits, lowered-casts, lowered-value}
 use borrow.Author.Needs.{needs}
-use Rattle.runner.proofs.words.value_of_word.Statement.{statement}
-use Rattle.runner.proofs.words.value_of_word.Tie as tie
+use Rattle.language.proofs.words.value_of_word.Statement.{statement}
+use Rattle.language.proofs.words.value_of_word.Tie as tie
 
 cast-result : tie.Need-cast-result
 cast-result c = search needs
