@@ -139,13 +139,13 @@ clear-signals-requires c κs =
 add-t33 : tie.Need-add-t33 Inv-loop μ-loop
 add-t33 c =
     let start = c .before .before .before .before .before .before .before .before .before .before .before .before .before .before .before .before .before .before .before .before .before .before .before .before .before .before .before .before in
-    fits-under _ _ 1000002 (omega (arith, advanced ((c .before .before .before .before .before .before .before .before .before .before .before .before .before .before .before .before .before .before)) .time, start .pre .1 .1 .1 .1)) tt
+    fits-under _ _ 4000000 (omega (arith, advanced ((c .before .before .before .before .before .before .before .before .before .before .before .before .before .before .before .before .before .before)) .time, start .pre .1 .1 .1 .1)) tt
 
 add-instant : tie.Need-add-instant Inv-loop μ-loop
 add-instant c =
     let start = c .before .before .before .before .before .before .before .before .before .before .before .before .before .before .before .before .before .before .before .before .before .before .before .before .before .before .before .before in
     let u = c .before .before .before .before .before .before .before .before .before .before .before .before .before .before .before .before .before .before .before .before .before .before .loop .inv in
-    fits-under _ _ 1000002 (omega (arith, u .instants, u .time, start .pre .1 .1 .1 .1)) tt
+    fits-under _ _ 4000000 (omega (arith, u .instants, u .time, start .pre .1 .1 .1 .1)) tt
 
 loop-less : tie.Need-loop-less Inv-loop μ-loop
 loop-less c =
