@@ -129,7 +129,7 @@ fn example_7(high: u8, x: i32) -> Draft {
         .parallel(11, 14)
 }
 
-// x, a, b, c, and the two pauses' own; nodes 8, 14 and 24 are the three threads.
+// x, a, b, c, and the two pauses' own, which are at L; nodes 8, 14 and 24 are the three threads.
 fn example_8(high: u8, a: i32) -> Draft {
     Draft::new()
         .register(L, 3)

@@ -1,4 +1,4 @@
-// The report, 3.2 to 3.5: tests of levels, and names that a script declares.
+// The report, 3.2 to 3.4: tests, and names that a script declares.
 use crate::draft::Draft;
 use crate::draft::H;
 use crate::draft::L;

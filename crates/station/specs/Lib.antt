@@ -1,0 +1,2 @@
+-- What the program reads from its files.
+pub mod Values
