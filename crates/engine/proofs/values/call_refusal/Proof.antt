@@ -9,7 +9,7 @@ use Rattle.engine.proofs.values.call_refusal.Tie as tie
 returns : tie.Need-returns
 unfolding callRefusal
 returns c =
-    let start = c .before in
+    let start = c .before .before in
     rw (le-ltb (start .args .reader) (start .args .levels) (omega (arith, c .if1 .taken)))
 
 values-refusal-requires : tie.Need-values-refusal-requires
