@@ -171,7 +171,7 @@ run-requires c κs =
         subst (λ n. KeepsSizes (now (start .args .script)) n (c .before .before .before .before .before .before .find-sizes .result)) (nodes-are l) (c .before .before .before .before .before .before .find-sizes .ensures),
         (
           cleared (c .before .before .before .before .before .before .before .before .before .before .before .before .before .before .before .prepare .result .script .nodes) _ (few-bounds (c .before .before .before .before .before .before .before .before .before .before .before .before .before .before .before .prepare .result .script) (l .few) .1 .1 .1) (nodes-are l),
-          (long-enough ((c .before .before .before)) (started .named), run-bounds (now (start .args .book)) (now (start .args .script)) (start .args .reader) (now (start .args .values)) (start .args .limit) (passed ((c .before .before .before .before .before .before .before))) .1),
+          (long-enough ((c .before .before .before)) (started .named), omega (arith, run-bounds (now (start .args .book)) (now (start .args .script)) (start .args .reader) (now (start .args .values)) (start .args .limit) (passed ((c .before .before .before .before .before .before .before))) .1)),
         ),
       ),
     )

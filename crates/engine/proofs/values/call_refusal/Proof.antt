@@ -1,4 +1,5 @@
 -- `call_refusal`: each way out decides one test of the definition.
+use native.Mathlib.Omega.{arith}
 use borrow.Author.Tests.{lt-ltb, le-ltb, eq-eqb, ne-eqb}
 use Rattle.engine.specs.Refusals.{callRefusal}
 use borrow.Author.Needs.{needs}
@@ -7,7 +8,9 @@ use Rattle.engine.proofs.values.call_refusal.Tie as tie
 
 returns : tie.Need-returns
 unfolding callRefusal
-returns c = rw (le-ltb _ _ (c .if1 .taken))
+returns c =
+    let start = c .before .before in
+    rw (le-ltb (start .args .reader) (start .args .levels) (omega (arith, c .if1 .taken)))
 
 values-refusal-requires : tie.Need-values-refusal-requires
 values-refusal-requires c κs = search needs

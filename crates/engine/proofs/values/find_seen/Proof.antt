@@ -35,9 +35,10 @@ at-or-below-requires c κs =
     let start = c .before .before .before .before in
     let x = c .before .before .loop .x in
     let known : x < nameCount (start .args .s .now) =
-    omega (arith, c .before .loop-test .taken, names-are (start .pre .0)) in (
-      omega (arith, start .pre .1 .0 x known, start .pre .1 .1 .0, ap (λ z. z .level) (c .name-at .ensures)),
-      omega (arith, start .pre .1 .1),
+    omega (arith, c .before .loop-test .taken, names-are (start .pre .0)) in
+    let level = ap (λ z. z .level) (c .name-at .ensures) in (
+      omega (arith, start .pre .1 .0 x known, start .pre .1 .1, level),
+      omega (arith, start .pre .1 .0 x known, start .pre .1 .1, level),
     )
 
 -- the table has room for the name at hand
