@@ -21,7 +21,7 @@ use Rattle.runner.specs.Residual.{own, residual}
 use Rattle.runner.specs.Forms.{mover, first, second, before, watched, guarded, beside, turned, frontOf, partIn}
 use Rattle.runner.specs.Frames.{Frame, around}
 use Rattle.runner.specs.Contracts.{Valued, At, left, RearWaits}
-use Rattle.runner.proofs.Sights.{Inside, signalAt, Mover, Sight, sees-gone, sees-mover, sees-alone, sees-before, sees-watched, sees-guarded, sees-beside, sight, part-length}
+use Rattle.runner.proofs.Sights.{Inside, signalAt, Mover, no-mover, Sight, sees-gone, sees-mover, sees-alone, sees-before, sees-watched, sees-guarded, sees-beside, sight, part-length}
 
 -- the forms of a part alone, and of a parallel
 alone-within : {n : ℕ} → (n ≡ first) ⊎ (n ≡ second) → (mover < n) × (n < before)
@@ -96,15 +96,6 @@ module _ {s : List ℕ} {k : ℕ} {st : List ℕ} (at : At s k st) (f : Front) (
   part-of : Inside s k st f F → Part s k st f
   part-of i = inside-part (own st) (rw (set-getD st 0 0) i)
 
--- sequence, watching, when and parallel make no move of their own
-no-mover : {kind : ℕ} → Mover kind → (kind ≡ 5) ⊎ (7 < kind) → ⊥
-no-mover m =
-    ⊎-elim (λ e. other m (omega arith) (λ n. omega arith) (λ n. omega arith))
-    (λ l. other m (omega arith) (λ n. omega arith) (λ n. omega arith))
-  where
-    other : {kind : ℕ} → Mover kind → 4 < kind → (kind ≡ 6 → ⊥) → (kind ≡ 7 → ⊥) → ⊥
-    other m h a b = b (m .others (λ e. omega arith) (λ e. omega arith) (λ e. omega arith) (λ e. omega arith) a)
-
 mover-stays :
     {s : List ℕ} {k : ℕ} (st : List ℕ) (values : List ℤ) → NodeView s k → own st ≡ 0 →
     Mover (partOf s (node s k) .kind) → Stays (left s k st) values false
@@ -114,12 +105,12 @@ mover-stays st values (anAssign e q x y) o m = rw (q, o) (record { waits = refl;
 mover-stays st values (aLet e q x y p) o m = rw (q, o) (record { waits = refl; same = refl })
 mover-stays st values (anIf e q y p r) o m = rw (q, o) (record { waits = refl; same = refl })
 mover-stays st values (aWhile e q y p) o m = rw (q, o) (record { waits = refl; same = refl })
-mover-stays st values (aSequence e q p r) o m = absurd (no-mover m (inl e))
+mover-stays st values (aSequence e q p r) o m = absurd (no-mover m e (inr (inl refl)))
 mover-stays st values (anEmit e q x) o m = rw (q, o) (record { waits = refl; same = refl })
 mover-stays st values (aLocal e q x p) o m = rw (q, o) (record { waits = refl; same = refl })
-mover-stays st values (aWatching e q x p) o m = absurd (no-mover m (inr (omega (arith, e))))
-mover-stays st values (aWhen e q x p) o m = absurd (no-mover m (inr (omega (arith, e))))
-mover-stays st values (aParallel e q p r) o m = absurd (no-mover m (inr (omega (arith, e))))
+mover-stays st values (aWatching e q x p) o m = absurd (no-mover m e (inr (inr (omega arith))))
+mover-stays st values (aWhen e q x p) o m = absurd (no-mover m e (inr (inr (omega arith))))
+mover-stays st values (aParallel e q p r) o m = absurd (no-mover m e (inr (inr (omega arith))))
 
 module _ {s : List ℕ} {c : Script} {values : List ℤ} {k : ℕ} {st : List ℕ} {f : Front}
     (found : Found s c values k st f) where

@@ -2,7 +2,7 @@
 -- Assumes nothing.
 use mathlib.Core.Path.{_≡_, refl, sym, ap, _∙_, subst}
 use mathlib.Core.Bool.{true, false}
-use mathlib.Core.Logic.{_⊎_, inl, inr}
+use mathlib.Core.Logic.{inl, inr}
 use mathlib.Core.List.{List, [], _∷_}
 use Prim.Native.Nat.{ℕ, suc, _-_, _≤_, _<_}
 use native.Mathlib.Decide.{ℕ-discrete}
@@ -26,7 +26,7 @@ use Rattle.runner.specs.Moves.{Live, Silent}
 use Rattle.runner.specs.Contracts.{left, IsSilent, Writes}
 use Rattle.runner.proofs.Residuals.{zeros}
 use Rattle.runner.proofs.Advancing.{own-set-at}
-use Rattle.runner.proofs.Sights.{Mover, Sight, sees-gone, sees-mover, sees-alone, sees-before, sees-watched, sees-guarded, sees-beside, own-put, length-put, first-put}
+use Rattle.runner.proofs.Sights.{Mover, no-mover, Sight, sees-gone, sees-mover, sees-alone, sees-before, sees-watched, sees-guarded, sees-beside, own-put, length-put, first-put}
 
 module _ (s : List ℕ) (k : ℕ) where
   abbrev kind : ℕ
@@ -77,12 +77,6 @@ module _ (s : List ℕ) (k : ℕ) where
 pub known : (s : List ℕ) → Checked s → (k : ℕ) → k < nodeCount s → {n : ℕ} → kind s k ≡ n → KnownAt s k n
 known s ok k h e = subst (KnownAt s k) e (known-of s k (node-view s ok k h))
 
--- no other kind has a move of its own
-other : {kind n : ℕ} → Mover kind → kind ≡ n → (n ≡ 0) ⊎ ((n ≡ 5) ⊎ (8 ≤ n)) → ⊥
-other m e (inl q) = omega (arith, e, q, m .others (λ x. omega (arith, e, q, x)) (λ x. omega (arith, e, q, x)) (λ x. omega (arith, e, q, x)) (λ x. omega (arith, e, q, x)) (λ x. omega (arith, e, q, x)))
-other m e (inr (inl q)) = omega (arith, e, q, m .others (λ x. omega (arith, e, q, x)) (λ x. omega (arith, e, q, x)) (λ x. omega (arith, e, q, x)) (λ x. omega (arith, e, q, x)) (λ x. omega (arith, e, q, x)))
-other m e (inr (inr q)) = omega (arith, e, q, m .others (λ x. omega (arith, e, q, x)) (λ x. omega (arith, e, q, x)) (λ x. omega (arith, e, q, x)) (λ x. omega (arith, e, q, x)) (λ x. omega (arith, e, q, x)))
-
 -- what the form of a node with a move of its own tells
 pub is-mover :
     {s : List ℕ} {k : ℕ} {st : List ℕ} {f : Front} → Sight s k st f → f .form ≡ mover →
@@ -127,17 +121,17 @@ module _ (s : List ℕ) (ok : Checked s) (k : ℕ) (h : k < nodeCount s) (st : L
     -- a node whose own move is next is neither nil nor suspended
     live-of : Mover (kind s k) → NodeView s k → Live (left s k st) vs
     unfolding residual suspended isNil
-    live-of m (aNil e q) = absurd (other m e (inl refl))
+    live-of m (aNil e q) = absurd (no-mover m e (inl refl))
     live-of m (anAssign e q x y) = rw (q, z) (record { some = refl; awake = refl })
     live-of m (aLet e q x y w) = rw (q, z) (record { some = refl; awake = refl })
     live-of m (anIf e q x y w) = rw (q, z) (record { some = refl; awake = refl })
     live-of m (aWhile e q x y) = rw (q, z) (record { some = refl; awake = refl })
-    live-of m (aSequence e q x y) = absurd (other m e (inr (inl refl)))
+    live-of m (aSequence e q x y) = absurd (no-mover m e (inr (inl refl)))
     live-of m (anEmit e q x) = rw (q, z) (record { some = refl; awake = refl })
     live-of m (aLocal e q x y) = rw (q, z) (record { some = refl; awake = refl })
-    live-of m (aWatching e q x y) = absurd (other m e (inr (inr (omega arith))))
-    live-of m (aWhen e q x y) = absurd (other m e (inr (inr (omega arith))))
-    live-of m (aParallel e q x y) = absurd (other m e (inr (inr (omega arith))))
+    live-of m (aWatching e q x y) = absurd (no-mover m e (inr (inr (omega arith))))
+    live-of m (aWhen e q x y) = absurd (no-mover m e (inr (inr (omega arith))))
+    live-of m (aParallel e q x y) = absurd (no-mover m e (inr (inr (omega arith))))
 
     pub mover-live : Mover (kind s k) → Live (left s k st) vs
     mover-live m = live-of m (node-view s ok k h)

@@ -43,6 +43,12 @@ pub record Mover (kind : ℕ) : Type 0 where
   pub others :
       (kind ≡ 1 → ⊥) → (kind ≡ 2 → ⊥) → (kind ≡ 3 → ⊥) → (kind ≡ 4 → ⊥) → (kind ≡ 6 → ⊥) → kind ≡ 7
 
+-- nil, sequence, watching, when and parallel have none
+pub no-mover : {kind n : ℕ} → Mover kind → kind ≡ n → (n ≡ 0) ⊎ ((n ≡ 5) ⊎ (8 ≤ n)) → ⊥
+no-mover m e (inl q) = omega (arith, e, q, m .others (λ x. omega (arith, e, q, x)) (λ x. omega (arith, e, q, x)) (λ x. omega (arith, e, q, x)) (λ x. omega (arith, e, q, x)) (λ x. omega (arith, e, q, x)))
+no-mover m e (inr (inl q)) = omega (arith, e, q, m .others (λ x. omega (arith, e, q, x)) (λ x. omega (arith, e, q, x)) (λ x. omega (arith, e, q, x)) (λ x. omega (arith, e, q, x)) (λ x. omega (arith, e, q, x)))
+no-mover m e (inr (inr q)) = omega (arith, e, q, m .others (λ x. omega (arith, e, q, x)) (λ x. omega (arith, e, q, x)) (λ x. omega (arith, e, q, x)) (λ x. omega (arith, e, q, x)) (λ x. omega (arith, e, q, x)))
+
 -- node k with the bytes st, form by form
 pub data Sight (s : List ℕ) (k : ℕ) (st : List ℕ) (f : Front) : Type 0 where
   sees-gone : f .form ≡ gone → residual (processOf s k) st ≡ nil → Sight s k st f

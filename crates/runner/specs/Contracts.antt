@@ -4,7 +4,7 @@ use mathlib.Core.Bool.{Bool, true, false, cond, _||_}
 use mathlib.Core.Logic.{_⊎_}
 use mathlib.Core.Option.{Option, none, some}
 use mathlib.Core.List.{List, [], _∷_}
-use Prim.Native.Nat.{ℕ, suc, _+_, _-_, _*_, _≤_, _<_}
+use Prim.Native.Nat.{ℕ, suc, _-_, _*_, _≤_, _<_}
 use lib.Dec.{eqb}
 use lib.IntN.{ℤ}
 use lib.ListN.{getD, set, length}
@@ -64,10 +64,6 @@ applied kind a b = apply (operatorOf kind) a b
 abbrev pub lineOf : List ℕ → ℕ → ℕ → ℕ → ℤ → Option Line
 lineOf seen steps instant x v =
     cond (seenIn seen x) (some (record { step = suc steps; instant = instant; name = x; value = v })) none
-
-abbrev pub wordsPut : List ℕ → ℕ → ℕ → ℕ → ℕ → ℕ → List ℕ
-wordsPut log at step instant name value =
-    set (set (set (set log at step) (at + 1) instant) (at + 2) name) (at + 3) value
 
 -- a line is written if there is room for it
 pub record Notes (room : ℕ) (l : Option Line) (n : ℕ) (log : List ℕ) (r : Noted) (after : List ℕ) : Type 0 where

@@ -22,13 +22,13 @@ pub record Running (L : Type 0) : Type 0 where
   pub instants : ℕ
   pub lines : ℕ
 
--- 'Four words make a line: step, instant, name, value as two's complement.' Line n of a log.
+-- 'Four words make a line: step, instant, name, value as two's complement.' From word `at` on, and as line n of a log.
+abbrev pub putWords : List ℕ → ℕ → ℕ → ℕ → ℕ → ℕ → List ℕ
+putWords log at step instant name value =
+    set (set (set (set log at step) (at + 1) instant) (at + 2) name) (at + 3) value
+
 abbrev pub putLine : Line → ℕ → List ℕ → List ℕ
-putLine l n log =
-    set
-    (set (set (set log (4 * n) (l .step)) (4 * n + 1) (l .instant)) (4 * n + 2) (l .name))
-    (4 * n + 3)
-    (ofZ w32 (l .value))
+putLine l n log = putWords log (4 * n) (l .step) (l .instant) (l .name) (ofZ w32 (l .value))
 
 -- the log, and the number of its lines, after a step that calls for this line
 abbrev pub logAfter : Option Line → ℕ → List ℕ → List ℕ

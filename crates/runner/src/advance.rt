@@ -148,8 +148,9 @@ pub fn advance(
     let mut now = at;
     loop {
         let e = enter(s, c, sizes, seen, values, state, log, limits, now, k);
+        let why = e.why;
         let entered = e.at;
-        if e.why == INTO {
+        if why == INTO {
             let f = e.front;
             let from = f.from;
             let to = f.to;
@@ -176,11 +177,8 @@ pub fn advance(
             }
             now = l.at;
         } else {
-            if e.why != moves::AGAIN {
-                return Done {
-                    why: e.why,
-                    at: entered,
-                };
+            if why != moves::AGAIN {
+                return Done { why, at: entered };
             }
             now = entered;
         }

@@ -2,11 +2,12 @@
 ghost use mathlib.Core.Path.{_≡_};
 ghost use Prim.Native.Nat.{_*_, _/_, _+_, _≤_, _<_};
 ghost use lib.ListN.{length};
-ghost use Rattle.runner.specs.Contracts.{lineOf, wordsPut, Notes};
+ghost use Rattle.runner.specs.Moves.{putWords};
+ghost use Rattle.runner.specs.Contracts.{lineOf, Notes};
 
 fn put_line(log: &mut [u32], at: usize, step: u32, instant: u32, name: u32, value: u32)
     requires { ⌜ at + 4 ≤ length (now log) ⌝ }
-    ensures { λ _. ⌜ now (log .exit) ≡ wordsPut (now (log .entry)) at step instant name value ⌝ }
+    ensures { λ _. ⌜ now (log .exit) ≡ putWords (now (log .entry)) at step instant name value ⌝ }
 {
     log[at] = step;
     log[at + 1] = instant;

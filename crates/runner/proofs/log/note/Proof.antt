@@ -10,8 +10,7 @@ use mir.Val.{SFits, ofZ}
 use mir.Facts.{toZ-ofZ}
 use borrow.Author.Tests.{lt-ltb, le-ltb, eq-eqb, ne-eqb}
 use Rattle.language.proofs.Signed.{readBack}
-use Rattle.runner.specs.Moves.{putLine}
-use Rattle.runner.specs.Contracts.{wordsPut}
+use Rattle.runner.specs.Moves.{putWords, putLine}
 use borrow.Author.Needs.{needs}
 use Rattle.runner.proofs.log.note.Statement.{statement}
 use Rattle.runner.proofs.log.note.Tie as tie
@@ -61,10 +60,10 @@ same-length c = search needs
 -- the words that are put are those of the line
 put :
     (log : List ℕ) (n steps instant x w : ℕ) {v : ℤ} → SFits w32 v → w ≡ ofZ w32 (readBack w32 v) →
-    {after : List ℕ} → after ≡ wordsPut log (4 * n) (steps + 1) instant x w →
+    {after : List ℕ} → after ≡ putWords log (4 * n) (steps + 1) instant x w →
     after ≡ putLine (record { step = suc steps; instant = instant; name = x; value = v }) n log
 put log n steps instant x w f e q =
-    q ∙ ap₂ (λ m u. wordsPut log (4 * n) m instant x u) (add-one steps) (e ∙ ap (ofZ w32) (toZ-ofZ f))
+    q ∙ ap₂ (λ m u. putWords log (4 * n) m instant x u) (add-one steps) (e ∙ ap (ofZ w32) (toZ-ofZ f))
 
 returns-3 : tie.Need-returns-3
 returns-3 c =
