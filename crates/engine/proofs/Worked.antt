@@ -9,7 +9,7 @@ use Rattle.lattice.specs.Refusals as books
 use Rattle.language.specs.Values.{clamped, quotient}
 use Rattle.language.specs.Syntax.{isNil}
 use Rattle.language.specs.Levels.{expLevel, writeLevel, testLevel, need}
-use Rattle.language.specs.Steps.{value, suspended, move, change, instantStart, step}
+use Rattle.language.specs.Steps.{evaluate, value, suspended, move, change, instantStart, step}
 use Rattle.language.specs.Calls.{calledFor, givenBack, logged, run}
 use Rattle.script.specs.Uses.{used, timesUsed}
 use Rattle.script.specs.Reach.{isOutOfReach}
@@ -21,5 +21,5 @@ use Rattle.engine.specs.Answers.{verdict, left}
 use Rattle.engine.specs.Examples.{PegsHold}
 
 pub pegs-hold : PegsHold
-unfolding firstFrom first any all count course entry table leastUpper top books.isFaulty books.firstFaulty books.firstLacking books.refusal clamped quotient isNil expLevel writeLevel testLevel need value suspended move change instantStart step calledFor givenBack logged run used timesUsed isOutOfReach scripts.holds scripts.joinRefusal scripts.refusal expressionOf processOf words checkRefusal valuesRefusal callRefusal runRefusal verdict left
+unfolding firstFrom first any all count course entry table leastUpper top books.isFaulty books.firstFaulty books.firstLacking books.refusal clamped quotient isNil expLevel writeLevel testLevel need evaluate value suspended move change instantStart step calledFor givenBack logged run used timesUsed isOutOfReach scripts.holds scripts.joinRefusal scripts.refusal expressionOf processOf words checkRefusal valuesRefusal callRefusal runRefusal verdict left
 pegs-hold = refl

@@ -3,6 +3,7 @@ pub mod Signed
 pub mod Bits
 pub mod Orders
 pub mod Needs
+pub mod NameKinds
 pub mod Typing
 pub mod Figures
 pub mod Executions

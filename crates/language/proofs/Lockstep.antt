@@ -11,7 +11,7 @@ use lib.IntN.{ℤ}
 use Rattle.prelude.proofs.Bools.{by-cases, by-both}
 use Rattle.language.specs.Values.{holds, negation}
 use Rattle.language.specs.Syntax.{Names, Exp, constant, register, binary, negated, Occurs, here, left, right, under, Proc, nil, assign, letIn, ifThenElse, while, sequence, emit, local, watching, when, parallel, isNil}
-use Rattle.language.specs.Steps.{held, present, apply, value, test, Output, silent, assigned, emitted, Outcome, inside, suspended, move, change, step}
+use Rattle.language.specs.Steps.{held, present, apply, evaluate, value, test, Output, silent, assigned, emitted, Outcome, inside, suspended, move, change, step}
 use Rattle.language.specs.Calls.{Line, System, lineFor, calledFor, output, next}
 use Rattle.language.proofs.Stores.{set-unseen, LowEqual, set-low, instant-low, instant-register}
 use Rattle.language.proofs.Safe.{LowReads, LowTests, Quiet, Safe, step-uses}
@@ -40,7 +40,7 @@ test-part : {X Y P R : Type 0} → P → X ⊎ R → (X × Y) ⊎ ((P × R) → 
 test-part p h k = pick h (⊎-map (λ u. u .0) (λ n r. n (p, r)) k)
 
 pub value-same : (e : Exp) (s t : List ℤ) → ((x : ℕ) → Occurs x e → held s x ≡ held t x) → value e s ≡ value e t
-unfolding value
+unfolding evaluate value
 value-same (constant v) s t h = refl
 value-same (register x) s t h = h x here
 value-same (binary o a b) s t h =

@@ -64,7 +64,7 @@ mapped f s x h =
     ]
 
 module _ {L : Type 0} (names : Names L) (s : List ℤ) where
-  instant-at : (x : ℕ) → held (instantStart names s) x ≡ cond (names .isSignal x) (pos 0) (held s x)
+  pub instant-at : (x : ℕ) → held (instantStart names s) x ≡ cond (names .isSignal x) (pos 0) (held s x)
   unfolding instantStart
   instant-at x =
       mapped

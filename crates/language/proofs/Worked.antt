@@ -7,12 +7,12 @@ use Rattle.lattice.specs.Order.{leastUpper, top}
 use Rattle.language.specs.Values.{clamped, quotient}
 use Rattle.language.specs.Syntax.{isNil}
 use Rattle.language.specs.Levels.{expLevel, writeLevel, testLevel, need, needs}
-use Rattle.language.specs.Steps.{value, suspended, move, change, instantStart, step}
+use Rattle.language.specs.Steps.{evaluate, value, suspended, move, change, instantStart, step}
 use Rattle.language.specs.Calls.{calledFor, givenBack, logged, run}
 use Rattle.language.specs.Examples.{Examples}
 
 pub examples : Examples
-unfolding firstFrom first any all table leastUpper top clamped quotient isNil expLevel writeLevel testLevel need needs value suspended move change instantStart step calledFor givenBack logged run
+unfolding firstFrom first any all table leastUpper top clamped quotient isNil expLevel writeLevel testLevel need needs evaluate value suspended move change instantStart step calledFor givenBack logged run
 examples =
     record {
       arithmetic = record { clamps-above = refl; quotient-clamps = refl; toward-zero = refl; by-zero = refl };

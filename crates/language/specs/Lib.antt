@@ -8,6 +8,7 @@ pub mod Calls
 pub mod Suspension
 pub mod Moves
 pub mod Instants
+pub mod NameKinds
 pub mod Typing
 pub mod Paths
 pub mod Results

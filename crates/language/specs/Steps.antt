@@ -25,11 +25,14 @@ apply less a b = lessThan a b
 apply equal a b = equalTo a b
 
 -- S(e)
+unfoldable pub evaluate : Exp → (ℕ → ℤ) → ℤ
+evaluate (constant v) S = v
+evaluate (register x) S = S x
+evaluate (binary o a b) S = apply o (evaluate a S) (evaluate b S)
+evaluate (negated a) S = negation (evaluate a S)
+
 unfoldable pub value : Exp → List ℤ → ℤ
-value (constant v) s = v
-value (register x) s = held s x
-value (binary o a b) s = apply o (value a s) (value b s)
-value (negated a) s = negation (value a s)
+value e s = evaluate e (held s)
 
 -- 'A test holds if nonzero'
 abbrev pub test : Exp → List ℤ → Bool

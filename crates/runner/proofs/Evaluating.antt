@@ -7,7 +7,7 @@ use native.Mathlib.Omega.{arith}
 use lib.IntN.{ℤ}
 use Rattle.language.specs.Values.{negation}
 use Rattle.language.specs.Syntax.{Operator, add, subtract, multiply, divide, less, equal}
-use Rattle.language.specs.Steps.{held, apply, value}
+use Rattle.language.specs.Steps.{held, apply, evaluate, value}
 use Rattle.script.specs.declared.entries.Part.{Part}
 use Rattle.script.specs.Layout.{nameCount, expressionCount}
 use Rattle.script.specs.Entries.{partOf}
@@ -48,7 +48,7 @@ module _ (s : List ℕ) (values : List ℤ) where
         2 ≤ p .kind → (p .kind ≡ 8 → ⊥) → applied (p .kind) (valueAt (p .a)) (valueAt (p .b)) ≡ valueAt e
 
   by-view : (e : ℕ) → ExpressionView s e → Evaluates e (partOf s e)
-  unfolding value
+  unfolding evaluate value
   by-view e (aConstant k v) =
       record {
         constant = λ _. sym (ap (λ x. value x values) v);

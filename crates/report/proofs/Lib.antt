@@ -1,0 +1,4 @@
+-- Laws of renaming and of what a step does to names; then that each step of the report is the step in place.
+pub mod Renames
+pub mod Clean
+pub mod Memory

@@ -1,0 +1,49 @@
+-- RR-5594, 2.2.3: execution paths, with the lines that 01 asks of their steps.
+use Prim.Native.Nat.{ℕ, zero, suc}
+use mathlib.Core.Bool.{Bool, false}
+use mathlib.Core.Option.{Option, none, some}
+use mathlib.Core.List.{List, [], _∷_, _++_}
+use Rattle.language.specs.Syntax.{nil}
+use Rattle.language.specs.NameKinds.{Kind, var, sig}
+use Rattle.language.specs.Typing.{Environment}
+use Rattle.language.specs.Steps.{Output, silent, assigned, emitted}
+use Rattle.language.specs.Calls.{Line, System, calledFor}
+use Rattle.report.specs.Configurations.{Configuration}
+use Rattle.report.specs.Instants.{Step}
+
+-- a line, and the kind of its name
+pub record NamedLine : Type 0 where
+  pub kind : Kind
+  pub line : Line
+
+-- the kind of the name that a step writes: ASSIGN-OP assigns a variable, EMIT-OP emits a signal
+abbrev pub kindOf : Output → Kind
+kindOf silent = var
+kindOf (assigned x v) = var
+kindOf (emitted a) = sig
+
+module _ {L : Type 0} (below : L → Bool) where
+  -- 'a name at or below the reader's level', by Γ
+  abbrev pub isSeen : Option L → Bool
+  isSeen none = false
+  isSeen (some δ) = below δ
+
+  abbrev pub named : Kind → Option Line → List NamedLine
+  named k none = []
+  named k (some l) = record { kind = k; line = l } ∷ []
+
+  -- what 01 counts, of a configuration: all that `calledFor` looks at
+  abbrev counted : Configuration L → System L
+  counted C = record { process = nil; values = []; steps = C .steps; instants = C .instants }
+
+  -- the lines that a step calls for, from the configuration before it: none or one
+  abbrev pub linesFor : Configuration L → Output → List NamedLine
+  linesFor C o =
+      named (kindOf o) (calledFor (λ x. isSeen (C .environment (kindOf o) x)) (counted C) o)
+
+  -- n steps from one configuration to another, with the lines that they call for
+  pub data Path : ℕ → Configuration L → List NamedLine → Configuration L → Type 0 where
+    here : {C : Configuration L} → Path zero C [] C
+    more :
+        {n : ℕ} {C C′ C″ : Configuration L} {o : Output} {ls : List NamedLine} →
+        Step C o C′ → Path n C′ ls C″ → Path (suc n) C (linesFor C o ++ ls) C″

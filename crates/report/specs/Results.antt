@@ -1,0 +1,66 @@
+-- What a run in place and the report's paths have in common. The proofs are in proofs/Theorems.antt.
+--
+-- The language crate's relation keeps one place for each declared name; the report makes a fresh name at each entry of a
+-- declaration and substitutes it. The relation in place is the one that the product works with. What is said here joins
+-- the two: the report has a path of as many steps, and every path of as many steps, whatever names it takes, has the
+-- same instants, session values and lines, and leaves the same process up to its names.
+use Prim.Native.Nat.{ℕ, _<_}
+use mathlib.Core.Path.{_≡_}
+use mathlib.Core.Bool.{Bool, true, false}
+use mathlib.Core.Option.{none, some}
+use mathlib.Core.List.{List, [], _∷_}
+use lib.ListN.{length}
+use Rattle.language.specs.Syntax.{Names, Proc}
+use Rattle.language.specs.NameKinds.{Kind, var, sig, isOf}
+use Rattle.language.specs.Typing.{Environment, environment}
+use Rattle.language.specs.Steps.{held, present, Output}
+use Rattle.language.specs.Calls.{Line, Ending, finished, spent, logFull, System}
+use Rattle.report.specs.Names.{Free, Renaming, Renamed}
+use Rattle.report.specs.Configurations.{Configuration}
+use Rattle.report.specs.Instants.{Step, Alive, Terminated}
+use Rattle.report.specs.Paths.{NamedLine, linesFor, Path}
+
+module _ {L : Type 0} (names : Names L) (Γ : Environment L) where
+  -- A line of the run and one of a path of the report. `origin` tells for each name that the report has which name of
+  -- the script it was made for. The kind comes from the report's rule.
+  pub record SameLine (origin : Renaming) (l : Line) (m : NamedLine) : Type 0 where
+    pub steps : l .step ≡ m .line .step
+    pub instants : l .instant ≡ m .line .instant
+    pub values : l .value ≡ m .line .value
+    pub kinds : isOf (m .kind) (names .isSignal (l .name)) ≡ true
+    pub origins : l .name ≡ origin (m .kind) (m .line .name)
+    pub session : (δ : L) → Γ (m .kind) (l .name) ≡ some δ → m .line .name ≡ l .name
+
+  pub data SameLines (origin : Renaming) : List Line → List NamedLine → Type 0 where
+    no-lines : SameLines origin [] []
+    one-more :
+        {l : Line} {m : NamedLine} {ls : List Line} {ms : List NamedLine} →
+        SameLine origin l m → SameLines origin ls ms → SameLines origin (l ∷ ls) (m ∷ ms)
+
+  -- Where a run in place has come to with these lines, and where a path of the report has come to with those. Γ is the
+  -- environment of the session's names.
+  pub record Alike (ls : List Line) (at : System L) (ms : List NamedLine) (C : Configuration L) : Type 0 where
+    pub origin : Renaming
+    pub renaming : Renaming
+    pub lines : SameLines origin ls ms
+    pub steps : C .steps ≡ at .steps
+    pub instants : C .instants ≡ at .instants
+    pub store : (x : ℕ) (δ : L) → Γ var x ≡ some δ → C .store x ≡ held (at .values) x
+    pub signals : (a : ℕ) (δ : L) → Γ sig a ≡ some δ → C .signals a ≡ present (at .values) a
+    pub residual : Renamed renaming (at .process) (C .process)
+    pub session : (k : Kind) (x : ℕ) (δ : L) → Γ k x ≡ some δ → (renaming k x ≡ x) × (origin k x ≡ x)
+    pub inverse : (k : Kind) (x : ℕ) → Free k x (at .process) → origin k (renaming k x) ≡ x
+
+-- Some path of n steps of the report.
+pub record HasPath {L : Type 0} (below : L → Bool) (n : ℕ) (C : Configuration L) : Type 0 where
+  pub lines : List NamedLine
+  pub last : Configuration L
+  pub path : Path below n C lines last
+
+-- How a run ended, of the configuration that a path of the report has come to: finished, it is terminated; spent, it is
+-- alive and the limit is reached; log full, it is alive, and its next step calls for a line.
+abbrev pub EndsAs : {L : Type 0} → (L → Bool) → Ending → Configuration L → ℕ → ℕ → Type 0
+EndsAs below finished C made limit = Terminated C
+EndsAs below spent C made limit = Alive C × (made ≡ limit)
+EndsAs {L} below logFull C made limit =
+    Alive C × (made < limit) × ((o : Output) (D : Configuration L) → Step C o D → length (linesFor below C o) ≡ 1)
