@@ -88,15 +88,15 @@ module _ {L : Type 0} where
     pub free : (k : Kind) (y : ℕ) → Free k y p′ → Free k y p ⊎ Declared k y p
     pub clean : Clean p′
 
-  pub kept-seq : {p p′ : Proc L} (q : Proc L) → Clean (sequence p q) → Kept p p′ → Kept (sequence p q) (sequence p′ q)
-  kept-seq q c m = record {
+  pub kept-sequence : {p p′ : Proc L} (q : Proc L) → Clean (sequence p q) → Kept p p′ → Kept (sequence p q) (sequence p′ q)
+  kept-sequence q c m = record {
     decl = λ k y. decl-l (m .decl k y);
     free = λ k y. free-l (m .free k y);
     clean = (λ k y d f. c .0 k y (m .decl k y d) f, m .clean, c .2);
   }
 
-  pub kept-par : {p p′ : Proc L} (q : Proc L) → Clean (parallel p q) → Kept p p′ → Kept (parallel p q) (parallel p′ q)
-  kept-par q c m = record {
+  pub kept-parallel : {p p′ : Proc L} (q : Proc L) → Clean (parallel p q) → Kept p p′ → Kept (parallel p q) (parallel p′ q)
+  kept-parallel q c m = record {
     decl = λ k y. decl-l (m .decl k y);
     free = λ k y. free-l (m .free k y);
     clean = (
@@ -108,8 +108,8 @@ module _ {L : Type 0} where
     );
   }
 
-  pub kept-watch : {p p′ : Proc L} (a : ℕ) → Clean (watching a p) → Kept p p′ → Kept (watching a p) (watching a p′)
-  kept-watch a c m = record {
+  pub kept-watching : {p p′ : Proc L} (a : ℕ) → Clean (watching a p) → Kept p p′ → Kept (watching a p) (watching a p′)
+  kept-watching a c m = record {
     decl = m .decl;
     free = λ k y. free-r (m .free k y);
     clean = (λ d. c .0 (m .decl sig a d), m .clean);
@@ -127,3 +127,21 @@ module _ {L : Type 0} where
 
   pub kept-same : (p : Proc L) → Clean p → Kept p p
   kept-same p c = record { decl = λ k y d. d; free = λ k y f. inl f; clean = c }
+
+  -- both parts of a parallel
+  pub kept-both : {p p′ q q′ : Proc L} → Clean (parallel p q) → Kept p p′ → Kept q q′ → Kept (parallel p q) (parallel p′ q′)
+  kept-both {q = q} c m w =
+      let u = kept-parallel q c m in
+      let v = u .clean in
+      record {
+        decl = λ k y. ⊎-elim (λ d. u .decl k y (inl d)) (λ d. inr (w .decl k y d));
+        free =
+            λ k y. ⊎-elim (λ f. u .free k y (inl f)) (λ f. ⊎-elim (λ g. inl (inr g)) (λ g. inr (inr g)) (w .free k y f));
+        clean = (
+          λ k y d d′. v .0 k y d (w .decl k y d′),
+          λ k y d f. ⊎-elim (λ g. v .1 k y d g) (λ g. v .0 k y d g) (w .free k y f),
+          λ k y d f. v .2 k y (w .decl k y d) f,
+          v .3,
+          w .clean,
+        );
+      }

@@ -2,3 +2,9 @@
 pub mod Renames
 pub mod Clean
 pub mod Memory
+pub mod Waiting
+pub mod Matching
+pub mod Steps
+pub mod Progress
+pub mod Starts
+pub mod Theorems

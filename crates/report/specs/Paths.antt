@@ -22,24 +22,23 @@ kindOf silent = var
 kindOf (assigned x v) = var
 kindOf (emitted a) = sig
 
+abbrev pub named : Kind → Option Line → List NamedLine
+named k none = []
+named k (some l) = record { kind = k; line = l } ∷ []
+
+-- what 01 counts, of a configuration: all that `calledFor` looks at
+abbrev counted : {L : Type 0} → Configuration L → System L
+counted C = record { process = nil; values = []; steps = C .steps; instants = C .instants }
+
 module _ {L : Type 0} (below : L → Bool) where
   -- 'a name at or below the reader's level', by Γ
   abbrev pub isSeen : Option L → Bool
   isSeen none = false
   isSeen (some δ) = below δ
 
-  abbrev pub named : Kind → Option Line → List NamedLine
-  named k none = []
-  named k (some l) = record { kind = k; line = l } ∷ []
-
-  -- what 01 counts, of a configuration: all that `calledFor` looks at
-  abbrev counted : Configuration L → System L
-  counted C = record { process = nil; values = []; steps = C .steps; instants = C .instants }
-
   -- the lines that a step calls for, from the configuration before it: none or one
   abbrev pub linesFor : Configuration L → Output → List NamedLine
-  linesFor C o =
-      named (kindOf o) (calledFor (λ x. isSeen (C .environment (kindOf o) x)) (counted C) o)
+  linesFor C o = named (kindOf o) (calledFor (λ x. isSeen (C .environment (kindOf o) x)) (counted C) o)
 
   -- n steps from one configuration to another, with the lines that they call for
   pub data Path : ℕ → Configuration L → List NamedLine → Configuration L → Type 0 where

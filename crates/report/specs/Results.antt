@@ -14,7 +14,8 @@ use Rattle.language.specs.Syntax.{Names, Proc}
 use Rattle.language.specs.NameKinds.{Kind, var, sig, isOf}
 use Rattle.language.specs.Typing.{Environment, environment}
 use Rattle.language.specs.Steps.{held, present, Output}
-use Rattle.language.specs.Calls.{Line, Ending, finished, spent, logFull, System}
+use Rattle.language.specs.Calls.{Line, Ending, finished, spent, logFull, System, Run}
+use Rattle.language.specs.Paths as paths
 use Rattle.report.specs.Names.{Free, Renaming, Renamed}
 use Rattle.report.specs.Configurations.{Configuration}
 use Rattle.report.specs.Instants.{Step, Alive, Terminated}
@@ -64,3 +65,26 @@ EndsAs below finished C made limit = Terminated C
 EndsAs below spent C made limit = Alive C × (made ≡ limit)
 EndsAs {L} below logFull C made limit =
     Alive C × (made < limit) × ((o : Output) (D : Configuration L) → Step C o D → length (linesFor below C o) ≡ 1)
+
+-- Demand 2 in the report's own terms, of a run of at most `limit` steps that starts at `at`, beside the paths of the report
+-- that start at C. The run itself is a path in place, and `last` is what it leaves.
+pub record Reported {L : Type 0} (names : Names L) (Γ : Environment L) (below : L → Bool) (limit : ℕ) (at : System L)
+    (C : Configuration L) (r : Run) : Type 0 where
+  pub last : System L
+  pub path : paths.Path names (λ x. below (names .level x)) (r .steps) at (r .lines) last
+  -- there is such a path
+  pub exists : HasPath below (r .steps) C
+  -- and this holds of every one, whatever fresh names it takes
+  pub alike :
+      (ms : List NamedLine) (D : Configuration L) → Path below (r .steps) C ms D → Alike names Γ (r .lines) last ms D
+  pub instants :
+      (ms : List NamedLine) (D : Configuration L) → Path below (r .steps) C ms D → D .instants ≡ r .instants
+  pub store :
+      (ms : List NamedLine) (D : Configuration L) → Path below (r .steps) C ms D →
+      (x : ℕ) (δ : L) → Γ var x ≡ some δ → D .store x ≡ held (r .values) x
+  pub signals :
+      (ms : List NamedLine) (D : Configuration L) → Path below (r .steps) C ms D →
+      (a : ℕ) (δ : L) → Γ sig a ≡ some δ → D .signals a ≡ present (r .values) a
+  pub ends :
+      (ms : List NamedLine) (D : Configuration L) → Path below (r .steps) C ms D →
+      EndsAs below (r .ending) D (r .steps) limit

@@ -1,0 +1,341 @@
+-- Each step of the report is the step in place, up to the names of what is declared.
+-- Assumes nothing.
+use Prim.Native.Nat.{ℕ, suc, _<_}
+use mathlib.Core.Path.{_≡_, refl, sym, ap, _∙_}
+use mathlib.Core.Bool.{Bool, true, false, not}
+use mathlib.Core.Option.{none, some}
+use mathlib.Core.Logic.{_⊎_, inl, inr, ⊎-elim}
+use mathlib.Core.List.{List}
+use lib.IntN.{ℤ, pos}
+use lib.ListN.{set}
+use Rattle.prelude.proofs.Bools.{by-cases}
+use Rattle.language.specs.Values.{holds}
+use Rattle.language.specs.Syntax.{Names, Exp, Occurs, Proc, nil, assign, letIn, ifThenElse, while, sequence, emit, local, watching, when, parallel}
+use Rattle.language.specs.NameKinds.{Kind, var, sig, same, put, isOf}
+use Rattle.language.specs.Typing.{Environment}
+use Rattle.language.specs.Steps.{held, evaluate, value, Output, silent, assigned, emitted, instantStart}
+use Rattle.language.specs.Calls.{System}
+use Rattle.language.specs.Moves as inplace
+use Rattle.language.specs.Instants as inplace-steps
+use Rattle.language.proofs.NameKinds.{same-self, put-true, other, either}
+use Rattle.report.specs.Names.{Free, Declared, Renaming, renamedIn, Renamed, r-nil, r-assign, r-let, r-if, r-while, r-sequence, r-emit, r-local, r-watching, r-when, r-parallel}
+use Rattle.report.specs.Configurations.{Configuration}
+use Rattle.report.specs.Moves.{Move, ASSIGN-OP, SEQ-OP₁, SEQ-OP₂, LET-OP, COND-OP₁, COND-OP₂, WHILE-OP₁, WHILE-OP₂, EMIT-OP, LOCAL-OP, WATCH-OP₁, WATCH-OP₂, WHEN-OP₁, WHEN-OP₂, PAR-OP₁, PAR-OP₂, PAR-OP₃}
+use Rattle.report.specs.Instants.{Step, MOVE, INSTANT-OP}
+use Rattle.report.proofs.Renames.{evaluate-renamed, same-ren, ren-then, under-twice}
+use Rattle.report.proofs.Clean.{Clean, Kept, kept-sequence, kept-parallel, kept-watching, kept-when, kept-nil}
+use Rattle.report.proofs.Memory.{Agree, defined, agree-let, agree-local, agree-assign, agree-emit, agree-none}
+use Rattle.report.proofs.Waiting.{Signals, suspended-back, suspended-forth, ChangedBack, changed-back}
+
+-- what is written: nothing, or one value at names that correspond
+pub data SameOutput (F : Kind → ℕ → Bool) (ρ : Renaming) : Output → Output → Type 0 where
+  no-output : SameOutput F ρ silent silent
+  an-assignment :
+      {x x′ : ℕ} {v w : ℤ} → F var x ≡ true → x′ ≡ ρ var x → v ≡ w → SameOutput F ρ (assigned x v) (assigned x′ w)
+  an-emission : {a a′ : ℕ} → F sig a ≡ true → a′ ≡ ρ sig a → SameOutput F ρ (emitted a) (emitted a′)
+
+module _ {L : Type 0} where
+  -- names of Γ stay, and so does what they were made for
+  pub record Grown (Γ Γ′ : Environment L) (origin origin′ : Renaming) : Type 0 where
+    pub levels : (k : Kind) (z : ℕ) (δ : L) → Γ k z ≡ some δ → Γ′ k z ≡ some δ
+    pub origins : (k : Kind) (z : ℕ) (δ : L) → Γ k z ≡ some δ → origin′ k z ≡ origin k z
+
+  pub grown-same : (Γ : Environment L) (origin : Renaming) → Grown Γ Γ origin origin
+  grown-same Γ origin = record { levels = λ k z δ e. e; origins = λ k z δ e. refl }
+
+  pub grown-then :
+      {Γ Γ′ Γ″ : Environment L} {o o′ o″ : Renaming} → Grown Γ Γ′ o o′ → Grown Γ′ Γ″ o′ o″ → Grown Γ Γ″ o o″
+  grown-then u w =
+      record {
+        levels = λ k z δ e. w .levels k z δ (u .levels k z δ e);
+        origins = λ k z δ e. w .origins k z δ (u .levels k z δ e) ∙ u .origins k z δ e;
+      }
+
+  grown-put :
+      (Γ : Environment L) (origin : Renaming) (k : Kind) (z x : ℕ) (δ : L) → Γ k z ≡ none →
+      Grown Γ (put Γ k z (some δ)) origin (put origin k z x)
+  grown-put Γ origin k z x δ u =
+      record { levels = λ j w θ e. rw (apart j w θ e) e; origins = λ j w θ e. rw (apart j w θ e) }
+    where
+      apart : (j : Kind) (w : ℕ) (θ : L) → Γ j w ≡ some θ → same k z j w ≡ false
+      apart j w θ e = other k z j w (defined Γ k j z w θ u e)
+
+module _ {L : Type 0} (names : Names L) (n : ℕ) where
+  -- a declaration of a name of this kind, with its level
+  pub record Carried (k : Kind) (x : ℕ) (δ : L) : Type 0 where
+    pub level : δ ≡ names .level x
+    pub kinded : isOf k (names .isSignal x) ≡ true
+    pub within : x < n
+
+  abbrev pub Carries : Proc L → Type 0
+  Carries nil = Unit {0}
+  Carries (assign x e) = Unit {0}
+  Carries (letIn x δ e p) = Carried var x δ × Carries p
+  Carries (ifThenElse e p q) = Carries p × Carries q
+  Carries (while e p) = Carries p
+  Carries (sequence p q) = Carries p × Carries q
+  Carries (emit a) = Unit {0}
+  Carries (local a δ p) = Carried sig a δ × Carries p
+  Carries (watching a p) = Carries p
+  Carries (when a p) = Carries p
+  Carries (parallel p q) = Carries p × Carries q
+
+  pub changed-carries : {s : List ℤ} {p p′ : Proc L} → inplace-steps.Changed s p p′ → Carries p → Carries p′
+  changed-carries (inplace-steps.WATCH-PRESENT e) c = tt
+  changed-carries (inplace-steps.WATCH-ABSENT e f) c = changed-carries f c
+  changed-carries (inplace-steps.WHEN-PRESENT e f) c = changed-carries f c
+  changed-carries (inplace-steps.WHEN-ABSENT e) c = c
+  changed-carries (inplace-steps.SEQ-CHANGED f) c = (changed-carries f (c .0), c .1)
+  changed-carries (inplace-steps.PAR-CHANGED f f′) c = (changed-carries f (c .0), changed-carries f′ (c .1))
+
+  -- a process in place and one of the report that correspond, with their memories
+  pub record Tied (F : Kind → ℕ → Bool) (ρ origin : Renaming) (p : Proc L) (s : List ℤ) (Γ : Environment L) (S : ℕ → ℤ)
+      (E : ℕ → Bool) (P : Proc L) : Type 0 where
+    pub renamed : Renamed ρ p P
+    pub agree : Agree names n F ρ origin s Γ S E
+    pub made : (k : Kind) (y : ℕ) → Free k y p → F k y ≡ true
+    pub clean : Clean p
+    pub carries : Carries p
+
+  -- the move in place that corresponds to one of the report
+  pub record Moved (F : Kind → ℕ → Bool) (ρ origin : Renaming) (p : Proc L) (s : List ℤ) (Γ : Environment L) (O : Output)
+      (Γ′ : Environment L) (S′ : ℕ → ℤ) (E′ : ℕ → Bool) (P′ : Proc L) : Type 0 where
+    pub F′ : Kind → ℕ → Bool
+    pub ρ′ : Renaming
+    pub origin′ : Renaming
+    pub out : Output
+    pub rest : Proc L
+    pub values : List ℤ
+    pub move : inplace.Move s p out rest values
+    pub output : SameOutput F ρ out O
+    pub renamed : Renamed ρ′ rest P′
+    pub agree : Agree names n F′ ρ′ origin′ values Γ′ S′ E′
+    pub made : (k : Kind) (y : ℕ) → Free k y rest → F′ k y ≡ true
+    pub carries : Carries rest
+    pub kept : Kept p rest
+    pub grows : (k : Kind) (y : ℕ) → F k y ≡ true → F′ k y ≡ true
+    pub stays : (k : Kind) (y : ℕ) → (Declared k y p → ⊥) → ρ′ k y ≡ ρ k y
+    pub grown : Grown Γ Γ′ origin origin′
+
+  -- a move that makes no name
+  plain :
+      {F : Kind → ℕ → Bool} {ρ origin : Renaming} {p rest : Proc L} {s values : List ℤ} {out O : Output} {Γ : Environment L}
+      {S′ : ℕ → ℤ} {E′ : ℕ → Bool} {P′ : Proc L} →
+      inplace.Move s p out rest values → SameOutput F ρ out O → Renamed ρ rest P′ → Agree names n F ρ origin values Γ S′ E′ →
+      ((k : Kind) (y : ℕ) → Free k y rest → F k y ≡ true) → Carries rest → Kept p rest →
+      Moved F ρ origin p s Γ O Γ S′ E′ P′
+  plain {F} {ρ} {origin} {p} {rest} {s} {values} {out} {Γ = Γ} m w r g d c k =
+      record {
+        F′ = F;
+        ρ′ = ρ;
+        origin′ = origin;
+        out = out;
+        rest = rest;
+        values = values;
+        move = m;
+        output = w;
+        renamed = r;
+        agree = g;
+        made = d;
+        carries = c;
+        kept = k;
+        grows = λ k y f. f;
+        stays = λ k y x. refl;
+        grown = grown-same Γ origin;
+      }
+
+  value-there :
+      {F : Kind → ℕ → Bool} {ρ origin : Renaming} {s : List ℤ} {Γ : Environment L} {S : ℕ → ℤ} {E : ℕ → Bool} (e e′ : Exp) →
+      Agree names n F ρ origin s Γ S E → e′ ≡ renamedIn (ρ var) e → ((x : ℕ) → Occurs x e → F var x ≡ true) →
+      value e s ≡ evaluate e′ S
+  unfolding value
+  value-there {ρ = ρ} {s = s} {S = S} e e′ g q h =
+      evaluate-renamed (ρ var) e (held s) S (λ x o. g .store x (h x o)) ∙ ap (λ z. evaluate z S) (sym q)
+
+  pub back :
+      {F : Kind → ℕ → Bool} {ρ origin : Renaming} {p P P′ : Proc L} {s : List ℤ} {Γ Γ′ : Environment L} {S S′ : ℕ → ℤ}
+      {E E′ : ℕ → Bool} {O : Output} →
+      Move Γ S E P O Γ′ S′ E′ P′ → Renamed ρ p P → Agree names n F ρ origin s Γ S E →
+      ((k : Kind) (y : ℕ) → Free k y p → F k y ≡ true) → Clean p → Carries p → Moved F ρ origin p s Γ O Γ′ S′ E′ P′
+  back {s = s} ASSIGN-OP (r-assign {x = x} {x′ = x′} {e = e} {e′ = e′} q q′) g m c l =
+      let v = value-there e e′ g q′ (λ y o. m var y (inr (refl, o))) in
+      let h = m var x (inl (same-self var x)) in
+      plain {rest = nil} inplace.ASSIGN-OP (an-assignment h q v) r-nil (agree-assign g x x′ _ _ h q v) (λ k y. absurd) tt (kept-nil _)
+  back SEQ-OP₁ (r-sequence r-nil d) g m c l =
+      plain inplace.SEQ-OP₁ no-output d g (λ k y f. m k y (inr f)) (l .1)
+      (record { decl = λ k y z. inr z; free = λ k y f. inl (inr f); clean = c .2 })
+  back (SEQ-OP₂ f) (r-sequence {q = q} d d′) g m c l =
+      let u = back f d g (λ k y z. m k y (inl z)) (c .1) (l .0) in
+      record {
+        F′ = u .F′;
+        ρ′ = u .ρ′;
+        origin′ = u .origin′;
+        out = u .out;
+        rest = sequence (u .rest) q;
+        values = u .values;
+        move = inplace.SEQ-OP₂ (u .move);
+        output = u .output;
+        renamed = r-sequence (u .renamed) (same-ren d′ (u .ρ′) (λ k y z. sym (u .stays k y (λ w. c .0 k y w z))));
+        agree = u .agree;
+        made = λ k y. ⊎-elim (λ z. u .made k y z) (λ z. u .grows k y (m k y (inr z)));
+        carries = (u .carries, l .1);
+        kept = kept-sequence q c (u .kept);
+        grows = u .grows;
+        stays = λ k y n. u .stays k y (λ z. n (inl z));
+        grown = u .grown;
+      }
+  back {F} {ρ} {origin} {s = s} {Γ = Γ} (LET-OP {x′ = w} fresh sb) (r-let {x = x} {z = z} {δ = δ} {e = e} {e′ = e′} {p = p} q cl d) g m c l =
+      let v = value-there e e′ g q (λ y o. m var y (inl (refl, o))) in
+      record {
+        F′ = put F var x true;
+        ρ′ = put ρ var x w;
+        origin′ = put origin var w x;
+        out = silent;
+        rest = p;
+        values = set s x (value e s);
+        move = inplace.LET-OP;
+        output = no-output;
+        renamed = same-ren (ren-then d sb) _ (λ k y f. under-twice ρ (λ j u. u) var x z w k y (cl k y f));
+        agree = agree-let g x w δ _ _ fresh (l .0 .level) (l .0 .kinded) (l .0 .within) v;
+        made = λ k y f. by-cases (λ b. b ≡ true) (same var x k y) (λ h. refl) (λ h. m k y (inr (h, f)));
+        carries = l .1;
+        kept = record {
+          decl = λ k y z. inr z;
+          free = λ k y f. ⊎-elim (λ h. inr (inl h)) (λ h. inl (inr (h, f))) (either (same var x k y));
+          clean = c;
+        };
+        grows = λ k y f. put-true F var x k y f;
+        stays = λ k y n. by-cases (λ b. b ≡ ρ k y) (same var x k y) (λ h. absurd (n (inl h))) (λ h. refl);
+        grown = grown-put Γ origin var w x δ fresh;
+      }
+  back (COND-OP₁ h) (r-if {e = e} {e′ = e′} q d d′) g m c l =
+      let v = value-there e e′ g q (λ y o. m var y (inl (refl, o))) in
+      plain (inplace.COND-OP₁ (ap holds v ∙ h)) no-output d g (λ k y f. m k y (inr (inl f))) (l .0)
+      (record { decl = λ k y z. inl z; free = λ k y f. inl (inr (inl f)); clean = c .0 })
+  back (COND-OP₂ h) (r-if {e = e} {e′ = e′} q d d′) g m c l =
+      let v = value-there e e′ g q (λ y o. m var y (inl (refl, o))) in
+      plain (inplace.COND-OP₂ (ap holds v ∙ h)) no-output d′ g (λ k y f. m k y (inr (inr f))) (l .1)
+      (record { decl = λ k y z. inr z; free = λ k y f. inl (inr (inr f)); clean = c .1 })
+  back (WHILE-OP₁ h) (r-while {e = e} {e′ = e′} {p = p} q d) g m c l =
+      let v = value-there e e′ g q (λ y o. m var y (inl (refl, o))) in
+      plain {rest = sequence p (while e p)} (inplace.WHILE-OP₁ (ap holds v ∙ h)) no-output (r-sequence d (r-while q d)) g
+      (λ k y. ⊎-elim (λ f. m k y (inr f)) (λ f. m k y f))
+      (l, l)
+      (record {
+        decl = λ k y. ⊎-elim (λ z. z) (λ z. z);
+        free = λ k y. ⊎-elim (λ f. inl (inr f)) (λ f. inl f);
+        clean = (c .0, c .1, c);
+      })
+  back (WHILE-OP₂ h) (r-while {e = e} {e′ = e′} q d) g m c l =
+      let v = value-there e e′ g q (λ y o. m var y (inl (refl, o))) in
+      plain {rest = nil} (inplace.WHILE-OP₂ (ap holds v ∙ h)) no-output r-nil g (λ k y. absurd) tt (kept-nil _)
+  back EMIT-OP (r-emit {a = a} {a′ = a′} q) g m c l =
+      let h = m sig a (same-self sig a) in
+      plain {rest = nil} inplace.EMIT-OP (an-emission h q) r-nil (agree-emit g a a′ h q) (λ k y. absurd) tt (kept-nil _)
+  back {F} {ρ} {origin} {s = s} {Γ = Γ} (LOCAL-OP {a′ = w} fresh sb) (r-local {a = x} {z = z} {δ = δ} {p = p} cl d) g m c l =
+      record {
+        F′ = put F sig x true;
+        ρ′ = put ρ sig x w;
+        origin′ = put origin sig w x;
+        out = silent;
+        rest = p;
+        values = set s x (pos 0);
+        move = inplace.LOCAL-OP;
+        output = no-output;
+        renamed = same-ren (ren-then d sb) _ (λ k y f. under-twice ρ (λ j u. u) sig x z w k y (cl k y f));
+        agree = agree-local g x w δ fresh (l .0 .level) (l .0 .kinded) (l .0 .within);
+        made = λ k y f. by-cases (λ b. b ≡ true) (same sig x k y) (λ h. refl) (λ h. m k y (h, f));
+        carries = l .1;
+        kept = record {
+          decl = λ k y z. inr z;
+          free = λ k y f. ⊎-elim (λ h. inr (inl h)) (λ h. inl (h, f)) (either (same sig x k y));
+          clean = c;
+        };
+        grows = λ k y f. put-true F sig x k y f;
+        stays = λ k y n. by-cases (λ b. b ≡ ρ k y) (same sig x k y) (λ h. absurd (n (inl h))) (λ h. refl);
+        grown = grown-put Γ origin sig w x δ fresh;
+      }
+  back WATCH-OP₁ (r-watching q r-nil) g m c l =
+      plain {rest = nil} inplace.WATCH-OP₁ no-output r-nil g (λ k y. absurd) tt (kept-nil _)
+  back (WATCH-OP₂ f) (r-watching {a = a} q d) g m c l =
+      let u = back f d g (λ k y z. m k y (inr z)) (c .1) l in
+      record {
+        F′ = u .F′;
+        ρ′ = u .ρ′;
+        origin′ = u .origin′;
+        out = u .out;
+        rest = watching a (u .rest);
+        values = u .values;
+        move = inplace.WATCH-OP₂ (u .move);
+        output = u .output;
+        renamed = r-watching (q ∙ sym (u .stays sig a (c .0))) (u .renamed);
+        agree = u .agree;
+        made = λ k y. ⊎-elim (λ z. u .grows k y (m k y (inl z))) (λ z. u .made k y z);
+        carries = u .carries;
+        kept = kept-watching a c (u .kept);
+        grows = u .grows;
+        stays = u .stays;
+        grown = u .grown;
+      }
+  back {E = E} (WHEN-OP₁ h) (r-when {a = a} q r-nil) g m c l =
+      plain {rest = nil} (inplace.WHEN-OP₁ (g .signals a (m sig a (inl (same-self sig a))) ∙ ap E (sym q) ∙ h)) no-output r-nil g
+      (λ k y. absurd) tt (kept-nil _)
+  back {E = E} (WHEN-OP₂ h f) (r-when {a = a} q d) g m c l =
+      let u = back f d g (λ k y z. m k y (inr z)) (c .1) l in
+      record {
+        F′ = u .F′;
+        ρ′ = u .ρ′;
+        origin′ = u .origin′;
+        out = u .out;
+        rest = when a (u .rest);
+        values = u .values;
+        move = inplace.WHEN-OP₂ (g .signals a (m sig a (inl (same-self sig a))) ∙ ap E (sym q) ∙ h) (u .move);
+        output = u .output;
+        renamed = r-when (q ∙ sym (u .stays sig a (c .0))) (u .renamed);
+        agree = u .agree;
+        made = λ k y. ⊎-elim (λ z. u .grows k y (m k y (inl z))) (λ z. u .made k y z);
+        carries = u .carries;
+        kept = kept-when a c (u .kept);
+        grows = u .grows;
+        stays = u .stays;
+        grown = u .grown;
+      }
+  back PAR-OP₁ (r-parallel r-nil d) g m c l =
+      plain inplace.PAR-OP₁ no-output d g (λ k y f. m k y (inr f)) (l .1)
+      (record { decl = λ k y z. inr z; free = λ k y f. inl (inr f); clean = c .4 })
+  back (PAR-OP₂ f) (r-parallel {q = q} d d′) g m c l =
+      let u = back f d g (λ k y z. m k y (inl z)) (c .3) (l .0) in
+      record {
+        F′ = u .F′;
+        ρ′ = u .ρ′;
+        origin′ = u .origin′;
+        out = u .out;
+        rest = parallel (u .rest) q;
+        values = u .values;
+        move = inplace.PAR-OP₂ (u .move);
+        output = u .output;
+        renamed = r-parallel (u .renamed) (same-ren d′ (u .ρ′) (λ k y z. sym (u .stays k y (λ w. c .1 k y w z))));
+        agree = u .agree;
+        made = λ k y. ⊎-elim (λ z. u .made k y z) (λ z. u .grows k y (m k y (inr z)));
+        carries = (u .carries, l .1);
+        kept = kept-parallel q c (u .kept);
+        grows = u .grows;
+        stays = λ k y n. u .stays k y (λ z. n (inl z));
+        grown = u .grown;
+      }
+  back {s = s} {E = E} (PAR-OP₃ f n) (r-parallel {p = p} {q = q} d d′) g m c l =
+      plain
+      {rest = parallel q p}
+      (inplace.PAR-OP₃
+      (suspended-back s E f d (λ a z. g .signals a (m sig a (inl z))))
+      (λ w. n (suspended-forth s E d′ (λ a z. g .signals a (m sig a (inr z))) w)))
+      no-output
+      (r-parallel d′ d)
+      g
+      (λ k y. ⊎-elim (λ z. m k y (inr z)) (λ z. m k y (inl z)))
+      (l .1, l .0)
+      (record {
+        decl = λ k y. ⊎-elim inr inl;
+        free = λ k y. ⊎-elim (λ z. inl (inr z)) (λ z. inl (inl z));
+        clean = (λ k y z z′. c .0 k y z′ z, c .2, c .1, c .4, c .3);
+      })

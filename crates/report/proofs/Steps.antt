@@ -1,0 +1,233 @@
+-- Each path of the report goes beside the one path in place.
+-- Assumes nothing.
+use Prim.Native.Nat.{ℕ, suc}
+use mathlib.Core.Path.{_≡_, refl, sym, ap, _∙_}
+use mathlib.Core.Bool.{Bool, true, false, cond}
+use mathlib.Core.Option.{Option, none, some}
+use mathlib.Core.List.{List, [], _∷_, _++_, Option·toList}
+use lib.IntN.{ℤ}
+use Rattle.prelude.proofs.Bools.{by-both}
+use Rattle.language.specs.Syntax.{Names}
+use Rattle.language.specs.NameKinds.{Kind, var, sig}
+use Rattle.language.specs.Typing.{Environment}
+use Rattle.language.specs.Steps.{Output, silent, instantStart}
+use Rattle.language.specs.Calls.{Line, System, calledFor}
+use Rattle.language.specs.Instants as inplace
+use Rattle.language.specs.Paths as paths
+use Rattle.report.specs.Names.{Declared, Renaming}
+use Rattle.report.specs.Configurations.{Configuration}
+use Rattle.report.specs.Instants.{Step, MOVE, INSTANT-OP}
+use Rattle.report.specs.Paths.{NamedLine, named, linesFor, Path, here, more}
+use Rattle.report.specs.Results.{SameLine, SameLines, no-lines, one-more}
+use Rattle.report.proofs.Memory.{agree-none}
+use Rattle.report.proofs.Waiting.{Signals, suspended-back, changed-back}
+use Rattle.report.proofs.Matching.{SameOutput, no-output, an-assignment, an-emission, changed-carries, Grown, grown-same, grown-then, Tied, back}
+
+module _ {L : Type 0} (names : Names L) (n : ℕ) where
+  -- a system in place and a configuration of the report that correspond
+  pub record Joined (F : Kind → ℕ → Bool) (ρ origin : Renaming) (at : System L) (C : Configuration L) : Type 0 where
+    pub tied :
+        Tied names n F ρ origin (at .process) (at .values) (C .environment) (C .store) (C .signals) (C .process)
+    pub steps : C .steps ≡ at .steps
+    pub instants : C .instants ≡ at .instants
+
+  -- the step in place that corresponds to one of the report, to D
+  pub record Stepped (F : Kind → ℕ → Bool) (ρ origin : Renaming) (at : System L) (C : Configuration L) (O : Output)
+      (D : Configuration L) : Type 0 where
+    pub F′ : Kind → ℕ → Bool
+    pub ρ′ : Renaming
+    pub origin′ : Renaming
+    pub out : Output
+    pub to : System L
+    pub step : inplace.Step names at out to
+    pub output : SameOutput F ρ out O
+    pub joined : Joined F′ ρ′ origin′ to D
+    pub decl : (k : Kind) (y : ℕ) → Declared k y (to .process) → Declared k y (at .process)
+    pub grows : (k : Kind) (y : ℕ) → F k y ≡ true → F′ k y ≡ true
+    pub stays : (k : Kind) (y : ℕ) → (Declared k y (at .process) → ⊥) → ρ′ k y ≡ ρ k y
+    pub grown : Grown (C .environment) (D .environment) origin origin′
+
+  pub step-back :
+      {F : Kind → ℕ → Bool} {ρ origin : Renaming} {at : System L} {C D : Configuration L} {O : Output} →
+      Step C O D → Joined F ρ origin at C → Stepped F ρ origin at C O D
+  step-back (MOVE f) j =
+      let w = j .tied in
+      let u = back names n f (w .renamed) (w .agree) (w .made) (w .clean) (w .carries) in
+      record {
+        F′ = u .F′;
+        ρ′ = u .ρ′;
+        origin′ = u .origin′;
+        out = u .out;
+        to = _;
+        step = inplace.MOVE (u .move);
+        output = u .output;
+        joined =
+            record {
+              tied =
+                  record {
+                    renamed = u .renamed;
+                    agree = u .agree;
+                    made = u .made;
+                    clean = u .kept .clean;
+                    carries = u .carries;
+                  };
+              steps = ap suc (j .steps);
+              instants = j .instants;
+            };
+        decl = u .kept .decl;
+        grows = u .grows;
+        stays = u .stays;
+        grown = u .grown;
+      }
+  step-back {F} {ρ} {origin} {at} {C} (INSTANT-OP f g) j =
+      let w = j .tied in
+      let signals : Signals (at .values) (C .signals) ρ (at .process) = λ a z. w .agree .signals a (w .made sig a z) in
+      let u = changed-back (at .values) (C .signals) g (w .renamed) signals (w .clean) in
+      record {
+        F′ = F;
+        ρ′ = ρ;
+        origin′ = origin;
+        out = silent;
+        to = _;
+        step = inplace.INSTANT-OP (suspended-back (at .values) (C .signals) f (w .renamed) signals) (u .change);
+        output = no-output;
+        joined =
+            record {
+              tied =
+                  record {
+                    renamed = u .renamed;
+                    agree = agree-none (w .agree);
+                    made = λ k y z. w .made k y (u .free k y z);
+                    clean = u .kept .clean;
+                    carries = changed-carries names n (u .change) (w .carries);
+                  };
+              steps = ap suc (j .steps);
+              instants = ap suc (j .instants);
+            };
+        decl = u .kept .decl;
+        grows = λ k y z. z;
+        stays = λ k y z. refl;
+        grown = grown-same (C .environment) origin;
+      }
+
+  module _ (below : L → Bool) (Γ : Environment L) where
+    -- 'a name at or below the reader's level'
+    abbrev pub sees : ℕ → Bool
+    sees x = below (names .level x)
+
+    -- a session name keeps its name
+    pub record Fixed (F : Kind → ℕ → Bool) (ρ : Renaming) (at : System L) : Type 0 where
+      pub made : (k : Kind) (x : ℕ) (δ : L) → Γ k x ≡ some δ → F k x ≡ true
+      pub kept : (k : Kind) (x : ℕ) (δ : L) → Γ k x ≡ some δ → ρ k x ≡ x
+      pub free : (k : Kind) (x : ℕ) (δ : L) → Declared k x (at .process) → Γ k x ≡ some δ → ⊥
+
+    pub fixed-on :
+        {F : Kind → ℕ → Bool} {ρ origin : Renaming} {at : System L} {C D : Configuration L} {O : Output} →
+        (u : Stepped F ρ origin at C O D) → Fixed F ρ at → Fixed (u .F′) (u .ρ′) (u .to)
+    fixed-on u x =
+        record {
+          made = λ k y δ h. u .grows k y (x .made k y δ h);
+          kept = λ k y δ h. u .stays k y (λ d. x .free k y δ d h) ∙ x .kept k y δ h;
+          free = λ k y δ d h. x .free k y δ (u .decl k y d) h;
+        }
+
+    -- the lines that two corresponding steps call for
+    module _ {F : Kind → ℕ → Bool} {ρ origin : Renaming} {at : System L} {C : Configuration L}
+        (j : Joined F ρ origin at C) (x : Fixed F ρ at) (last : Renaming)
+        (same : (k : Kind) (z : ℕ) (δ : L) → C .environment k z ≡ some δ → last k z ≡ origin k z)
+      where
+        -- a line for each, or none
+        line-too :
+            (k : Kind) (y y′ : ℕ) (v w : ℤ) → F k y ≡ true → y′ ≡ ρ k y → v ≡ w →
+            SameLine names Γ last
+            (record { step = suc (at .steps); instant = at .instants; name = y; value = v })
+            (record { kind = k; line = record { step = suc (C .steps); instant = C .instants; name = y′; value = w } })
+        line-too k y y′ v w f q e =
+            let g = j .tied .agree in
+            record {
+              steps = ap suc (sym (j .steps));
+              instants = sym (j .instants);
+              values = e;
+              kinds = g .kinded k y f;
+              origins =
+                  sym (ap (last k) q ∙ same k (ρ k y) _ (g .dom k y f) ∙ g .back k y f);
+              session = λ δ h. q ∙ x .kept k y δ h;
+            }
+
+        seen-too : (k : Kind) (y y′ : ℕ) → F k y ≡ true → y′ ≡ ρ k y → C .environment k y′ ≡ some (names .level y)
+        seen-too k y y′ f q = ap (C .environment k) q ∙ j .tied .agree .dom k y f
+
+        one-or-none :
+            (b : Bool) (k : Kind) (l m : Line) → SameLine names Γ last l (record { kind = k; line = m }) →
+            SameLines names Γ last (Option·toList (cond b (some l) none)) (named k (cond b (some m) none))
+        unfolding Option·toList
+        one-or-none true k l m h = one-more h no-lines
+        one-or-none false k l m h = no-lines
+
+        pub lines-too :
+            {o O : Output} → SameOutput F ρ o O →
+            SameLines names Γ last (Option·toList (calledFor sees at o)) (linesFor below C O)
+        unfolding calledFor Option·toList
+        lines-too no-output = no-lines
+        lines-too (an-assignment {x = y} {x′ = y′} {v = v} {w = w} f q e) =
+            rw (seen-too var y y′ f q) (one-or-none (below (names .level y)) var _ _ (line-too var y y′ v w f q e))
+        lines-too (an-emission {a = y} {a′ = y′} f q) =
+            rw (seen-too sig y y′ f q) (one-or-none (below (names .level y)) sig _ _ (line-too sig y y′ _ _ f q refl))
+
+    append-lines :
+        {origin : Renaming} {ls ls′ : List Line} {ms ms′ : List NamedLine} → SameLines names Γ origin ls ms →
+        SameLines names Γ origin ls′ ms′ → SameLines names Γ origin (ls ++ ls′) (ms ++ ms′)
+    append-lines no-lines w = w
+    append-lines (one-more u v) w = one-more u (append-lines v w)
+
+    -- a path in place beside one of the report, and how their ends correspond
+    pub record Along (m : ℕ) (origin : Renaming) (at : System L) (C : Configuration L) (ms : List NamedLine)
+        (D : Configuration L) : Type 0 where
+      pub lines : List Line
+      pub last : System L
+      pub path : paths.Path names sees m at lines last
+      pub F : Kind → ℕ → Bool
+      pub ρ : Renaming
+      pub origin′ : Renaming
+      pub joined : Joined F ρ origin′ last D
+      pub fixed : Fixed F ρ last
+      pub same : SameLines names Γ origin′ lines ms
+      pub grown : Grown (C .environment) (D .environment) origin origin′
+
+    pub walk :
+        {m : ℕ} {C D : Configuration L} {ms : List NamedLine} → Path below m C ms D →
+        {F : Kind → ℕ → Bool} {ρ origin : Renaming} {at : System L} → Joined F ρ origin at C → Fixed F ρ at →
+        Along m origin at C ms D
+    walk {C = C} here {F} {ρ} {origin} {at} j x =
+        record {
+          lines = [];
+          last = at;
+          path = paths.here;
+          F = F;
+          ρ = ρ;
+          origin′ = origin;
+          joined = j;
+          fixed = x;
+          same = no-lines;
+          grown = grown-same (C .environment) origin;
+        }
+    walk (more f fs) {at = at} j x =
+        let u = step-back f j in
+        let r = walk fs (u .joined) (fixed-on u x) in
+        record {
+          lines = Option·toList (calledFor sees at (u .out)) ++ r .lines;
+          last = r .last;
+          path = paths.more (u .step) (r .path);
+          F = r .F;
+          ρ = r .ρ;
+          origin′ = r .origin′;
+          joined = r .joined;
+          fixed = r .fixed;
+          same =
+              append-lines
+              (lines-too j x (r .origin′)
+              (λ k z δ h. r .grown .origins k z δ (u .grown .levels k z δ h) ∙ u .grown .origins k z δ h)
+              (u .output))
+              (r .same);
+          grown = grown-then (u .grown) (r .grown);
+        }
