@@ -1,6 +1,7 @@
 -- The language of scripts: 01, 'Script file' (values) to 'Calls', then the figures of RR-5594, then what is proved.
 pub mod Values
 pub mod Syntax
+pub mod NameKinds
 pub mod Scope
 pub mod Levels
 pub mod Steps
@@ -8,7 +9,6 @@ pub mod Calls
 pub mod Suspension
 pub mod Moves
 pub mod Instants
-pub mod NameKinds
 pub mod Typing
 pub mod Paths
 pub mod Results

@@ -7,9 +7,9 @@ use mathlib.Core.Bool.{true, false}
 use mathlib.Core.Logic.{_⊎_, inl, inr, ⊎-elim}
 use Rattle.language.specs.Syntax.{Proc, nil, assign, letIn, ifThenElse, while, sequence, emit, local, watching, when, parallel}
 use Rattle.language.specs.NameKinds.{Kind, var, sig, same}
+use Rattle.language.specs.Scope.{Declared, Apart, Once}
 use Rattle.language.proofs.NameKinds.{same-kind, same-number, same-self, either}
-use Rattle.report.specs.Names.{Free, Declared}
-use Rattle.report.specs.Scope.{Apart, Once}
+use Rattle.report.specs.Names.{Free}
 
 decl-l : {X X′ Y : Type 0} → (X′ → X) → X′ ⊎ Y → X ⊎ Y
 decl-l f (inl a) = inl (f a)

@@ -12,13 +12,14 @@ use Rattle.prelude.proofs.Bools.{by-cases}
 use Rattle.language.specs.Values.{holds}
 use Rattle.language.specs.Syntax.{Names, Exp, Occurs, Proc, nil, assign, letIn, ifThenElse, while, sequence, emit, local, watching, when, parallel}
 use Rattle.language.specs.NameKinds.{Kind, var, sig, same, put, isOf}
+use Rattle.language.specs.Scope.{Declared}
 use Rattle.language.specs.Typing.{Environment}
 use Rattle.language.specs.Steps.{held, evaluate, value, Output, silent, assigned, emitted, instantStart}
 use Rattle.language.specs.Calls.{System}
 use Rattle.language.specs.Moves as inplace
 use Rattle.language.specs.Instants as inplace-steps
 use Rattle.language.proofs.NameKinds.{same-self, put-true, other, either}
-use Rattle.report.specs.Names.{Free, Declared, Renaming, renamedIn, Renamed, r-nil, r-assign, r-let, r-if, r-while, r-sequence, r-emit, r-local, r-watching, r-when, r-parallel}
+use Rattle.report.specs.Names.{Free, Renaming, renamedIn, Renamed, r-nil, r-assign, r-let, r-if, r-while, r-sequence, r-emit, r-local, r-watching, r-when, r-parallel}
 use Rattle.report.specs.Configurations.{Configuration}
 use Rattle.report.specs.Moves.{Move, ASSIGN-OP, SEQ-OP₁, SEQ-OP₂, LET-OP, COND-OP₁, COND-OP₂, WHILE-OP₁, WHILE-OP₂, EMIT-OP, LOCAL-OP, WATCH-OP₁, WATCH-OP₂, WHEN-OP₁, WHEN-OP₂, PAR-OP₁, PAR-OP₂, PAR-OP₃}
 use Rattle.report.specs.Instants.{Step, MOVE, INSTANT-OP}

@@ -13,10 +13,10 @@ use Rattle.prelude.proofs.Bools.{by-cases, and-intro, and-left, and-right, or-c
 use Rattle.language.specs.Syntax.{Names, Exp, constant, register, binary, negated, Occurs, Proc, nil, assign, letIn, ifThenElse, while, sequence, emit, local, watching, when, parallel}
 use Rattle.language.specs.NameKinds.{Kind, var, sig, same, put, isOf}
 use Rattle.language.specs.Typing.{Environment, environment}
-use Rattle.language.specs.Scope.{withName, ReadsIn, Declares, Scoped}
+use Rattle.language.specs.Scope.{withName, ReadsIn, Declares, Scoped, Declared}
 use Rattle.language.specs.Calls.{System}
 use Rattle.language.proofs.NameKinds.{same-kind, same-number, same-self, one-kind}
-use Rattle.report.specs.Names.{Reads, Free, Declared, Renaming, renamedIn, Renamed, r-nil, r-assign, r-let, r-if, r-while, r-sequence, r-emit, r-local, r-watching, r-when, r-parallel}
+use Rattle.report.specs.Names.{Reads, Free, Renaming, renamedIn, Renamed, r-nil, r-assign, r-let, r-if, r-while, r-sequence, r-emit, r-local, r-watching, r-when, r-parallel}
 use Rattle.report.specs.Configurations.{Configuration, Begins}
 use Rattle.report.specs.Scope.{Script}
 use Rattle.report.proofs.Renames.{same-ren}

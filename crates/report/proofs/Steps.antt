@@ -9,12 +9,13 @@ use lib.IntN.{ℤ}
 use Rattle.prelude.proofs.Bools.{by-both}
 use Rattle.language.specs.Syntax.{Names}
 use Rattle.language.specs.NameKinds.{Kind, var, sig}
+use Rattle.language.specs.Scope.{Declared}
 use Rattle.language.specs.Typing.{Environment}
 use Rattle.language.specs.Steps.{Output, silent, instantStart}
 use Rattle.language.specs.Calls.{Line, System, calledFor}
 use Rattle.language.specs.Instants as inplace
 use Rattle.language.specs.Paths as paths
-use Rattle.report.specs.Names.{Declared, Renaming}
+use Rattle.report.specs.Names.{Renaming}
 use Rattle.report.specs.Configurations.{Configuration}
 use Rattle.report.specs.Instants.{Step, MOVE, INSTANT-OP}
 use Rattle.report.specs.Paths.{NamedLine, named, linesFor, Path, here, more}

@@ -25,20 +25,6 @@ module _ {L : Type 0} (k : Kind) (y : ℕ) where
   Free (when a p) = (same sig a k y ≡ true) ⊎ Free p
   Free (parallel p q) = Free p ⊎ Free q
 
-  -- the name k y is declared somewhere in a process
-  abbrev pub Declared : Proc L → Type 0
-  Declared nil = ⊥
-  Declared (assign x e) = ⊥
-  Declared (letIn x δ e p) = (same var x k y ≡ true) ⊎ Declared p
-  Declared (ifThenElse e p q) = Declared p ⊎ Declared q
-  Declared (while e p) = Declared p
-  Declared (sequence p q) = Declared p ⊎ Declared q
-  Declared (emit a) = ⊥
-  Declared (local a δ p) = (same sig a k y ≡ true) ⊎ Declared p
-  Declared (watching a p) = Declared p
-  Declared (when a p) = Declared p
-  Declared (parallel p q) = Declared p ⊎ Declared q
-
 -- a renaming: the new number of each name; it keeps kinds
 abbrev pub Renaming : Type 0
 Renaming = Kind → ℕ → ℕ

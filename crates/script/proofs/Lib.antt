@@ -10,6 +10,7 @@ pub mod Entering
 pub mod ReachTables
 pub mod Views
 pub mod Scoping
+pub mod Declaring
 pub mod NodeSizes
 pub mod Theorems
 pub mod Worked

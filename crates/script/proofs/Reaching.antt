@@ -137,7 +137,7 @@ module _ (s : List ℕ) (joined : Joined s) where
         (λ f a v w.
         within-step s b (used s i) f a v (within-down n (used s (fieldCount * b + f)) (omega arith) w))
 
-    within-up :
+    pub within-up :
         (n b : ℕ) → b < n → b < partCount s → within s b (used s i) ≡ true → (b ≡ used s i → ⊥) →
         within s b (i / fieldCount) ≡ true
     within-up zero b u v e ne = absurd (not-suc-le-zero u)

@@ -7,12 +7,12 @@ use Prim.Native.Nat.{ℕ, zero, suc, _-_, _<_}
 use native.Mathlib.Nat.{not-suc-le-zero}
 use native.Mathlib.Omega.{arith}
 use lib.Dec.{eqb}
-use borrow.Author.Tests.{ne-eqb}
-use Rattle.prelude.proofs.Bools.{or-cases, or-first, or-true}
+use borrow.Author.Tests.{ne-eqb, lt-ltb}
+use Rattle.prelude.proofs.Bools.{and-intro, or-cases, or-first, or-true}
 use Rattle.language.specs.Syntax.{Exp, constant, register, binary, negated, Occurs, here, left, right, under}
 use Rattle.language.specs.Scope.{RegisterIn, SignalIn, ReadsIn, Declares, Scoped}
 use Rattle.script.specs.Layout.{layoutOf, nameCount, expressionCount, nodeCount}
-use Rattle.script.specs.Entries.{nameOf, session, isSession, node}
+use Rattle.script.specs.Entries.{nameOf, session, isSession, isSessionName, node}
 use Rattle.script.specs.Reach.{inReach}
 use Rattle.script.specs.Checked.{Checked}
 use Rattle.script.specs.Tree.{namesOf, expressionOf, processOf, tree}
@@ -113,8 +113,15 @@ module _ (s : List ℕ) (ok : Checked s) where
       scoped-node n j (λ x. new x || scope x) (omega (arith, u .before)) (omega (arith, u .before)) (covers-part (u .part) c))
       (node-view s ok k h)
 
-  pub tree-scoped : Scoped (namesOf s) (isSession s) (tree s)
-  tree-scoped =
+  -- in any scope that has the session's names
+  tree-in : (scope : ℕ → Bool) → ((x : ℕ) → x < nameCount s → isSession s x ≡ true → scope x ≡ true) → Scoped (namesOf s) scope (tree s)
+  tree-in scope all =
       let last : nodeCount s - 1 < nodeCount s = omega (arith, few-bounds (layoutOf s) (ok .laid .few) .1 .1 .0) in
-      scoped-node (nodeCount s) (nodeCount s - 1) (isSession s) last last
-      (λ x h e. sym (reach-last s (ok .joined) (node s (nodeCount s - 1)) x (omega arith) h) ∙ e)
+      scoped-node (nodeCount s) (nodeCount s - 1) scope last last
+      (λ x h e. all x h (sym (reach-last s (ok .joined) (node s (nodeCount s - 1)) x (omega arith) h) ∙ e))
+
+  pub tree-scoped : Scoped (namesOf s) (isSession s) (tree s)
+  tree-scoped = tree-in (isSession s) (λ x h e. e)
+
+  pub tree-session : Scoped (namesOf s) (isSessionName s) (tree s)
+  tree-session = tree-in (isSessionName s) (λ x h e. and-intro _ _ (lt-ltb x (nameCount s) h) e)

@@ -2,12 +2,16 @@
 -- Assumes nothing.
 use mathlib.Core.Path.{sym, ap, _∙_, subst}
 use mathlib.Core.Bool.{cond}
+use mathlib.Core.List.{List}
+use Prim.Native.Nat.{ℕ}
 use borrow.Author.Tests.{eq-eqb}
 use Rattle.script.specs.Layout.{layoutOf, Laid}
 use Rattle.script.specs.Load.{noScript, loaded}
-use Rattle.script.specs.Results.{AcceptedExactly, LoadedChecked, TreeScoped, NodesCounted}
+use Rattle.script.specs.Checked.{Checked}
+use Rattle.script.specs.Results.{AcceptedExactly, LoadedChecked, TreeScoped, TreeNamed, NodesCounted}
 use Rattle.script.proofs.Accepting.{checked, accepts}
 use Rattle.script.proofs.Scoping as scoping
+use Rattle.script.proofs.Declaring as declaring
 use Rattle.script.proofs.NodeSizes.{whole-size, size-within}
 
 pub accepted-exactly : AcceptedExactly
@@ -23,6 +27,9 @@ loaded-checked s levels r e zero =
 
 pub tree-scoped : TreeScoped
 tree-scoped = scoping.tree-scoped
+
+pub tree-named : (s : List ℕ) → Checked s → TreeNamed s
+tree-named = declaring.tree-named
 
 pub nodes-counted : NodesCounted
 nodes-counted = record { whole = whole-size; within = size-within }

@@ -1,5 +1,5 @@
 -- 01, 'Script file': names, and the parts, which are the expressions and then the nodes.
-use mathlib.Core.Bool.{Bool, cond}
+use mathlib.Core.Bool.{Bool, cond, _&&_}
 use mathlib.Core.List.{List}
 use Prim.Native.Nat.{ℕ, _+_, _*_}
 use lib.Dec.{eqb, ltb}
@@ -7,7 +7,7 @@ use lib.ListN.{getD}
 use Rattle.script.specs.declared.entries.Name.{Name}
 use Rattle.script.specs.declared.entries.Part.{Part}
 use Rattle.script.specs.declared.fields.Field.{Field}
-use Rattle.script.specs.Layout.{wordAt, expressionsAt, expressionCount}
+use Rattle.script.specs.Layout.{wordAt, expressionsAt, nameCount, expressionCount}
 use Rattle.script.specs.Roles.{expressionRows, nodeRows, roleIn, child}
 
 -- 'Name, 4 bytes: kind (0 register, 1 signal), level, owner.'
@@ -21,6 +21,10 @@ session = 65535
 
 abbrev pub isSession : List ℕ → ℕ → Bool
 isSession s x = eqb (nameOf s x .owner) session
+
+-- of the names that the file has
+abbrev pub isSessionName : List ℕ → ℕ → Bool
+isSessionName s x = ltb x (nameCount s) && isSession s x
 
 -- 'Expression, 8 bytes: kind, zero byte, a, then 4 bytes.' 'Node, 8 bytes: kind, zero byte, fields a, b, c.'
 -- Part q is expression q, or node q - (number of expressions): the lists touch.

@@ -3,10 +3,11 @@ use mathlib.Core.Path.{_≡_}
 use mathlib.Core.Bool.{true}
 use mathlib.Core.List.{List}
 use Prim.Native.Nat.{ℕ, suc, _≤_, _<_}
-use Rattle.language.specs.Scope.{Scoped}
+use Rattle.language.specs.NameKinds.{Kind}
+use Rattle.language.specs.Scope.{Scoped, Declared, Once}
 use Rattle.script.specs.declared.Loaded.{Loaded}
-use Rattle.script.specs.Layout.{nodeCount, Laid}
-use Rattle.script.specs.Entries.{isSession}
+use Rattle.script.specs.Layout.{nameCount, nodeCount, Laid}
+use Rattle.script.specs.Entries.{isSession, isSessionName}
 use Rattle.script.specs.Refusals.{isAccepted}
 use Rattle.script.specs.Load.{loaded}
 use Rattle.script.specs.Tree.{namesOf, processOf, tree, size}
@@ -26,6 +27,13 @@ LoadedChecked =
 -- The script of a checked file is scoped as the theorems about scripts ask.
 abbrev pub TreeScoped : Type 0
 TreeScoped = (s : List ℕ) → Checked s → Scoped (namesOf s) (isSession s) (tree s)
+
+-- Its names: it is scoped in the session's names of the file, and each of its declarations is of a name of the file, no
+-- name twice.
+pub record TreeNamed (s : List ℕ) : Type 0 where
+  pub scoped : Scoped (namesOf s) (isSessionName s) (tree s)
+  pub once : Once (tree s)
+  pub declared : (k : Kind) (y : ℕ) → Declared k y (tree s) → y < nameCount s
 
 -- Every node of a checked file is in its script, and no process is larger than its node's place allows.
 pub record NodesCounted : Type 0 where
