@@ -1,6 +1,6 @@
 -- The theorems about the two calls. Their statements stand in specs/Results.antt.
 -- Assumes nothing.
-use mathlib.Core.Path.{_≡_, sym, ap, _∙_, subst}
+use mathlib.Core.Path.{_≡_, refl, sym, ap, _∙_, subst}
 use mathlib.Core.Bool.{Bool, true}
 use mathlib.Core.List.{List, map}
 use Prim.Native.Nat.{ℕ, _/_, _≤_}
@@ -8,9 +8,10 @@ use native.Mathlib.Decide.{decLt}
 use native.Mathlib.Omega.{arith}
 use lib.IntN.{ℤ}
 use lib.ListN.{length}
-use borrow.Author.Tests.{eq-eqb, eqb-true}
+use lib.Dec.{ltb}
+use borrow.Author.Tests.{eq-eqb, eqb-true, ltb-true}
 use Rattle.prelude.specs.Refusals.{passes}
-use Rattle.prelude.proofs.Bools.{by-cases}
+use Rattle.prelude.proofs.Bools.{by-cases, and-left, and-right}
 use Rattle.lattice.specs.LevelBook.{count}
 use Rattle.lattice.specs.Refusals as books
 use Rattle.lattice.specs.Lattice.{Lattice, bookLattice}
@@ -22,16 +23,21 @@ use Rattle.language.specs.Calls.{Run, starts, readable, run}
 use Rattle.language.specs.Typing.{Below, Typed}
 use Rattle.language.specs.Results.{LevelsAgree, StartsAgree, RecordsAgree}
 use Rattle.language.proofs.Theorems as language
+use Rattle.report.specs.Scope.{Script}
+use Rattle.report.proofs.Starts.{begun-begins}
+use Rattle.report.proofs.Theorems as report
 use Rattle.script.specs.Layout.{nameCount}
+use Rattle.script.specs.Entries.{isSessionName}
+use Rattle.script.specs.Checked.{Checked}
 use Rattle.script.specs.Refusals as scripts
 use Rattle.script.specs.Tree.{namesOf, tree}
-use Rattle.script.proofs.Theorems.{tree-scoped}
+use Rattle.script.proofs.Theorems.{tree-scoped, tree-named}
 use Rattle.runner.specs.Outcome.{lineWords}
 use Rattle.engine.specs.declared.Verdict.{Verdict}
 use Rattle.engine.specs.Refusals.{checkRefusal, runRefusal}
 use Rattle.engine.specs.Answers.{verdictBy, verdict, runOf, Left, leftBy, left}
 use Rattle.engine.specs.Records.{stampedUpTo}
-use Rattle.engine.specs.Results.{session, CheckAgrees, RunAgrees, StartEqual, NothingShows, DemandThree}
+use Rattle.engine.specs.Results.{session, CheckAgrees, RunAgrees, RunReported, StartEqual, NothingShows, DemandThree}
 use Rattle.engine.proofs.Passing.{Accepted, checked, accepted, accepts, Started, run-accepted}
 use Rattle.engine.proofs.Records.{record-of, stamped-words}
 
@@ -62,7 +68,7 @@ module _ (b s : List ℕ) where
   levels :
       books.isAccepted b ≡ true → scripts.isAccepted s (count b) ≡ true → LevelsAgree 𝓛 (namesOf s) (session s) (tree s)
   levels k h =
-      language.levels-agree 𝓛 (book-laws b k) (namesOf s) (tree s) (scoped h)
+      language.levels-agree 𝓛 (book-laws b k) (namesOf s) (tree s) (isSessionName s) (tree-named s (checked b s h) .scoped)
 
   -- the rules give the script some pair
   abbrev Typable : Type 0
@@ -134,6 +140,30 @@ module _ (b s : List ℕ) (reader : ℕ) (values : List ℤ) (limit : ℕ) (log 
       (starts (tree s) values)
       in
       record { is = left-is; path = agree .path; only = agree .only }
+
+  -- the script's names are as the report's relation asks
+  script-of : Checked s → Script (namesOf s) (isSessionName s) (nameCount s) (tree s)
+  script-of ok =
+      let t = tree-named s ok in
+      record {
+        scoped = t .scoped;
+        once = t .once;
+        sessions = λ x h. (and-right (ltb x (nameCount s)) _ h, ltb-true x (nameCount s) (and-left (ltb x (nameCount s)) _ h));
+        declared = t .declared;
+      }
+
+  pub run-reported : RunReported b s reader values limit log
+  run-reported =
+      record {
+        begins = begun-begins (session s) (starts (tree s) values);
+        reported =
+            λ z C begins.
+            let a = run-accepted b s reader values limit (left-passes z) in
+            report.reported (script-of (checked b s (a .0 .script))) (a .1 .named) begins
+            (λ δ. bookLattice b .leq δ reader)
+            (run-agrees .path)
+            refl;
+      }
 
 -- Demand 3: starts that agree for the session agree for the whole script, since owned names start at 0.
 starts-agree :

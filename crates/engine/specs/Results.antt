@@ -14,7 +14,10 @@ use Rattle.language.specs.Steps.{held}
 use Rattle.language.specs.Calls.{Run, starts, readable}
 use Rattle.language.specs.Typing.{Environment, environment, Below, Typed}
 use Rattle.language.specs.Paths.{IsRun}
+use Rattle.report.specs.Configurations.{Configuration, Begins, begun}
+use Rattle.report.specs.Results.{Reported}
 use Rattle.script.specs.Layout.{nameCount}
+use Rattle.script.specs.Entries.{isSessionName}
 use Rattle.script.specs.Refusals as scripts
 use Rattle.script.specs.Tree.{namesOf, tree}
 use Rattle.engine.specs.Answers.{verdict, runOf, Left, leftBy, left}
@@ -22,7 +25,7 @@ use Rattle.engine.specs.Records.{recordOf, stampedUpTo}
 
 -- Γ: the session's names, each with its kind and level
 abbrev pub session : List ℕ → Environment ℕ
-session s = environment (namesOf s) (namesOf s .isSession)
+session s = environment (namesOf s) (isSessionName s)
 
 -- Demand 2, the checker. 'A script is accepted under a book when check gives 0 as its number': exactly when book and file
 -- are right and the report's rules give the script some pair; then the answer is a pair that they give, and the
@@ -50,6 +53,17 @@ pub record RunAgrees (b s : List ℕ) (reader : ℕ) (values : List ℤ) (limit 
       (r : Run) →
       IsRun (namesOf s) (readable (bookLattice b) (namesOf s) reader) limit (length log / 4) (starts (tree s) values) r →
       r ≡ runOf b s reader values limit log
+
+-- The same in the report's own terms, with fresh names, from any configuration ⟨Γ, S, E, script⟩ in which S and E hold the
+-- call's values: the report has a path of as many steps as the call returns, and every path of as many steps has the
+-- call's instants, values of the session and lines, leaves what the run leaves, up to its names, and ends as it does.
+pub record RunReported (b s : List ℕ) (reader : ℕ) (values : List ℤ) (limit : ℕ) (log : List ℕ) : Type 0 where
+  pub begins : Begins (session s) (starts (tree s) values) (begun (session s) (starts (tree s) values))
+  pub reported :
+      left b s reader values limit log .report .number ≡ 0 → (C : Configuration ℕ) →
+      Begins (session s) (starts (tree s) values) C →
+      Reported (namesOf s) (session s) (λ δ. bookLattice b .leq δ reader) limit (starts (tree s) values) C
+      (runOf b s reader values limit log)
 
 -- a session name at or below the reader's level
 pub record Readable (b s : List ℕ) (reader x : ℕ) : Type 0 where

@@ -37,10 +37,10 @@ pub runs-agree :
 runs-agree names seen n room at = record { path = run-is names seen n room at; only = run-only names seen n room at }
 
 module _
-    {L : Type 0} (𝓛 : Lattice L) (laws : Laws 𝓛) (names : Names L) (p : Proc L)
-    (scoped : Scoped names (names .isSession) p)
+    {L : Type 0} (𝓛 : Lattice L) (laws : Laws 𝓛) (names : Names L) (p : Proc L) (scope : ℕ → Bool)
+    (scoped : Scoped names scope p)
   where
-    pub levels-agree : LevelsAgree 𝓛 names (environment names (names .isSession)) p
+    pub levels-agree : LevelsAgree 𝓛 names (environment names scope) p
     levels-agree =
         record {
           accepts =
@@ -51,24 +51,18 @@ module _
       where
         derive :
             needs 𝓛 names p ≡ true →
-            Typed 𝓛 (environment names (names .isSession)) p (writeLevel 𝓛 names p) (testLevel 𝓛 names p)
-        derive h =
-            derives
-            𝓛
-            laws
-            names
-            p
-            _
-            (names .isSession)
-            (environment-covers names (names .isSession))
-            scoped
-            (needs-hold 𝓛 names p h)
+            Typed 𝓛 (environment names scope) p (writeLevel 𝓛 names p) (testLevel 𝓛 names p)
+        derive h = derives 𝓛 laws names p _ scope (environment-covers names scope) scoped (needs-hold 𝓛 names p h)
 
         read :
-            {θ σ : L} → Typed 𝓛 (environment names (names .isSession)) p θ σ →
+            {θ σ : L} → Typed 𝓛 (environment names scope) p θ σ →
             Needs 𝓛 names p × Below 𝓛 θ (writeLevel 𝓛 names p) × Below 𝓛 (testLevel 𝓛 names p) σ
-        read d = derived 𝓛 laws names d (names .isSession) (environment-agrees names (names .isSession)) scoped
+        read d = derived 𝓛 laws names d scope (environment-agrees names scope) scoped
 
+module _
+    {L : Type 0} (𝓛 : Lattice L) (laws : Laws 𝓛) (names : Names L) (p : Proc L)
+    (scoped : Scoped names (names .isSession) p)
+  where
     -- two starts that agree below a reader are low-equal
     starts-twins :
         (reader : L) (s t : List ℤ) → StartsAgree 𝓛 names reader s t →

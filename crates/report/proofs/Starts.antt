@@ -17,7 +17,7 @@ use Rattle.language.specs.Scope.{withName, ReadsIn, Declares, Scoped, Declared}
 use Rattle.language.specs.Calls.{System}
 use Rattle.language.proofs.NameKinds.{same-kind, same-number, same-self, one-kind}
 use Rattle.report.specs.Names.{Reads, Free, Renaming, renamedIn, Renamed, r-nil, r-assign, r-let, r-if, r-while, r-sequence, r-emit, r-local, r-watching, r-when, r-parallel}
-use Rattle.report.specs.Configurations.{Configuration, Begins}
+use Rattle.report.specs.Configurations.{Configuration, Begins, begun}
 use Rattle.report.specs.Scope.{Script}
 use Rattle.report.proofs.Renames.{same-ren}
 use Rattle.report.proofs.Clean.{once-clean}
@@ -209,3 +209,16 @@ module _
           kept = λ k x δ h. refl;
           free = λ k x δ d h. undeclared k x d (only k x δ h);
         }
+
+-- a configuration to begin with
+pub begun-begins : {L : Type 0} (Γ : Environment L) (at : System L) → Begins Γ at (begun Γ at)
+begun-begins Γ at =
+    record {
+      environment = refl;
+      store = λ x δ h. refl;
+      signals = λ a δ h. rw h;
+      absent = λ a h. rw h;
+      process = refl;
+      steps = refl;
+      instants = refl;
+    }

@@ -1,8 +1,8 @@
 -- RR-5594, 2.2: 'configurations, which are quadruples ⟨Γ, S, E, P⟩'; and how a script's session starts one.
 use Prim.Native.Nat.{ℕ}
 use mathlib.Core.Path.{_≡_}
-use mathlib.Core.Bool.{Bool, false, cond}
-use mathlib.Core.Option.{none, some}
+use mathlib.Core.Bool.{Bool, true, false, cond, _&&_}
+use mathlib.Core.Option.{Option, none, some}
 use mathlib.Core.List.{List}
 use lib.Dec.{eqb}
 use lib.IntN.{ℤ}
@@ -35,3 +35,19 @@ pub record Begins {L : Type 0} (Γ : Environment L) (at : System L) (C : Configu
   pub process : C .process ≡ at .process
   pub steps : C .steps ≡ at .steps
   pub instants : C .instants ≡ at .instants
+
+-- there is one
+abbrev isIn : {L : Type 0} → Option L → Bool
+isIn none = false
+isIn (some δ) = true
+
+abbrev pub begun : {L : Type 0} → Environment L → System L → Configuration L
+begun Γ at =
+    record {
+      environment = Γ;
+      store = held (at .values);
+      signals = λ a. isIn (Γ sig a) && present (at .values) a;
+      process = at .process;
+      steps = at .steps;
+      instants = at .instants;
+    }
