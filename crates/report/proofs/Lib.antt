@@ -8,3 +8,4 @@ pub mod Steps
 pub mod Progress
 pub mod Starts
 pub mod Theorems
+pub mod Worked

@@ -1,8 +1,8 @@
 -- Each step of the report is the step in place, up to the names of what is declared.
 -- Assumes nothing.
-use Prim.Native.Nat.{ℕ, suc, _<_}
+use Prim.Native.Nat.{ℕ, _<_}
 use mathlib.Core.Path.{_≡_, refl, sym, ap, _∙_}
-use mathlib.Core.Bool.{Bool, true, false, not}
+use mathlib.Core.Bool.{Bool, true, false}
 use mathlib.Core.Option.{none, some}
 use mathlib.Core.Logic.{_⊎_, inl, inr, ⊎-elim}
 use mathlib.Core.List.{List}
@@ -14,19 +14,16 @@ use Rattle.language.specs.Syntax.{Names, Exp, Occurs, Proc, nil, assign, letIn,
 use Rattle.language.specs.NameKinds.{Kind, var, sig, same, put, isOf}
 use Rattle.language.specs.Scope.{Declared}
 use Rattle.language.specs.Typing.{Environment}
-use Rattle.language.specs.Steps.{held, evaluate, value, Output, silent, assigned, emitted, instantStart}
-use Rattle.language.specs.Calls.{System}
+use Rattle.language.specs.Steps.{held, evaluate, value, Output, silent, assigned, emitted}
 use Rattle.language.specs.Moves as inplace
 use Rattle.language.specs.Instants as inplace-steps
 use Rattle.language.proofs.NameKinds.{same-self, put-true, other, either}
 use Rattle.report.specs.Names.{Free, Renaming, renamedIn, Renamed, r-nil, r-assign, r-let, r-if, r-while, r-sequence, r-emit, r-local, r-watching, r-when, r-parallel}
-use Rattle.report.specs.Configurations.{Configuration}
 use Rattle.report.specs.Moves.{Move, ASSIGN-OP, SEQ-OP₁, SEQ-OP₂, LET-OP, COND-OP₁, COND-OP₂, WHILE-OP₁, WHILE-OP₂, EMIT-OP, LOCAL-OP, WATCH-OP₁, WATCH-OP₂, WHEN-OP₁, WHEN-OP₂, PAR-OP₁, PAR-OP₂, PAR-OP₃}
-use Rattle.report.specs.Instants.{Step, MOVE, INSTANT-OP}
 use Rattle.report.proofs.Renames.{evaluate-renamed, same-ren, ren-then, under-twice}
 use Rattle.report.proofs.Clean.{Clean, Kept, kept-sequence, kept-parallel, kept-watching, kept-when, kept-nil}
-use Rattle.report.proofs.Memory.{Agree, defined, agree-let, agree-local, agree-assign, agree-emit, agree-none}
-use Rattle.report.proofs.Waiting.{Signals, suspended-back, suspended-forth, ChangedBack, changed-back}
+use Rattle.report.proofs.Memory.{Agree, defined, agree-let, agree-local, agree-assign, agree-emit}
+use Rattle.report.proofs.Waiting.{suspended-back, suspended-forth}
 
 -- what is written: nothing, or one value at names that correspond
 pub data SameOutput (F : Kind → ℕ → Bool) (ρ : Renaming) : Output → Output → Type 0 where

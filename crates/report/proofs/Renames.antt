@@ -4,14 +4,14 @@ use Prim.Native.Nat.{ℕ}
 use native.Mathlib.Omega.{arith}
 use mathlib.Core.Path.{_≡_, refl, sym, subst, ap, ap₂, _∙_}
 use mathlib.Core.Bool.{Bool, true, false, cond}
-use mathlib.Core.Logic.{_⊎_, inl, inr}
+use mathlib.Core.Logic.{inl, inr}
 use lib.IntN.{ℤ}
 use Rattle.language.specs.Values.{negation}
-use Rattle.language.specs.Syntax.{Exp, constant, register, binary, negated, Occurs, here, left, right, under, Proc, nil, assign, letIn, ifThenElse, while, sequence, emit, local, watching, when, parallel}
+use Rattle.language.specs.Syntax.{Exp, constant, register, binary, negated, Occurs, here, left, right, under, Proc}
 use Rattle.language.specs.NameKinds.{Kind, var, sig, same, put}
 use Rattle.language.specs.Steps.{apply, evaluate}
 use Rattle.language.proofs.NameKinds.{same-kind, same-number, same-self, same-at}
-use Rattle.report.specs.Names.{Reads, Free, Renaming, renamedIn, CapturesNone, Renamed, r-nil, r-assign, r-let, r-if, r-while, r-sequence, r-emit, r-local, r-watching, r-when, r-parallel}
+use Rattle.report.specs.Names.{Reads, Free, Renaming, renamedIn, Renamed, r-nil, r-assign, r-let, r-if, r-while, r-sequence, r-emit, r-local, r-watching, r-when, r-parallel}
 
 -- renamings at the body of a declaration
 pub under-same :
@@ -172,4 +172,3 @@ module _ {L : Type 0} where
   ren-then (r-watching q d) {σ} (r-watching r g) = r-watching (r ∙ ap (σ sig) q) (ren-then d g)
   ren-then (r-when q d) {σ} (r-when r g) = r-when (r ∙ ap (σ sig) q) (ren-then d g)
   ren-then (r-parallel d d′) (r-parallel g g′) = r-parallel (ren-then d g) (ren-then d′ g′)
-

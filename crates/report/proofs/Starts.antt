@@ -2,26 +2,26 @@
 -- Assumes nothing.
 use Prim.Native.Nat.{ℕ, _<_}
 use native.Mathlib.Omega.{arith}
-use mathlib.Core.Path.{_≡_, refl, sym, subst, ap, ap₂, _∙_}
-use mathlib.Core.Bool.{Bool, true, false, cond, not, _&&_, _||_, true≢false, false≢true}
-use mathlib.Core.Option.{Option, none, some}
-use mathlib.Core.Logic.{_⊎_, inl, inr}
+use mathlib.Core.Path.{_≡_, refl, sym, ap, ap₂, _∙_}
+use mathlib.Core.Bool.{Bool, true, false, cond, not, _&&_, _||_, true≢false}
+use mathlib.Core.Option.{none, some}
+use mathlib.Core.Logic.{inl, inr}
 use lib.Dec.{eqb}
 use lib.ListN.{length}
 use borrow.Author.Tests.{eqb-true}
 use Rattle.prelude.proofs.Bools.{by-cases, and-intro, and-left, and-right, or-cases}
-use Rattle.language.specs.Syntax.{Names, Exp, constant, register, binary, negated, Occurs, Proc, nil, assign, letIn, ifThenElse, while, sequence, emit, local, watching, when, parallel}
+use Rattle.language.specs.Syntax.{Names, Exp, constant, register, binary, negated, Proc, nil, assign, letIn, ifThenElse, while, sequence, emit, local, watching, when, parallel}
 use Rattle.language.specs.NameKinds.{Kind, var, sig, same, put, isOf}
 use Rattle.language.specs.Typing.{Environment, environment}
-use Rattle.language.specs.Scope.{withName, ReadsIn, Declares, Scoped, Declared}
+use Rattle.language.specs.Scope.{withName, ReadsIn, Scoped, Declared}
 use Rattle.language.specs.Calls.{System}
 use Rattle.language.proofs.NameKinds.{same-kind, same-number, same-self, one-kind}
-use Rattle.report.specs.Names.{Reads, Free, Renaming, renamedIn, Renamed, r-nil, r-assign, r-let, r-if, r-while, r-sequence, r-emit, r-local, r-watching, r-when, r-parallel}
+use Rattle.report.specs.Names.{Reads, Free, renamedIn, Renamed, r-nil, r-assign, r-let, r-if, r-while, r-sequence, r-emit, r-local, r-watching, r-when, r-parallel}
 use Rattle.report.specs.Configurations.{Configuration, Begins, begun}
 use Rattle.report.specs.Scope.{Script}
 use Rattle.report.proofs.Renames.{same-ren}
 use Rattle.report.proofs.Clean.{once-clean}
-use Rattle.report.proofs.Matching.{Carried, Carries}
+use Rattle.report.proofs.Matching.{Carries}
 use Rattle.report.proofs.Steps.{Joined, Fixed}
 
 -- a process is itself, renamed by nothing

@@ -3,15 +3,14 @@
 use Prim.Native.Nat.{ℕ, suc}
 use mathlib.Core.Path.{_≡_, refl, sym, ap, _∙_}
 use mathlib.Core.Bool.{Bool, true, false, cond}
-use mathlib.Core.Option.{Option, none, some}
-use mathlib.Core.List.{List, [], _∷_, _++_, Option·toList}
+use mathlib.Core.Option.{none, some}
+use mathlib.Core.List.{List, [], _++_, Option·toList}
 use lib.IntN.{ℤ}
-use Rattle.prelude.proofs.Bools.{by-both}
 use Rattle.language.specs.Syntax.{Names}
 use Rattle.language.specs.NameKinds.{Kind, var, sig}
 use Rattle.language.specs.Scope.{Declared}
 use Rattle.language.specs.Typing.{Environment}
-use Rattle.language.specs.Steps.{Output, silent, instantStart}
+use Rattle.language.specs.Steps.{Output, silent}
 use Rattle.language.specs.Calls.{Line, System, calledFor}
 use Rattle.language.specs.Instants as inplace
 use Rattle.language.specs.Paths as paths

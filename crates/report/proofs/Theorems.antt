@@ -1,19 +1,19 @@
 -- A run in place makes the report's steps. The statements stand in specs/Results.antt.
 -- Assumes nothing.
-use Prim.Native.Nat.{ℕ, zero, suc, _+_, _≤_, _<_}
+use Prim.Native.Nat.{ℕ, suc, _+_}
 use native.Mathlib.Omega.{arith}
 use mathlib.Core.Path.{_≡_, refl, sym, subst, ap, ap₂, _∙_}
 use mathlib.Core.Bool.{Bool, true, false, true≢false, false≢true}
 use mathlib.Core.Option.{none, some}
-use mathlib.Core.Logic.{_⊎_, inl, inr, ⊎-elim}
-use mathlib.Core.List.{List, [], _∷_, _++_, Option·toList}
+use mathlib.Core.Logic.{_⊎_, ⊎-elim}
+use mathlib.Core.List.{List, [], _++_, Option·toList}
 use lib.ListN.{length}
 use Rattle.language.specs.Values.{holds}
 use Rattle.language.specs.Syntax.{Names, Proc, nil, isNil}
 use Rattle.language.specs.NameKinds.{Kind, var, sig, put}
 use Rattle.language.specs.Typing.{Environment, environment}
 use Rattle.language.specs.Steps.{held, present, Output}
-use Rattle.language.specs.Calls.{Line, Ending, finished, spent, logFull, System, Run, calledFor, output, next}
+use Rattle.language.specs.Calls.{Line, Ending, System, Run, calledFor, output, next}
 use Rattle.language.specs.Instants as inplace
 use Rattle.language.specs.Paths as paths
 use Rattle.language.proofs.NameKinds.{other}
@@ -22,12 +22,12 @@ use Rattle.language.proofs.Theorems.{steps-agree}
 use Rattle.report.specs.Names.{Renaming, Renamed, r-nil, r-assign, r-let, r-if, r-while, r-sequence, r-emit, r-local, r-watching, r-when, r-parallel}
 use Rattle.report.specs.Configurations.{Configuration, Begins}
 use Rattle.report.specs.Moves.{Move, ASSIGN-OP, SEQ-OP₁, SEQ-OP₂, LET-OP, COND-OP₁, COND-OP₂, WHILE-OP₁, WHILE-OP₂, EMIT-OP, LOCAL-OP, WATCH-OP₁, WATCH-OP₂, WHEN-OP₁, WHEN-OP₂, PAR-OP₁, PAR-OP₂, PAR-OP₃}
-use Rattle.report.specs.Instants.{Step, MOVE, INSTANT-OP, Alive}
+use Rattle.report.specs.Instants.{Step, MOVE, INSTANT-OP}
 use Rattle.report.specs.Paths.{NamedLine, linesFor, Path, here, more}
 use Rattle.report.specs.Scope.{Script}
 use Rattle.report.specs.Results.{SameLines, no-lines, one-more, Alike, HasPath, EndsAs, Reported}
 use Rattle.report.proofs.Progress.{NamesBelow, CanStep, can-step, nil-terminated}
-use Rattle.report.proofs.Steps.{Joined, Stepped, step-back, sees, Fixed, fixed-on, lines-too, Along, walk}
+use Rattle.report.proofs.Steps.{Joined, step-back, sees, Fixed, lines-too, Along, walk}
 use Rattle.report.proofs.Starts.{start-joined, start-fixed}
 
 module _ {L : Type 0} where

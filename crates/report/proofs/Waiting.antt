@@ -2,7 +2,7 @@
 -- Assumes nothing.
 use Prim.Native.Nat.{ℕ}
 use mathlib.Core.Path.{_≡_, sym, ap, _∙_}
-use mathlib.Core.Bool.{Bool, true, false}
+use mathlib.Core.Bool.{Bool}
 use mathlib.Core.Logic.{_⊎_, inl, inr, ⊎-elim}
 use mathlib.Core.List.{List}
 use lib.IntN.{ℤ}
@@ -15,7 +15,7 @@ use Rattle.language.proofs.NameKinds.{same-self}
 use Rattle.report.specs.Names.{Free, Renaming, Renamed, r-nil, r-sequence, r-watching, r-when, r-parallel}
 use Rattle.report.specs.Suspension.{Suspended, WHEN-SUS₁, WHEN-SUS₂, WATCH-SUS, SEQ-SUS, PAR-SUS}
 use Rattle.report.specs.Instants.{Changed, WATCH-PRESENT, WATCH-ABSENT, WHEN-PRESENT, WHEN-ABSENT, SEQ-CHANGED, PAR-CHANGED}
-use Rattle.report.proofs.Clean.{Clean, Kept, kept-sequence, kept-parallel, kept-watching, kept-when, kept-nil, kept-same, kept-both}
+use Rattle.report.proofs.Clean.{Clean, Kept, kept-sequence, kept-watching, kept-when, kept-nil, kept-same, kept-both}
 
 module _ {L : Type 0} (s : List ℤ) (E : ℕ → Bool) where
   -- presence agrees at the signals that are free in p

@@ -3,10 +3,9 @@ use Prim.Native.Nat.{ℕ}
 use mathlib.Core.Path.{_≡_}
 use mathlib.Core.Bool.{Bool, true, false, cond, _&&_}
 use mathlib.Core.Option.{Option, none, some}
-use mathlib.Core.List.{List}
 use lib.Dec.{eqb}
 use lib.IntN.{ℤ}
-use Rattle.language.specs.Syntax.{Exp, Proc}
+use Rattle.language.specs.Syntax.{Proc}
 use Rattle.language.specs.NameKinds.{var, sig}
 use Rattle.language.specs.Typing.{Environment}
 use Rattle.language.specs.Steps.{held, present}

@@ -8,3 +8,4 @@ pub mod Instants
 pub mod Paths
 pub mod Scope
 pub mod Results
+pub mod Examples

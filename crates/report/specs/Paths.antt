@@ -5,7 +5,6 @@ use mathlib.Core.Option.{Option, none, some}
 use mathlib.Core.List.{List, [], _∷_, _++_}
 use Rattle.language.specs.Syntax.{nil}
 use Rattle.language.specs.NameKinds.{Kind, var, sig}
-use Rattle.language.specs.Typing.{Environment}
 use Rattle.language.specs.Steps.{Output, silent, assigned, emitted}
 use Rattle.language.specs.Calls.{Line, System, calledFor}
 use Rattle.report.specs.Configurations.{Configuration}

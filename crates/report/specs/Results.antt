@@ -6,13 +6,13 @@
 -- same instants, session values and lines, and leaves the same process up to its names.
 use Prim.Native.Nat.{ℕ, _<_}
 use mathlib.Core.Path.{_≡_}
-use mathlib.Core.Bool.{Bool, true, false}
-use mathlib.Core.Option.{none, some}
+use mathlib.Core.Bool.{Bool, true}
+use mathlib.Core.Option.{some}
 use mathlib.Core.List.{List, [], _∷_}
 use lib.ListN.{length}
-use Rattle.language.specs.Syntax.{Names, Proc}
+use Rattle.language.specs.Syntax.{Names}
 use Rattle.language.specs.NameKinds.{Kind, var, sig, isOf}
-use Rattle.language.specs.Typing.{Environment, environment}
+use Rattle.language.specs.Typing.{Environment}
 use Rattle.language.specs.Steps.{held, present, Output}
 use Rattle.language.specs.Calls.{Line, Ending, finished, spent, logFull, System, Run}
 use Rattle.language.specs.Paths as paths

@@ -1,30 +1,29 @@
 -- In the script of a checked file no name is declared twice: a declaration is its name's owner, and a node lies under one
 -- child of its parent only.
 -- Assumes nothing.
-use mathlib.Core.Path.{_≡_, refl, sym, ap, _∙_, subst}
+use mathlib.Core.Path.{_≡_, refl, sym, _∙_, subst}
 use mathlib.Core.Bool.{true}
 use mathlib.Core.List.{List}
 use mathlib.Core.Logic.{_⊎_, inl, inr, ⊎-elim}
-use Prim.Native.Nat.{ℕ, zero, suc, _+_, _-_, _*_, _/_, _%_, _≤_, _<_}
+use Prim.Native.Nat.{ℕ, zero, suc, _+_, _-_, _*_, _/_, _<_}
 use native.Mathlib.Nat.{not-suc-le-zero}
 use native.Mathlib.Decide.{ℕ-discrete}
 use native.Mathlib.Omega.{arith}
-use Rattle.language.specs.Syntax.{Proc, letIn, local}
 use Rattle.language.specs.NameKinds.{Kind, var, sig, same}
 use Rattle.language.specs.Scope.{Declared, Apart, Once}
 use Rattle.language.proofs.NameKinds.{same-number}
-use Rattle.script.specs.Layout.{mostParts, layoutOf, nameCount, expressionCount, nodeCount, partCount}
+use Rattle.script.specs.Layout.{layoutOf, nameCount, expressionCount, nodeCount, partCount}
 use Rattle.script.specs.Roles.{nodeRows, roleIn, child}
 use Rattle.script.specs.Entries.{nameOf, partOf, node, fieldCount, fieldOf, valueOf}
 use Rattle.script.specs.Uses.{used}
 use Rattle.script.specs.Reach.{within}
 use Rattle.script.specs.Checked.{Checked}
-use Rattle.script.specs.Tree.{processOf, tree}
+use Rattle.script.specs.Tree.{processOf}
 use Rattle.script.specs.Results.{TreeNamed}
 use Rattle.script.proofs.Layouts.{few-bounds, few-parts}
 use Rattle.script.proofs.Reaching.{within-self, within-step, within-cases, within-below, used-of, used-child, used-once, within-up}
 use Rattle.script.proofs.Scoping.{tree-session}
-use Rattle.script.proofs.Views.{NewName, UsesNode, NodeView, aNil, anAssign, aLet, anIf, aWhile, aSequence, anEmit, aLocal, aWatching, aWhen, aParallel, node-view, role}
+use Rattle.script.proofs.Views.{NewName, NodeView, aNil, anAssign, aLet, anIf, aWhile, aSequence, anEmit, aLocal, aWatching, aWhen, aParallel, node-view, role}
 
 module _ (s : List ℕ) (ok : Checked s) where
   -- field f of node k holds the child j
