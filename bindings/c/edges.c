@@ -1,0 +1,182 @@
+/* The edges of the C interface: lengths of `out`, empty buffers, words next to a buffer, refused calls. Prints a line
+ * for each and returns 1 if one fails.
+ *
+ *     cc -I include bindings/c/edges.c target/staticlib/libengine.a -o edges
+ */
+#include <stdio.h>
+#include <stdlib.h>
+#include <string.h>
+
+#include "station.h"
+
+/* Two levels, 0 at or below 1. */
+static const uint8_t book[] = {0x02, 0x00, 0x03, 0x00, 0x02};
+
+/* x := 7, with x a session register at level 0. */
+static const uint8_t script[] = {
+    0x00, 0x00, 0xFF, 0xFF,                         /* name 0 */
+    0x00, 0x00, 0x00, 0x00, 0x00, 0x00, 0x00, 0x07, /* expression 0 */
+    0x01, 0x00, 0x00, 0x00, 0x00, 0x00, 0x00, 0x00, /* node 0 */
+    0x00, 0x04, 0x00, 0x0C, 0x00, 0x14, 0x53, 0x54  /* tail */
+};
+
+/* nil, with no name and no expression. */
+static const uint8_t nil_script[] = {
+    0x00, 0x00, 0x00, 0x00, 0x00, 0x00, 0x00, 0x00, /* node 0 */
+    0x00, 0x00, 0x00, 0x00, 0x00, 0x08, 0x53, 0x54  /* tail */
+};
+
+/* The buffers of a call begin AT words into these arrays; what stands around them must not change. */
+#define AT 2
+#define GUARD 0x5AA5C33C
+
+struct buffers {
+    int32_t values[2 * AT + 1];
+    uint32_t log[2 * AT + 2 * STATION_LINE_WORDS];
+    uint32_t out[2 * AT + STATION_RUN_WORDS + 1];
+};
+
+static int failures = 0;
+
+static void report(const char *what, int holds) {
+    printf("%s: %s\n", holds ? "ok" : "FAILED", what);
+    failures += !holds;
+}
+
+/* Every word differs from what the calls write; the one value is `value`. */
+static struct buffers fresh(int32_t value) {
+    struct buffers b;
+    for (size_t i = 0; i < sizeof b.values / sizeof b.values[0]; i++) {
+        b.values[i] = GUARD;
+    }
+    for (size_t i = 0; i < sizeof b.log / sizeof b.log[0]; i++) {
+        b.log[i] = GUARD;
+    }
+    for (size_t i = 0; i < sizeof b.out / sizeof b.out[0]; i++) {
+        b.out[i] = GUARD;
+    }
+    b.values[AT] = value;
+    return b;
+}
+
+/* All three arrays: the members are words of one size, so that there is no padding. */
+static int same(const struct buffers *a, const struct buffers *b) {
+    return memcmp(a, b, sizeof *a) == 0;
+}
+
+static void put_report(struct buffers *b, uint32_t number, uint32_t place, uint32_t ending, uint32_t steps,
+                       uint32_t lines) {
+    const uint32_t words[STATION_RUN_WORDS] = {number, place, ending, steps, 0, lines};
+    memcpy(b->out + AT, words, sizeof words);
+}
+
+/* Runs x := 7 on the buffers. */
+static void run(struct buffers *b, uint32_t reader, uint32_t limit, size_t log_len, size_t out_len) {
+    station_run(book, sizeof book, script, sizeof script, reader, b->values + AT, 1, limit, b->log + AT, log_len,
+                b->out + AT, out_len);
+}
+
+static void wrong_out_lengths(void) {
+    const struct buffers before = fresh(0);
+    struct buffers b = before;
+    for (size_t n = 0; n <= STATION_RUN_WORDS + 1; n++) {
+        if (n != STATION_CHECK_WORDS) {
+            station_check(book, sizeof book, script, sizeof script, b.out + AT, n);
+        }
+        if (n != STATION_RUN_WORDS) {
+            run(&b, 0, 1000, 2 * STATION_LINE_WORDS, n);
+        }
+    }
+    station_check(book, sizeof book, script, sizeof script, NULL, 0);
+    station_run(book, sizeof book, script, sizeof script, 0, b.values + AT, 1, 1000, b.log + AT, STATION_LINE_WORDS,
+                NULL, 0);
+    report("an out of another length: nothing changes", same(&b, &before));
+}
+
+static void check_of_nothing(void) {
+    uint32_t out[STATION_CHECK_WORDS];
+    const uint32_t no_book[] = {STATION_REFUSED_BOOK, 0, 0, 0};
+    const uint32_t no_script[] = {STATION_REFUSED_TAIL, 0, 0, 0};
+    station_check(NULL, 0, NULL, 0, out, STATION_CHECK_WORDS);
+    report("check: book NULL, script NULL", memcmp(out, no_book, sizeof out) == 0);
+    station_check(book, sizeof book, NULL, 0, out, STATION_CHECK_WORDS);
+    report("check: script NULL", memcmp(out, no_script, sizeof out) == 0);
+}
+
+static void run_of_nothing(void) {
+    uint32_t out[STATION_RUN_WORDS];
+    const uint32_t finished[] = {0, 0, STATION_FINISHED, 0, 0, 0};
+    const uint32_t wrong_values[] = {STATION_REFUSED_VALUES, 0, 0, 0, 0, 0};
+    station_run(book, sizeof book, nil_script, sizeof nil_script, 1, NULL, 0, 1000, NULL, 0, out, STATION_RUN_WORDS);
+    report("run of nil: values NULL, log NULL", memcmp(out, finished, sizeof out) == 0);
+    station_run(book, sizeof book, script, sizeof script, 0, NULL, 0, 1000, NULL, 0, out, STATION_RUN_WORDS);
+    report("run of x := 7: values NULL is a wrong length", memcmp(out, wrong_values, sizeof out) == 0);
+}
+
+/* What each length of the log leaves: none of its words, or one whole line. */
+static void log_lengths(void) {
+    int holds = 1;
+    for (size_t n = 0; n <= 2 * STATION_LINE_WORDS; n++) {
+        struct buffers b = fresh(0), expected = b;
+        if (n < STATION_LINE_WORDS) {
+            put_report(&expected, 0, 0, STATION_LOG_FULL, 0, 0);
+        } else {
+            const uint32_t line[STATION_LINE_WORDS] = {1, 0, 0, 7};
+            memcpy(expected.log + AT, line, sizeof line);
+            expected.values[AT] = 7;
+            put_report(&expected, 0, 0, STATION_FINISHED, 1, 1);
+        }
+        run(&b, 0, 1000, n, STATION_RUN_WORDS);
+        holds = holds && same(&b, &expected);
+    }
+    report("a log of 0 to 8 words: whole lines only, and nothing changes around the buffers", holds);
+}
+
+static void log_null(void) {
+    struct buffers b = fresh(3), expected = b;
+    put_report(&expected, 0, 0, STATION_LOG_FULL, 0, 0);
+    station_run(book, sizeof book, script, sizeof script, 0, b.values + AT, 1, 1000, NULL, 0, b.out + AT,
+                STATION_RUN_WORDS);
+    report("run of x := 7: log NULL is full before the first step", same(&b, &expected));
+}
+
+/* A call that is refused with this number, at place 0. */
+static void refused(const char *what, uint32_t number, uint32_t reader, size_t values_len, uint32_t limit) {
+    struct buffers b = fresh(3), expected = b;
+    put_report(&expected, number, 0, 0, 0, 0);
+    station_run(book, sizeof book, script, sizeof script, reader, b.values + AT, values_len, limit, b.log + AT,
+                2 * STATION_LINE_WORDS, b.out + AT, STATION_RUN_WORDS);
+    report(what, same(&b, &expected));
+}
+
+/* Every beginning of the script but the whole is refused. Each is a block of its own size, for tools that watch the
+ * bounds of blocks. */
+static void beginnings(void) {
+    int holds = 1;
+    for (size_t n = 0; n < sizeof script; n++) {
+        uint32_t out[STATION_CHECK_WORDS];
+        uint8_t *part = malloc(n + (n == 0));
+        if (part == NULL) {
+            holds = 0;
+            break;
+        }
+        memcpy(part, script, n);
+        station_check(book, sizeof book, part, n, out, STATION_CHECK_WORDS);
+        holds = holds && out[STATION_CHECK_NUMBER] == STATION_REFUSED_TAIL && out[STATION_CHECK_PLACE] == 0;
+        free(part);
+    }
+    report("check: each beginning of a script is refused for its tail", holds);
+}
+
+int main(void) {
+    wrong_out_lengths();
+    check_of_nothing();
+    run_of_nothing();
+    log_lengths();
+    log_null();
+    refused("a wrong reader: values and log as they were", STATION_REFUSED_READER, 2, 1, 1000);
+    refused("two values for one name: values and log as they were", STATION_REFUSED_VALUES, 0, 2, 1000);
+    refused("a limit too high: values and log as they were", STATION_REFUSED_LIMIT, 0, 1, STATION_MAX_STEPS + 1);
+    beginnings();
+    return failures != 0;
+}

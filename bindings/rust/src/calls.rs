@@ -1,0 +1,125 @@
+//! The two calls, and what they answer. The only module with `unsafe`.
+#![allow(unsafe_code)]
+
+use crate::raw;
+use crate::refusal::Refusal;
+
+/// The most steps that [`run`] may be asked for; a higher limit is refused.
+pub const MAX_STEPS: u32 = 1_000_000;
+
+/// What [`check`] answers for an accepted script. Both are levels of the book.
+#[derive(Clone, Copy, Debug, PartialEq, Eq, Hash)]
+pub struct Levels {
+    /// W: the meet of the levels of what the script may write.
+    pub write: u32,
+    /// T: the join of the levels of what the script tests.
+    pub test: u32,
+}
+
+/// How a run ended.
+#[derive(Clone, Copy, Debug, PartialEq, Eq, Hash)]
+#[non_exhaustive]
+pub enum Ending {
+    /// 0: nothing is left of the script.
+    Finished,
+    /// 1: the step limit is reached.
+    Spent,
+    /// 2: the next step needs a line, and the log has no four words left.
+    LogFull,
+    /// A number that this crate does not know.
+    Unknown(u32),
+}
+
+impl Ending {
+    fn from_number(number: u32) -> Ending {
+        match number {
+            0 => Ending::Finished,
+            1 => Ending::Spent,
+            2 => Ending::LogFull,
+            other => Ending::Unknown(other),
+        }
+    }
+}
+
+/// What [`run`] answers for a run that is not refused.
+#[derive(Clone, Copy, Debug, PartialEq, Eq, Hash)]
+pub struct Run {
+    /// How the run ended.
+    pub ending: Ending,
+    /// The counted steps: moves and instant changes.
+    pub steps: u32,
+    /// The instant changes among them.
+    pub instants: u32,
+    /// The lines at the head of the log; [`lines`](crate::lines()) reads them.
+    pub lines: usize,
+}
+
+/// Checks a script under a level book.
+pub fn check(book: &[u8], script: &[u8]) -> Result<Levels, Refusal> {
+    let mut out = [0; raw::CHECK_WORDS];
+    // SAFETY: every pointer and length is that of one live slice; `out` is borrowed for this call alone, so that it
+    // overlaps neither of the others.
+    unsafe {
+        raw::station_check(
+            book.as_ptr(),
+            book.len(),
+            script.as_ptr(),
+            script.len(),
+            out.as_mut_ptr(),
+            out.len(),
+        );
+    }
+    let [number, place, write, test] = out;
+    accepted(number, place)?;
+    Ok(Levels { write, test })
+}
+
+/// Runs a script under a level book for a reader, from these values, for at most `limit` steps.
+///
+/// `values` has one entry for each name of the script: a register's value, 0 or 1 for a signal, 0 for an owned name.
+/// After the run it holds the state after the counted steps, with owned names 0. `log` may have any length; the run's
+/// lines stand at its head, four words each, and the words after them are untouched. A refused call changes neither.
+pub fn run(
+    book: &[u8],
+    script: &[u8],
+    reader: u32,
+    values: &mut [i32],
+    limit: u32,
+    log: &mut [u32],
+) -> Result<Run, Refusal> {
+    let mut out = [0; raw::RUN_WORDS];
+    // SAFETY: every pointer and length is that of one live slice; `values`, `log` and `out` are borrowed mutably, so
+    // that none of them overlaps another slice.
+    unsafe {
+        raw::station_run(
+            book.as_ptr(),
+            book.len(),
+            script.as_ptr(),
+            script.len(),
+            reader,
+            values.as_mut_ptr(),
+            values.len(),
+            limit,
+            log.as_mut_ptr(),
+            log.len(),
+            out.as_mut_ptr(),
+            out.len(),
+        );
+    }
+    let [number, place, ending, steps, instants, lines] = out;
+    accepted(number, place)?;
+    Ok(Run {
+        ending: Ending::from_number(ending),
+        steps,
+        instants,
+        lines: lines as usize,
+    })
+}
+
+/// 0 means not refused.
+fn accepted(number: u32, place: u32) -> Result<(), Refusal> {
+    if number == 0 {
+        return Ok(());
+    }
+    Err(Refusal::new(number, place))
+}

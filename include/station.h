@@ -1,0 +1,129 @@
+/*
+ * station.h: checks and runs station scripts. C99 and C++; link with libengine.a.
+ *
+ * Two calls take any bytes and any numbers. What the rules do not allow is refused with a number and a place.
+ * docs/FORMATS.md has the formats of level book, script file and log, docs/REFUSALS.md an example of each refusal.
+ *
+ * BUFFERS. A buffer is a pointer, then a length in elements (not in bytes).
+ *  - The caller owns every buffer. A call keeps no pointer after it returns, and allocates nothing.
+ *  - A pointer may be NULL where its length is 0: an empty buffer is neither read nor written.
+ *  - `book` and `script` are only read; they may overlap each other. `values`, `log` and `out` are written: each of
+ *    them must overlap no other buffer of the call.
+ *  - `values`, `log` and `out` must be aligned for their element types, `book` and `script` need not be aligned.
+ *  - `out` must have exactly STATION_CHECK_WORDS or STATION_RUN_WORDS elements. With any other length the call does
+ *    nothing at all: `out`, `values` and `log` stay as they were.
+ *
+ * REENTRANCY. There is no static state and no lock: calls may run at the same time, in any thread, as long
+ * as no buffer that one of them writes belongs to another call.
+ *
+ * WHAT IT NEEDS. memcpy and memset of the C library, and nothing else: no heap, no files, no clock.
+ */
+#ifndef STATION_H
+#define STATION_H
+
+#include <stddef.h>
+#include <stdint.h>
+
+#ifdef __cplusplus
+extern "C" {
+#endif
+
+/* Limits. A book or script beyond them is refused, and so is a step limit above STATION_MAX_STEPS. */
+#define STATION_MAX_LEVELS 16
+#define STATION_MAX_NAMES 64
+#define STATION_MAX_EXPRESSIONS 256
+#define STATION_MAX_NODES 256
+#define STATION_MAX_STEPS 1000000
+
+/* The lengths of `out`, and the words of one line of the log. */
+#define STATION_CHECK_WORDS 4
+#define STATION_RUN_WORDS 6
+#define STATION_LINE_WORDS 4
+
+/* The words of `out` after station_check. A refusal's W and T are 0. */
+enum station_check_word {
+    STATION_CHECK_NUMBER = 0, /* a station_refusal */
+    STATION_CHECK_PLACE = 1,  /* where, as the refusal says; 0 if accepted */
+    STATION_CHECK_WRITE = 2,  /* W, a level: the meet of what the script may write */
+    STATION_CHECK_TEST = 3    /* T, a level: the join of what the script tests */
+};
+
+/* The words of `out` after station_run. Of a refused run all but number and place are 0. */
+enum station_run_word {
+    STATION_RUN_NUMBER = 0,   /* a station_refusal */
+    STATION_RUN_PLACE = 1,    /* where, as the refusal says; 0 if not refused */
+    STATION_RUN_ENDING = 2,   /* a station_ending */
+    STATION_RUN_STEPS = 3,    /* the counted steps: moves and instant changes */
+    STATION_RUN_INSTANTS = 4, /* the instant changes among them */
+    STATION_RUN_LINES = 5     /* the lines at the head of the log */
+};
+
+/* The words of a line of the log. */
+enum station_line_word {
+    STATION_LINE_STEP = 0,    /* the step, from 1 */
+    STATION_LINE_INSTANT = 1, /* the instant, from 0 */
+    STATION_LINE_NAME = 2,    /* the name's number in the script file */
+    STATION_LINE_VALUE = 3    /* the value as two's complement; 1 for an emission */
+};
+
+/*
+ * Why a call was refused. The lowest number that applies is given, with the smallest place at fault in that way.
+ * station_check gives 0 to 11, station_run all of them.
+ */
+enum station_refusal {
+    STATION_NOT_REFUSED = 0,             /* place 0 */
+    STATION_REFUSED_BOOK = 1,            /* number of levels or length of the book wrong; place 0 */
+    STATION_REFUSED_ORDER = 2,           /* the book's relation is no order; place: the level */
+    STATION_REFUSED_NO_COMMON_LEVEL = 3, /* a pair i < j lacks an upper or lower level; place: 16 i + j */
+    STATION_REFUSED_TAIL = 4,            /* the script's tail is wrong; place 0 */
+    STATION_REFUSED_TOO_MANY = 5,        /* too many names, expressions or nodes, or no node; place 0 */
+    STATION_REFUSED_NAME = 6,            /* kind, level or owner of a name; place: the name */
+    STATION_REFUSED_EXPRESSION = 7,      /* kind, field or operand; place: the expression */
+    STATION_REFUSED_NODE = 8,            /* kind, field or child, or declares another's name; place: the node */
+    STATION_REFUSED_LOOSE_PART = 9,      /* used not exactly once; place: the expression, or 256 + node */
+    STATION_REFUSED_OUT_OF_REACH = 10,   /* owned name outside its body; place: the expression, or 256 + node */
+    STATION_REFUSED_FLOW = 11,           /* a level flows where it may not; place: the node */
+    STATION_REFUSED_READER = 12,         /* the reader's level is not in the book; place 0 */
+    STATION_REFUSED_VALUES = 13,         /* place: 0 for a wrong length, else the first wrong entry */
+    STATION_REFUSED_LIMIT = 14           /* the step limit is above STATION_MAX_STEPS; place 0 */
+};
+
+/* How a run ended, decided before each step in this order. */
+enum station_ending {
+    STATION_FINISHED = 0, /* nothing is left of the script */
+    STATION_SPENT = 1,    /* the step limit is reached */
+    STATION_LOG_FULL = 2  /* the next step needs a line, and the log has no four words left */
+};
+
+/*
+ * Checks a script under a level book. `out` becomes number, place, W, T.
+ */
+void station_check(const uint8_t *book, size_t book_len,
+                   const uint8_t *script, size_t script_len,
+                   uint32_t *out, size_t out_len);
+
+/*
+ * Runs a script under a level book. `out` becomes number, place, ending, steps, instants, lines.
+ *
+ *   reader   a level of the book: the log takes lines for names at or below it
+ *   values   one number for each name of the script: a register's value, 0 or 1 for a signal, 0 for an owned name;
+ *            afterwards the state after the counted steps, with owned names 0
+ *   limit    the most steps, 0 to STATION_MAX_STEPS
+ *   log      any length; the run's lines stand at its head, STATION_LINE_WORDS words each, and the words after the last
+ *            line stay as they were
+ *
+ * A refused run leaves `values` and `log` as they were.
+ */
+void station_run(const uint8_t *book, size_t book_len,
+                 const uint8_t *script, size_t script_len,
+                 uint32_t reader,
+                 int32_t *values, size_t values_len,
+                 uint32_t limit,
+                 uint32_t *log, size_t log_len,
+                 uint32_t *out, size_t out_len);
+
+#ifdef __cplusplus
+}
+#endif
+
+#endif
