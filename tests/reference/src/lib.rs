@@ -7,6 +7,7 @@
 mod book;
 mod check;
 mod configuration;
+pub mod examples;
 mod fault;
 mod file;
 mod instant;
