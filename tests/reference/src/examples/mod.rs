@@ -8,6 +8,7 @@
 
 mod pegs;
 mod report;
+mod rules;
 pub mod script;
 mod table;
 
@@ -43,6 +44,7 @@ pub struct ExampleRun {
 pub fn all() -> Vec<Example> {
     let mut all = pegs::all();
     all.extend(report::all());
+    all.extend(rules::all());
     all.extend(table::all());
     all
 }
