@@ -15,6 +15,8 @@ mod instant;
 mod levels;
 mod log;
 mod moves;
+#[cfg(test)]
+mod properties;
 mod reach;
 mod refusal;
 mod runner;

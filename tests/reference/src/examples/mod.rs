@@ -10,10 +10,11 @@ mod pegs;
 mod report;
 mod rules;
 pub mod script;
+mod security;
 mod table;
 
 use crate::{CheckAnswer, RunAnswer};
-use script::{Names, Process};
+use script::{Name, Names, Process};
 
 /// A script file under a level book, and what the papers say of it.
 #[derive(Clone, Debug)]
@@ -44,6 +45,7 @@ pub struct ExampleRun {
 pub fn all() -> Vec<Example> {
     let mut all = pegs::all();
     all.extend(report::all());
+    all.extend(security::all());
     all.extend(rules::all());
     all.extend(table::all());
     all
@@ -87,6 +89,13 @@ fn log_full(steps: u32, instants: u32) -> End {
         steps,
         instants,
     }
+}
+
+/// Signals a (0), b (1) and c (2), all L.
+fn three_signals() -> (Names, Name, Name, Name) {
+    let mut n = Names::new();
+    let (a, b, c) = (n.signal(L), n.signal(L), n.signal(L));
+    (n, a, b, c)
 }
 
 impl Example {

@@ -1,15 +1,13 @@
-//! The report's example programs, sections 1 to 3. Steps were counted by hand by
+//! The report's example programs, sections 1 to 3.1. Steps were counted by hand by
 //! the rules of Figures 1 to 4.
 
 use super::script::*;
-use super::{finished, spent, Example, H, L};
+use super::{finished, spent, three_signals, Example, H, L};
 
 const INTRODUCTION: &str = "the report, section 1";
 const MOVES: &str = "the report, section 2.2.1";
 const INSTANTS: &str = "the report, section 2.2.2";
 const TYPES: &str = "the report, section 3.1";
-const SECURITY: &str = "the report, sections 3.2 and 3.3";
-const WEAK: &str = "the report, section 3.4";
 
 pub fn all() -> Vec<Example> {
     let groups = [
@@ -24,11 +22,6 @@ pub fn all() -> Vec<Example> {
         program_7(),
         program_8(),
         high_loop(),
-        semantically_high(),
-        local_names(),
-        local_names_under_a_high_test(),
-        weakly_secure(),
-        vec![guard()],
     ];
     groups.into_iter().flatten().collect()
 }
@@ -96,13 +89,6 @@ fn program_2() -> Example {
         &[[1, 0, 0, 1], [6, 0, 3, 1]],
         &[0, 1, 0, 0],
     )
-}
-
-/// Signals a (0), b (1) and c (2), all L.
-fn three_signals() -> (Names, Name, Name, Name) {
-    let mut n = Names::new();
-    let (a, b, c) = (n.signal(L), n.signal(L), n.signal(L));
-    (n, a, b, c)
 }
 
 /// 'The emission of signal a by the third process unblocks the first of the
@@ -378,42 +364,48 @@ fn program_8_process(high: u8) -> (Names, Process) {
 /// second', from {b}, 'it will be executed after x_L := 1'.
 fn program_8() -> Vec<Example> {
     let (high_names, high) = program_8_process(H);
-    let (low_names, low) = program_8_process(L);
     vec![
         // Node 14 is alpha': one part tests H, the other writes L.
         Example::script("program (8)", TYPES, high_names, high).refused(11, 14),
-        // Local, local, emit, drop, trade, when goes, watching goes, drop, trade,
-        // local, local, emit, drop, instant change, drop, emit c, drop, x, when
-        // goes, drop, drop, x.
-        // Local, local, emit, drop, trade, local, local, emit, drop, instant
-        // change, drop, emit c, drop, drop, x, drop, drop, x, when goes.
-        Example::script("program (8), all low", TYPES, low_names, low)
-            .accepted(0, 0)
-            .run(
-                (&[7, 1, 1, 0, 0, 0, 0, 0], 100),
-                finished(22, 1),
-                &[
-                    [3, 0, 5, 1],
-                    [12, 0, 7, 1],
-                    [16, 1, 3, 1],
-                    [18, 1, 0, 0],
-                    [22, 1, 0, 1],
-                ],
-                &[1, 0, 0, 1, 0, 0, 0, 0],
-            )
-            .run(
-                (&[7, 0, 1, 0, 0, 0, 0, 0], 100),
-                finished(19, 1),
-                &[
-                    [3, 0, 5, 1],
-                    [8, 0, 7, 1],
-                    [12, 1, 3, 1],
-                    [15, 1, 0, 1],
-                    [18, 1, 0, 0],
-                ],
-                &[0, 0, 0, 1, 0, 0, 0, 0],
-            ),
+        program_8_all_low(),
     ]
+}
+
+/// From {a, b}: local, local, emit, drop, trade, when goes, watching goes, drop,
+/// trade, local, local, emit, drop, instant change, drop, emit c, drop, x, when
+/// goes, drop, drop, x.
+/// From {b}: local, local, emit, drop, trade, local, local, emit, drop, instant
+/// change, drop, emit c, drop, drop, x, drop, drop, x, when goes.
+fn program_8_all_low() -> Example {
+    let (names, process) = program_8_process(L);
+    let from_both = [
+        [3, 0, 5, 1],
+        [12, 0, 7, 1],
+        [16, 1, 3, 1],
+        [18, 1, 0, 0],
+        [22, 1, 0, 1],
+    ];
+    let from_b = [
+        [3, 0, 5, 1],
+        [8, 0, 7, 1],
+        [12, 1, 3, 1],
+        [15, 1, 0, 1],
+        [18, 1, 0, 0],
+    ];
+    Example::script("program (8), all low", TYPES, names, process)
+        .accepted(0, 0)
+        .run(
+            (&[7, 1, 1, 0, 0, 0, 0, 0], 100),
+            finished(22, 1),
+            &from_both,
+            &[1, 0, 0, 1, 0, 0, 0, 0],
+        )
+        .run(
+            (&[7, 0, 1, 0, 0, 0, 0, 0], 100),
+            finished(19, 1),
+            &from_b,
+            &[0, 0, 0, 1, 0, 0, 0, 0],
+        )
 }
 
 /// 'Allowing loops with high guards such as while x_H = 0 do nil'.
@@ -429,182 +421,4 @@ fn high_loop() -> Vec<Example> {
     .accepted(1, 1)
     .run((&[3], 100), finished(1, 0), &[], &[3])
     .run((&[0], 7), spent(7, 0), &[], &[0])]
-}
-
-/// Programs that never write low, with low writes in their text or not.
-fn semantically_high() -> Vec<Example> {
-    let mut n = Names::new();
-    let y = n.register(L);
-    let mut m = Names::new();
-    let a = m.signal(L);
-    vec![
-        Example::script(
-            "if true then nil else y_L := 0",
-            SECURITY,
-            n,
-            if_else(constant(1), nil(), assign(y, constant(0))),
-        )
-        .accepted(0, 0)
-        .run((&[6], 100), finished(1, 0), &[], &[6]),
-        Example::script("local a : L in nil", SECURITY, m.clone(), local(a, nil()))
-            .accepted(1, 0)
-            .run((&[0], 100), finished(1, 0), &[], &[0]),
-        Example::script("local a : L in emit a", SECURITY, m, local(a, emit(a)))
-            .accepted(0, 0)
-            .run((&[0], 100), finished(2, 0), &[[2, 0, 0, 1]], &[0]),
-    ]
-}
-
-/// Names z (0), y_L (1) and three registers to declare (2 to 4).
-fn let_names(high: u8) -> (Names, Name, Name, [Name; 3]) {
-    let mut n = Names::new();
-    let (z, y) = (n.register(high), n.register(L));
-    let declared = [n.register(L), n.register(L), n.register(L)];
-    (n, z, y, declared)
-}
-
-/// P = let x : L = 0 in y_L := x, and Q = if z_H = 0 then (nil; P) else
-/// (let x : L = 1 in P). 'Q is not typable'; 'the two branches have the same
-/// effect on the low memory'.
-fn local_names() -> Vec<Example> {
-    let p = |x, y| let_in(x, constant(0), assign(y, read(x)));
-    let q = |high| {
-        let (n, z, y, [x1, x2, x3]) = let_names(high);
-        let second = let_in(x2, constant(1), p(x3, y));
-        (n, if_else(is_zero(z), seq(nil(), p(x1, y)), second))
-    };
-    let mut n = Names::new();
-    let (y, x) = (n.register(L), n.register(L));
-    let ((high_names, high), (low_names, low)) = (q(H), q(L));
-    vec![
-        Example::script("let x : L = 0 in y_L := x", SECURITY, n, p(x, y))
-            .accepted(0, 0)
-            .run((&[8, 0], 100), finished(2, 0), &[[2, 0, 0, 0]], &[0, 0]),
-        Example::script(
-            "if z_H = 0 then (nil; P) else (let x : L = 1 in P)",
-            SECURITY,
-            high_names,
-            high,
-        )
-        .refused(11, 7),
-        Example::script(
-            "if z_L = 0 then (nil; P) else (let x : L = 1 in P)",
-            SECURITY,
-            low_names,
-            low,
-        )
-        .accepted(0, 0)
-        .run(
-            (&[0, 8, 0, 0, 0], 100),
-            finished(4, 0),
-            &[[4, 0, 1, 0]],
-            &[0, 0, 0, 0, 0],
-        )
-        .run(
-            (&[1, 8, 0, 0, 0], 100),
-            finished(4, 0),
-            &[[4, 0, 1, 0]],
-            &[1, 0, 0, 0, 0],
-        ),
-    ]
-}
-
-/// P1 and P2 'act differently on the local store': let x : L = 0 (or 1) in
-/// x := x + 1. Q chooses one by a high test, 'we have' that it is not secure.
-fn local_names_under_a_high_test() -> Vec<Example> {
-    let p = |x, value| {
-        let grows = assign(x, add(read(x), constant(1)));
-        let_in(x, constant(value), grows)
-    };
-    let mut n = Names::new();
-    let x = n.register(L);
-    let (m, z, _, [x1, x2, _]) = let_names(H);
-    // The third declared name stays a session name of the file.
-    vec![
-        Example::script("let x : L = 0 in x := x + 1", SECURITY, n.clone(), p(x, 0))
-            .accepted(0, 0)
-            .run((&[0], 100), finished(2, 0), &[[2, 0, 0, 1]], &[0]),
-        Example::script("let x : L = 1 in x := x + 1", SECURITY, n, p(x, 1))
-            .accepted(0, 0)
-            .run((&[0], 100), finished(2, 0), &[[2, 0, 0, 2]], &[0]),
-        Example::script(
-            "if z_H = 0 then P1 else P2",
-            SECURITY,
-            m,
-            if_else(is_zero(z), p(x1, 0), p(x2, 1)),
-        )
-        .refused(11, 4),
-    ]
-}
-
-/// Not secure, so not typable (Theorem 3.10).
-fn weakly_secure() -> Vec<Example> {
-    let mut n = Names::new();
-    let (x, a, b) = (n.register(H), n.signal(L), n.signal(L));
-    let (m, z, y, [u, v, _]) = let_names(H);
-    let mut o = Names::new();
-    let (w, t) = (o.register(H), o.register(L));
-    vec![
-        Example::script(
-            "if x_H = 0 then emit a_L else emit b_L",
-            WEAK,
-            n,
-            if_else(is_zero(x), emit(a), emit(b)),
-        )
-        .refused(11, 2),
-        Example::script(
-            "if x_H = 0 then (let u : L = 0 in u := 0) else (let v : L = 1 in v := 1)",
-            WEAK,
-            m.clone(),
-            if_else(
-                is_zero(z),
-                let_in(u, constant(0), assign(u, constant(0))),
-                let_in(v, constant(1), assign(v, constant(1))),
-            ),
-        )
-        .refused(11, 4),
-        Example::script(
-            "if x_H = 0 then (let u : L = 0 in z_L := u) else (let v : L = 1 in z_L := v)",
-            WEAK,
-            m,
-            if_else(
-                is_zero(z),
-                let_in(u, constant(0), assign(y, read(u))),
-                let_in(v, constant(1), assign(y, read(v))),
-            ),
-        )
-        .refused(11, 4),
-        Example::script(
-            "let y : L = 0 in (if x_H = 0 then y := 0 else nil)",
-            WEAK,
-            o,
-            let_in(
-                t,
-                constant(0),
-                if_else(is_zero(w), assign(t, constant(0)), nil()),
-            ),
-        )
-        .refused(11, 2),
-    ]
-}
-
-/// 'x is a guard in the program (while x <= y do y := y - 1)', so its level is
-/// in T; x is H and y is H. While, y, drop, while, y, drop, while.
-fn guard() -> Example {
-    let mut n = Names::new();
-    let (x, y) = (n.register(H), n.register(H));
-    let at_most = not(less(read(y), read(x)));
-    Example::script(
-        "while x <= y do y := y - 1",
-        SECURITY,
-        n,
-        while_do(at_most, assign(y, subtract(read(y), constant(1)))),
-    )
-    .accepted(1, 1)
-    .run_with(
-        (1, &[1, 2], 100, 64),
-        finished(7, 0),
-        &[[2, 0, 1, 1], [5, 0, 1, 0]],
-        &[1, 0],
-    )
 }

@@ -2,7 +2,7 @@
 //! and steps were worked out by hand from the sentence that each one names.
 
 use super::script::*;
-use super::{finished, log_full, spent, Example, H, L};
+use super::{finished, log_full, spent, three_signals, Example, H, L};
 
 const VALUES: &str = "01, 'Script file': values";
 const LEVELS: &str = "01, 'Write level and test level'";
@@ -115,13 +115,6 @@ fn needs() -> Vec<Example> {
         )
         .accepted(0, 1),
     ]
-}
-
-/// Signals a (0), b (1) and c (2), all L.
-fn three_signals() -> (Names, Name, Name, Name) {
-    let mut n = Names::new();
-    let (a, b, c) = (n.signal(L), n.signal(L), n.signal(L));
-    (n, a, b, c)
 }
 
 /// 'Watching becomes nil if its signal was present, else its body changes.'
