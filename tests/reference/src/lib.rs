@@ -1,1 +1,110 @@
-//! Stub.
+//! A second interpreter of station scripts, written from the papers alone:
+//! the scope paper (called 01 in the comments) and report RR-5594 (called the
+//! report). It checks a script file against a level book, runs it by rewriting
+//! trees by the report's Figures 1 to 4, and derives the types of Figure 5 by
+//! brute force. A flag of the tests plants one fault in one of its rules.
+
+mod book;
+mod check;
+mod configuration;
+mod fault;
+mod file;
+mod instant;
+mod levels;
+mod moves;
+mod reach;
+mod refusal;
+mod runner;
+mod shape;
+mod suspension;
+mod tree;
+mod typing;
+mod uses;
+mod value;
+
+pub use fault::{Fault, Rules};
+use refusal::Refusal;
+
+/// What `check` returns (01, 'Calls').
+#[derive(Clone, Copy, Debug, PartialEq, Eq)]
+pub struct CheckAnswer {
+    pub number: u32,
+    pub place: u32,
+    pub write: u32,
+    pub test: u32,
+}
+
+/// What `run` returns (01, 'Calls').
+#[derive(Clone, Copy, Debug, PartialEq, Eq)]
+pub struct RunAnswer {
+    pub number: u32,
+    pub place: u32,
+    pub ending: u32,
+    pub steps: u32,
+    pub instants: u32,
+    pub lines: u32,
+}
+
+impl CheckAnswer {
+    /// 01: 'A refusal's other returned numbers are 0'.
+    fn refused(refusal: Refusal) -> Self {
+        CheckAnswer {
+            number: refusal.number,
+            place: refusal.place,
+            write: 0,
+            test: 0,
+        }
+    }
+}
+
+impl RunAnswer {
+    /// 01: 'A refusal's other returned numbers are 0'.
+    fn refused(refusal: Refusal) -> Self {
+        RunAnswer {
+            number: refusal.number,
+            place: refusal.place,
+            ending: 0,
+            steps: 0,
+            instants: 0,
+            lines: 0,
+        }
+    }
+}
+
+/// Checks a script file under a level book: refusals 1 to 11, or W and T.
+pub fn check(rules: Rules, book: &[u8], script: &[u8]) -> CheckAnswer {
+    match check::accepted(rules, book, script) {
+        Err(refusal) => CheckAnswer::refused(refusal),
+        Ok(accepted) => CheckAnswer {
+            number: 0,
+            place: 0,
+            write: accepted.levels.write as u32,
+            test: accepted.levels.test as u32,
+        },
+    }
+}
+
+/// Runs a script: refusals 1 to 14, or the steps, with the lines in `log` and
+/// the state at the end in `values`. A refusal leaves both untouched.
+pub fn run(
+    rules: Rules,
+    book: &[u8],
+    script: &[u8],
+    reader: u32,
+    values: &mut [i32],
+    limit: u32,
+    log: &mut [u32],
+) -> RunAnswer {
+    let answer = check::accepted(rules, book, script).and_then(|accepted| {
+        runner::refusals(rules, &accepted, reader, values, limit)?;
+        Ok(runner::run(rules, &accepted, reader, values, limit, log))
+    });
+    answer.unwrap_or_else(RunAnswer::refused)
+}
+
+/// Every pair (W, T) that Figure 5 derives for the script, subsumption
+/// included, in ascending order; none where refusals 1 to 10 apply.
+pub fn pairs(rules: Rules, book: &[u8], script: &[u8]) -> Option<Vec<(u32, u32)>> {
+    let (book, file) = check::well_formed(rules, book, script).ok()?;
+    Some(typing::pairs(&book, &file))
+}

@@ -1,0 +1,110 @@
+//! Faults that the tests plant: each is one blunder in one rule. The comparison
+//! must find every one of them.
+
+/// The rules to go by: the papers', or the papers' with one fault.
+#[derive(Clone, Copy, Debug, Default)]
+pub struct Rules {
+    pub fault: Option<Fault>,
+}
+
+impl Rules {
+    pub(crate) fn has(self, fault: Fault) -> bool {
+        self.fault == Some(fault)
+    }
+}
+
+/// Defines the faults, their list and what each says.
+macro_rules! faults {
+    ($($name:ident: $says:literal,)*) => {
+        #[derive(Clone, Copy, Debug, PartialEq, Eq)]
+        pub enum Fault {
+            $(#[doc = $says] $name,)*
+        }
+
+        impl Fault {
+            pub const ALL: &'static [Fault] = &[$(Fault::$name,)*];
+
+            /// The wrong rule, in a sentence.
+            pub fn says(self) -> &'static str {
+                match self {
+                    $(Fault::$name => $says,)*
+                }
+            }
+        }
+    };
+}
+
+faults! {
+    // Level book
+    OrderBothWays: "refusal 2 lets two levels hold both ways",
+    OrderNotTransitive: "refusal 2 asks for no transitivity",
+    OrderPlaceLargest: "refusal 2 gives the largest level at fault",
+    UpperLevelsOnly: "refusal 3 asks for least common upper levels only",
+    // Script file
+    EntriesCut: "refusal 4 lets offsets cut an entry",
+    NamesBelow64: "refusal 5 is given for 64 names",
+    OwnerOfAnotherName: "refusal 6 lets the owner declare another name",
+    ConstantFieldUnchecked: "refusal 7 lets field a of a constant hold anything",
+    ZeroByteUnchecked: "refusal 8 lets the zero byte of a node hold anything",
+    UnusedFieldUnchecked: "refusal 8 lets an unused field hold anything",
+    ChildMayBeParent: "refusal 8 lets a child have its parent's number",
+    DeclaresAnyName: "refusal 8 lets a node declare a name it doesn't own",
+    UnusedPartPasses: "refusal 9 lets a part be used by none",
+    LooseNodesFirst: "refusal 9 looks at nodes before expressions",
+    LetExpressionInside: "refusal 10 counts a let's expression as inside its body",
+    GuardIsNoUse: "refusal 10 doesn't count the signal of when and watching",
+    // Write level and test level
+    SecondOperandIgnored: "an expression's level leaves out its second operand",
+    NilWritesBottom: "nil's write level is bottom",
+    LetFlowUnchecked: "a let needs nothing",
+    IfJoinsWrites: "an if's write level is the join of its branches'",
+    WatchingFlowUnchecked: "watching needs nothing",
+    WhileAgainstConditionOnly: "a while is checked against D alone",
+    SequenceReversed: "a sequence needs T of b at or below W of a",
+    ParallelOneWay: "a parallel needs only T of a at or below W of b",
+    FlowPlaceLast: "refusal 11 gives the last node whose need fails",
+    // Expressions
+    SumWraps: "a sum wraps around",
+    ProductWraps: "a product wraps around",
+    DivisionRoundsDown: "division rounds down",
+    DivisionByZeroIsOne: "division by zero gives 1",
+    LessIsAtMost: "less holds for equal operands",
+    NotFlipsBits: "not flips the bits of its operand",
+    TestHoldsIfPositive: "a test holds if positive",
+    // Moves
+    NilDroppedAtOnce: "nil before a sequence takes no step",
+    WhileRunsOnce: "a while leaves its body without itself",
+    LocalNotReset: "a local signal is still present when its declaration is entered again",
+    WatchingKillsAtOnce: "watching goes as soon as its signal is present",
+    WhenTestsOnce: "a when goes once its body has begun to move",
+    TradesWithSuspended: "a parallel trades places though both parts are suspended",
+    NoTradeWithNil: "a parallel doesn't trade places when its right part is nil",
+    NilRightPartDropped: "a parallel drops a nil right part",
+    // Instant changes
+    InstantKeepsSignals: "an instant change keeps the signals",
+    WatchingKillsIfAbsent: "an instant change kills a watching whose signal is absent",
+    WatchingNeverKills: "an instant change kills no watching",
+    AbsentWhenChangesBody: "an instant change changes the body of a when whose signal is absent",
+    SequenceChangesBoth: "an instant change changes both parts of a sequence",
+    ParallelChangesLeftOnly: "an instant change changes the left part of a parallel only",
+    // Run: refusals
+    ReaderMayBeCount: "refusal 12 lets the reader's level be the number of levels",
+    ValuesLengthUnchecked: "refusal 13 doesn't look at the length",
+    ValuesPlaceFromOne: "refusal 13 counts entries from 1",
+    SignalMayBeTwo: "refusal 13 lets a signal be 2",
+    OwnedValueUnchecked: "refusal 13 lets an owned name have a value",
+    LimitBelowMillion: "refusal 14 is given for 1,000,000",
+    // Run: endings, lines and values
+    SpentBeforeFinished: "spent is tested before finished",
+    LogFullBeforeSpent: "log full is tested before spent",
+    LogFullEarly: "the log is full when exactly four words are left",
+    FullLogDropsLines: "a full log drops lines and doesn't end the run",
+    StepsFromZero: "lines are stamped with steps from 0",
+    InstantsFromOne: "lines are stamped with instants from 1",
+    LetWritesLine: "a let writes a line",
+    EveryLevelLogged: "every level is logged",
+    ReaderLevelOnly: "only names at exactly the reader's level are logged",
+    SealedWritesUseLog: "writes above the reader's level use up the log",
+    EmissionLogsName: "an emission's line has the name as its value",
+    OwnedNamesKept: "owned names keep their last value at the end",
+}
