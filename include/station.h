@@ -13,7 +13,7 @@
  *  - `out` must have exactly STATION_CHECK_WORDS or STATION_RUN_WORDS elements. With any other length the call does
  *    nothing at all: `out`, `values` and `log` stay as they were.
  *
- * THREADS AND INTERRUPTS. There is no static state and no lock: calls may run at the same time, in any thread, as long
+ * REENTRANCY. There is no static state and no lock: calls may run at the same time, in any thread, as long
  * as no buffer that one of them writes belongs to another call.
  *
  * WHAT IT NEEDS. memcpy and memset of the C library, and nothing else: no heap, no files, no clock.

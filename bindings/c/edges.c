@@ -129,7 +129,7 @@ static void log_lengths(void) {
         run(&b, 0, 1000, n, STATION_RUN_WORDS);
         holds = holds && same(&b, &expected);
     }
-    report("a log of 0 to 8 words: whole lines only, nothing beside the buffers", holds);
+    report("a log of 0 to 8 words: whole lines only, and nothing changes around the buffers", holds);
 }
 
 static void log_null(void) {

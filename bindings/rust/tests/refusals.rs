@@ -1,0 +1,149 @@
+//! docs/REFUSALS.md: every example is answered as the document says, and no refusal is left out.
+mod documents;
+
+use documents::{blocks, hex, Block};
+use station::{check, run, Reason, Refusal};
+
+/// What an example gives beside book and script if it calls run.
+#[derive(Clone)]
+struct Call {
+    reader: u32,
+    values: Vec<i32>,
+    limit: u32,
+}
+
+#[derive(Default)]
+struct Example {
+    book: Vec<u8>,
+    script: Vec<u8>,
+    call: Option<Call>,
+    answer: String,
+}
+
+fn number<T: std::str::FromStr>(text: &str) -> T {
+    text.parse().ok().expect("a number")
+}
+
+/// 'reader R, values V V V, limit L'
+fn call(text: &str) -> Call {
+    let part = |name: &str| {
+        let mut parts = text.split(", ");
+        parts
+            .find_map(|p| p.strip_prefix(name))
+            .expect("reader, values and limit")
+            .trim()
+    };
+    Call {
+        reader: number(part("reader")),
+        values: part("values").split_whitespace().map(number).collect(),
+        limit: number(part("limit")),
+    }
+}
+
+fn example(block: &Block) -> Example {
+    let mut example = Example::default();
+    for line in &block.lines {
+        let (line, _remark) = line.split_once('#').unwrap_or((line, ""));
+        let (word, rest) = line.trim().split_once(' ').expect("a word, then more");
+        match word {
+            "book" => example.book.extend(hex(rest)),
+            "script" => example.script.extend(hex(rest)),
+            "run" => example.call = Some(call(rest.trim())),
+            "refused" | "accepted" => example.answer = line.trim().to_string(),
+            other => panic!("no line of an example: {other}"),
+        }
+    }
+    example
+}
+
+fn examples() -> Vec<Example> {
+    let blocks = blocks("REFUSALS.md");
+    assert!(blocks.iter().all(|block| block.kind == "example"));
+    blocks.iter().map(example).collect()
+}
+
+/// The refusal of an example's call, or W and T.
+fn outcome(example: &Example) -> Result<(u32, u32), Refusal> {
+    if let Some(call) = &example.call {
+        let mut values = call.values.clone();
+        run(
+            &example.book,
+            &example.script,
+            call.reader,
+            &mut values,
+            call.limit,
+            &mut [0; 64],
+        )?;
+    }
+    let levels = check(&example.book, &example.script)?;
+    Ok((levels.write, levels.test))
+}
+
+fn answer(example: &Example) -> String {
+    match outcome(example) {
+        Ok((write, test)) => format!("accepted {write} {test}"),
+        Err(refusal) => format!("refused {} {}", refusal.reason.number(), refusal.place),
+    }
+}
+
+#[test]
+fn examples_are_answered_as_the_document_says() {
+    for example in examples() {
+        assert_eq!(
+            answer(&example),
+            example.answer,
+            "script {:02X?}",
+            example.script
+        );
+    }
+}
+
+#[test]
+fn every_refusal_has_an_example_in_order() {
+    // The first example is about the order of refusals and stands before its number.
+    let refusals = examples()
+        .into_iter()
+        .skip(1)
+        .filter_map(|e| outcome(&e).err());
+    let mut numbers: Vec<u32> = refusals.map(|refusal| refusal.reason.number()).collect();
+    numbers.dedup();
+    assert_eq!(numbers, (1..=14).collect::<Vec<u32>>());
+}
+
+#[test]
+fn a_refused_run_changes_neither_values_nor_log() {
+    for example in examples()
+        .iter()
+        .filter(|e| e.answer.starts_with("refused"))
+    {
+        let anything = Call {
+            reader: 0,
+            values: vec![3],
+            limit: 1000,
+        };
+        let call = example.call.clone().unwrap_or(anything);
+        let mut values = call.values.clone();
+        let mut log = [0xA5A5_A5A5; 9];
+        let refusal = run(
+            &example.book,
+            &example.script,
+            call.reader,
+            &mut values,
+            call.limit,
+            &mut log,
+        );
+        assert_eq!(refusal.err(), outcome(example).err());
+        assert_eq!(values, call.values);
+        assert_eq!(log, [0xA5A5_A5A5; 9]);
+    }
+}
+
+#[test]
+fn headings_have_the_names_of_the_reasons() {
+    let folder = std::path::Path::new(env!("CARGO_MANIFEST_DIR")).join("../../docs");
+    let text = std::fs::read_to_string(folder.join("REFUSALS.md")).expect("the document");
+    for number in 1..=14 {
+        let heading = format!("\n## {number} {}\n", Reason::from_number(number).name());
+        assert!(text.contains(&heading), "missing: {heading}");
+    }
+}
