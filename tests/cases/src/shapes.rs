@@ -141,7 +141,8 @@ pub fn largest(rng: &mut Rng, lattice: &Lattice, careless: usize) -> Script {
         level,
         owned: false,
     };
-    script.names.resize(MOST_NAMES - usize::from(short == 3), spare);
+    let names = MOST_NAMES - usize::from(short == 3);
+    script.names.resize(names.max(script.names.len()), spare);
     script
 }
 
