@@ -8,11 +8,12 @@ pub mod grow;
 pub mod order;
 mod rng;
 mod shapes;
+pub mod text;
 pub mod tree;
 
 use damage::{Draft, Sort};
 use file::{File, SESSION};
-use grow::Style;
+use grow::{Careless, Rule, Style};
 use order::Lattice;
 pub use rng::Rng;
 use tree::Script;
@@ -63,16 +64,12 @@ pub fn made(rng: &mut Rng) -> Made {
 
 /// A well-formed case that is likely to be accepted and to run over several instants.
 pub fn accepted_leaning(rng: &mut Rng) -> Case {
-    let lattice = loop {
-        let lattice = order::lattice(rng);
-        if lattice.count() > 1 {
-            break lattice;
-        }
-    };
+    let lattice = order::some_levels(rng);
     let style = Style {
         nodes: rng.between(8, 45),
         session_names: rng.between(3, 12),
-        careless: if rng.chance(1, 3) { rng.between(4, 40) } else { 0 },
+        mixed: true,
+        careless: if rng.chance(1, 2) { Some(careless(rng)) } else { None },
     };
     let script = grow::script(rng, &lattice, style);
     let mut draft = with_inputs(rng, lattice, script);
@@ -81,15 +78,24 @@ pub fn accepted_leaning(rng: &mut Rng) -> Case {
     draft.finish()
 }
 
+/// Carelessness about one rule.
+fn careless(rng: &mut Rng) -> Careless {
+    Careless {
+        rule: Rule::ALL[rng.below(Rule::ALL.len())],
+        one_in: rng.between(1, 3),
+    }
+}
+
 /// A well-formed case.
 fn draft(rng: &mut Rng) -> Draft {
     let lattice = order::lattice(rng);
     let shape = rng.below(100);
-    let careless = if rng.chance(1, 4) { rng.between(2, 30) } else { 0 };
+    let careless = if rng.chance(1, 3) { Some(careless(rng)) } else { None };
     let mut grown = |nodes: (usize, usize), session_names: (usize, usize)| {
         let style = Style {
             nodes: rng.between(nodes.0, nodes.1),
             session_names: rng.between(session_names.0, session_names.1),
+            mixed: careless.is_some() || rng.chance(1, 2),
             careless,
         };
         grow::script(rng, &lattice, style)

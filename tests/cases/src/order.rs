@@ -132,6 +132,19 @@ pub fn lattice(rng: &mut Rng) -> Lattice {
     Lattice::of(shape.renumbered(&rng.permutation(shape.count())))
 }
 
+/// A random lattice of two levels or more, mostly of few.
+pub fn some_levels(rng: &mut Rng) -> Lattice {
+    let shape = match rng.below(8) {
+        0..=2 => chain(2),
+        3 => chain(rng.between(3, 5)),
+        4 => powerset(2),
+        5 => side_by_side(3),
+        6 => pentagon(),
+        _ => powerset(rng.between(3, 4)),
+    };
+    Lattice::of(shape.renumbered(&rng.permutation(shape.count())))
+}
+
 pub fn chain(count: usize) -> Order {
     Order::new(count, |i, j| i <= j)
 }

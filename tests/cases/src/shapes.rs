@@ -1,7 +1,7 @@
 //! Scripts of special shapes: one node, deep chains, the largest file.
 
 use crate::file::{MOST_EXPRESSIONS, MOST_NAMES, MOST_NODES};
-use crate::grow::{self, Style};
+use crate::grow::{self, Careless, Style};
 use crate::order::Lattice;
 use crate::rng::Rng;
 use crate::tree::*;
@@ -125,10 +125,11 @@ fn chain_of_operators(rng: &mut Rng, form: usize, size: usize) -> Expression {
 }
 
 /// The largest file: 64 names, 256 expressions, 256 nodes; or one short of one of these.
-pub fn largest(rng: &mut Rng, lattice: &Lattice, careless: usize) -> Script {
+pub fn largest(rng: &mut Rng, lattice: &Lattice, careless: Option<Careless>) -> Script {
     let style = Style {
         nodes: MOST_NODES - 3,
         session_names: rng.between(4, 30),
+        mixed: rng.chance(1, 2),
         careless,
     };
     let mut script = grow::script(rng, lattice, style);

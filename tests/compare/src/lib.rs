@@ -2,8 +2,10 @@
 #![deny(unsafe_code)]
 
 pub mod coverage;
+pub mod demand_three;
 pub mod difference;
 pub mod engine;
+pub mod faults;
 pub mod guarded;
 pub mod outcome;
 mod raw;
