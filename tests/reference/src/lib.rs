@@ -4,14 +4,19 @@
 //! trees by the report's Figures 1 to 4, and derives the types of Figure 5 by
 //! brute force. A flag of the tests plants one fault in one of its rules.
 
+mod arguments;
 mod book;
 mod check;
 mod configuration;
+pub mod examples;
 mod fault;
 mod file;
 mod instant;
 mod levels;
+mod log;
 mod moves;
+#[cfg(test)]
+mod properties;
 mod reach;
 mod refusal;
 mod runner;
@@ -96,7 +101,7 @@ pub fn run(
     log: &mut [u32],
 ) -> RunAnswer {
     let answer = check::accepted(rules, book, script).and_then(|accepted| {
-        runner::refusals(rules, &accepted, reader, values, limit)?;
+        arguments::refusals(rules, &accepted, reader, values, limit)?;
         Ok(runner::run(rules, &accepted, reader, values, limit, log))
     });
     answer.unwrap_or_else(RunAnswer::refused)

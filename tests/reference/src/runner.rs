@@ -1,95 +1,18 @@
-//! Run (01, 'Calls'): refusals 12 to 14, the loop over the steps, and the log.
+//! Run (01, 'Calls'): the loop over the steps, endings, lines and values.
 
 use crate::book::{Book, Level};
 use crate::check::Accepted;
 use crate::configuration::{step, Configuration, Effect, Step, Typing};
 use crate::fault::{Fault, Rules};
-use crate::file::{File, NameEntry};
-use crate::refusal::{row, Refusal};
+use crate::file::NameEntry;
+use crate::log::Log;
 use crate::tree::Name;
 use crate::RunAnswer;
 
-const MOST_STEPS: u32 = 1_000_000;
-const LINE_WORDS: usize = 4;
-
+// 'Run returns how it ended.'
 const FINISHED: u32 = 0;
 const SPENT: u32 = 1;
 const LOG_FULL: u32 = 2;
-
-/// Rows 12 to 14.
-pub fn refusals(
-    rules: Rules,
-    accepted: &Accepted,
-    reader: u32,
-    values: &[i32],
-    limit: u32,
-) -> Result<(), Refusal> {
-    row(12, refusal_12(rules, &accepted.book, reader))?;
-    row(13, refusal_13(rules, &accepted.file, values))?;
-    row(14, refusal_14(rules, limit))
-}
-
-/// Row 12: 'level not in book', place 0.
-fn refusal_12(rules: Rules, book: &Book, reader: u32) -> Option<usize> {
-    let right = (reader as usize) < book.count()
-        || (reader as usize == book.count() && rules.has(Fault::ReaderMayBeCount));
-    (!right).then_some(0)
-}
-
-/// Row 13: 'length or an entry wrong', place '0 for length, which comes first;
-/// else first wrong entry'. 'One signed 32-bit number per name: signals 0 or 1,
-/// owned names 0.'
-fn refusal_13(rules: Rules, file: &File, values: &[i32]) -> Option<usize> {
-    if values.len() != file.names.len() && !rules.has(Fault::ValuesLengthUnchecked) {
-        return Some(0);
-    }
-    let mut entries = file.names.iter().zip(values);
-    let wrong = entries.position(|(name, &value)| !value_is_right(rules, name, value));
-    wrong.map(|x| x + usize::from(rules.has(Fault::ValuesPlaceFromOne)))
-}
-
-fn value_is_right(rules: Rules, name: &NameEntry, value: i32) -> bool {
-    if name.owner().is_some() {
-        return value == 0 || rules.has(Fault::OwnedValueUnchecked);
-    }
-    let two = value == 2 && rules.has(Fault::SignalMayBeTwo);
-    name.is_register() || value == 0 || value == 1 || two
-}
-
-/// Row 14: 'above 1,000,000', place 0.
-fn refusal_14(rules: Rules, limit: u32) -> Option<usize> {
-    let refused =
-        limit > MOST_STEPS || (limit == MOST_STEPS && rules.has(Fault::LimitBelowMillion));
-    refused.then_some(0)
-}
-
-/// 'Four words make a line: step from 1, instant from 0, name, value as two's
-/// complement (1 for an emission).'
-type Line = [u32; LINE_WORDS];
-
-struct Log<'a> {
-    words: &'a mut [u32],
-    lines: usize,
-    /// Lines that a planted fault counts and doesn't keep.
-    lost: usize,
-}
-
-impl Log<'_> {
-    /// 'No four words are left.'
-    fn is_full(&self, rules: Rules) -> bool {
-        let early = usize::from(rules.has(Fault::LogFullEarly));
-        let used = (self.lines + self.lost) * LINE_WORDS;
-        self.words.len() < used + LINE_WORDS + early
-    }
-
-    fn write(&mut self, line: Line) {
-        let start = self.lines * LINE_WORDS;
-        if let Some(words) = self.words.get_mut(start..start + LINE_WORDS) {
-            words.copy_from_slice(&line);
-            self.lines += 1;
-        }
-    }
-}
 
 /// A run under way: the configuration, and the steps and instants so far.
 struct Run<'a> {
@@ -110,10 +33,9 @@ pub fn run(
     reader: u32,
     values: &mut [i32],
     limit: u32,
-    words: &mut [u32],
+    log: &mut [u32],
 ) -> RunAnswer {
-    let (lines, lost) = (0, 0);
-    let mut log = Log { words, lines, lost };
+    let mut log = Log::new(log);
     let mut run = Run {
         rules,
         book: &accepted.book,
@@ -133,7 +55,7 @@ pub fn run(
         ending,
         steps: run.steps,
         instants: run.instants,
-        lines: log.lines as u32,
+        lines: log.lines() as u32,
     }
 }
 
@@ -210,7 +132,7 @@ impl Run<'_> {
             return;
         };
         if !self.is_visible(typing) {
-            log.lost += usize::from(self.rules.has(Fault::SealedWritesUseLog));
+            log.skip(self.rules);
             return;
         }
         let first_step = u32::from(!self.rules.has(Fault::StepsFromZero));
@@ -233,8 +155,9 @@ impl Run<'_> {
         if name.owner().is_none() {
             return value(x);
         }
-        let newest = configuration.newest_made_for(x);
-        let kept = newest.filter(|_| self.rules.has(Fault::OwnedNamesKept));
-        kept.map_or(0, value)
+        if !self.rules.has(Fault::OwnedNamesKept) {
+            return 0;
+        }
+        configuration.newest_made_for(x).map_or(0, value)
     }
 }

@@ -35,10 +35,20 @@ pub fn pairs(book: &Book, file: &File) -> Vec<(u32, u32)> {
         let level = name.level as Level;
         name.owner().is_none().then_some(level)
     });
-    let rules = Derivation { book };
     let script = Process::of(file, file.script());
-    let types = rules.process(&mut session.collect(), &script);
+    derived(book, session.collect(), &script)
+}
+
+fn derived(book: &Book, mut gamma: Environment, process: &Process) -> Vec<(u32, u32)> {
+    let types = Derivation { book }.process(&mut gamma, process);
     types.iter().map(|(t, s)| (t as u32, s as u32)).collect()
+}
+
+/// Every pair (θ, σ) derivable for the configuration's P in its Γ.
+#[cfg(test)]
+pub fn types_of(book: &Book, c: &crate::configuration::Configuration) -> Vec<(u32, u32)> {
+    let levels = c.types.iter().map(|typing| typing.map(|t| t.level));
+    derived(book, levels.collect(), &c.process)
 }
 
 /// The rules of Figure 5 over the levels of a book.

@@ -1,0 +1,206 @@
+//! Small programs for single sentences of 01: values, levels and steps. Answers
+//! and steps were worked out by hand from the sentence that each one names.
+
+use super::script::*;
+use super::{finished, log_full, spent, three_signals, Example, H, L};
+
+const VALUES: &str = "01, 'Script file': values";
+const LEVELS: &str = "01, 'Write level and test level'";
+const STEPS: &str = "01, 'Steps'";
+const CALLS: &str = "01, 'Calls'";
+
+pub fn all() -> Vec<Example> {
+    let groups = [
+        values(),
+        tests(),
+        needs(),
+        watching_changes(),
+        when_changes(),
+        sequence_changes(),
+        emissions(),
+    ];
+    groups.into_iter().flatten().collect()
+}
+
+/// x := e, for a low register x.
+fn assignment(name: &'static str, e: Expression, value: i32) -> Example {
+    let mut n = Names::new();
+    let x = n.register(L);
+    let example = Example::script(name, VALUES, n, assign(x, e)).accepted(0, 0);
+    let line = [1, 0, 0, value as u32];
+    example.run((&[0], 1), finished(1, 0), &[line], &[value])
+}
+
+/// 'Results are exact, then clamped. Division goes toward zero. Less, equal and
+/// not give 1 or 0.'
+fn values() -> Vec<Example> {
+    let (max, min) = (2147483647, -2147483648);
+    let c = constant;
+    vec![
+        assignment("65536 * 65536", multiply(c(65536), c(65536)), max),
+        assignment("65536 * -65536", multiply(c(65536), c(-65536)), min),
+        assignment("-2147483648 - 1", subtract(c(min), c(1)), min),
+        assignment("-2147483648 * -1", multiply(c(min), c(-1)), max),
+        assignment("7 / -2", divide(c(7), c(-2)), -3),
+        assignment("-7 / -2", divide(c(-7), c(-2)), 3),
+        assignment("-2147483648 / 0", divide(c(min), c(0)), 0),
+        assignment("-1 < 0", less(c(-1), c(0)), 1),
+        assignment("0 < 0", less(c(0), c(0)), 0),
+        assignment("0 = 0", equal(c(0), c(0)), 1),
+        assignment("not -5", not(c(-5)), 0),
+        assignment("not 0", not(c(0)), 1),
+        // Clamped before the next operation sees it.
+        assignment("(max + 1) - 1", subtract(add(c(max), c(1)), c(1)), max - 1),
+    ]
+}
+
+/// 'A test holds if nonzero.'
+fn tests() -> Vec<Example> {
+    let choice = |name, value, chosen: u32| {
+        let mut n = Names::new();
+        let x = n.register(L);
+        let branch = |value| assign(x, constant(value));
+        let process = if_else(constant(value), branch(1), branch(2));
+        Example::script(name, VALUES, n, process)
+            .accepted(0, 0)
+            .run(
+                (&[0], 9),
+                finished(2, 0),
+                &[[2, 0, 0, chosen]],
+                &[chosen as i32],
+            )
+    };
+    vec![
+        choice("if 2 then x := 1 else x := 2", 2, 1),
+        choice("if -1 then x := 1 else x := 2", -1, 1),
+        choice("if 0 then x := 1 else x := 2", 0, 2),
+    ]
+}
+
+/// The needs of assign, let, watching and parallel.
+fn needs() -> Vec<Example> {
+    let mut n = Names::new();
+    let (x, y, a, b) = (n.register(H), n.register(L), n.signal(H), n.signal(L));
+    let u = n.register(L);
+    let sum = add(constant(0), read(x));
+    let high_test = || when(a, nil());
+    vec![
+        Example::script("y_L := 0 + x_H", LEVELS, n.clone(), assign(y, sum)).refused(11, 0),
+        Example::script(
+            "let u_L = x_H in nil",
+            LEVELS,
+            n.clone(),
+            let_in(u, read(x), nil()),
+        )
+        .refused(11, 1),
+        Example::script(
+            "(emit b_L) watching a_H",
+            LEVELS,
+            n.clone(),
+            watching(emit(b), a),
+        )
+        .refused(11, 1),
+        Example::script(
+            "(when a_H do nil) parallel emit b_L",
+            LEVELS,
+            n.clone(),
+            par(high_test(), emit(b)),
+        )
+        .refused(11, 3),
+        Example::script(
+            "emit b_L; (when a_H do nil)",
+            LEVELS,
+            n,
+            seq(emit(b), high_test()),
+        )
+        .accepted(0, 1),
+    ]
+}
+
+/// 'Watching becomes nil if its signal was present, else its body changes.'
+fn watching_changes() -> Vec<Example> {
+    let (n, a, b, c) = three_signals();
+    let inner = || watching(when(c, nil()), b);
+    vec![
+        // Neither present: it waits. Only b: instant change, then watching goes.
+        Example::script(
+            "do (do (when c do nil) watching b) watching a",
+            STEPS,
+            n.clone(),
+            watching(inner(), a),
+        )
+        .accepted(1, 0)
+        .run((&[0, 0, 0], 3), spent(3, 3), &[], &[0, 0, 0])
+        .run((&[0, 1, 0], 9), finished(2, 1), &[], &[0, 0, 0])
+        .run((&[1, 0, 0], 9), finished(1, 1), &[], &[0, 0, 0]),
+        // The signal is present while the body moves: it isn't killed before the
+        // instant changes. Emit, then watching goes.
+        Example::script("do emit b watching a", STEPS, n, watching(emit(b), a))
+            .accepted(0, 0)
+            .run((&[1, 0, 0], 9), finished(2, 0), &[[1, 0, 1, 1]], &[1, 1, 0]),
+    ]
+}
+
+/// 'When changes its body only if its signal was present.' The first instant
+/// changes with a present and b absent, so that the left part keeps its body and
+/// later waits in it. Emit a, drop, instant change, trade, drop, emit b, drop,
+/// instant changes.
+fn when_changes() -> Vec<Example> {
+    let (n, a, b, c) = three_signals();
+    let abort = || watching(when(c, nil()), a);
+    let threads = par(when(b, abort()), seq(abort(), emit(b)));
+    vec![Example::script(
+        "emit a; ((when b do (do (when c do nil) watching a)) par \
+         ((do (when c do nil) watching a); emit b))",
+        STEPS,
+        n,
+        seq(emit(a), threads),
+    )
+    .accepted(0, 0)
+    .run(
+        (&[0, 0, 0], 10),
+        spent(10, 4),
+        &[[1, 0, 0, 1], [6, 1, 1, 1]],
+        &[0, 0, 0],
+    )]
+}
+
+/// 'A sequence changes its first part.' The second part is not yet begun when a
+/// is present: instant change, drop, then it waits.
+fn sequence_changes() -> Vec<Example> {
+    let (n, a, _, c) = three_signals();
+    let abort = || watching(when(c, nil()), a);
+    vec![Example::script(
+        "(do (when c do nil) watching a); (do (when c do nil) watching a)",
+        STEPS,
+        n,
+        seq(abort(), abort()),
+    )
+    .accepted(1, 0)
+    .run((&[1, 0, 0], 5), spent(5, 4), &[], &[0, 0, 0])]
+}
+
+/// An emission of a signal that is present writes a line like any other; so does
+/// one of an owned signal. 'Log full if this step needs a line and no four words
+/// are left': a step that needs none goes on.
+fn emissions() -> Vec<Example> {
+    let mut n = Names::new();
+    let (a, b) = (n.signal(L), n.signal(L));
+    let process = local(b, seq(emit(a), seq(emit(b), emit(a))));
+    vec![
+        Example::script("local b in (emit a; (emit b; emit a))", CALLS, n, process)
+            .accepted(0, 0)
+            .run(
+                (&[1, 0], 99),
+                finished(6, 0),
+                &[[2, 0, 0, 1], [4, 0, 1, 1], [6, 0, 0, 1]],
+                &[1, 0],
+            )
+            .run_with(
+                (0, &[1, 0], 99, 11),
+                log_full(5, 0),
+                &[[2, 0, 0, 1], [4, 0, 1, 1]],
+                &[1, 0],
+            ),
+    ]
+}

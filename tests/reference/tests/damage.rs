@@ -1,0 +1,74 @@
+//! No bytes and no fault make the interpreter panic or run on for ever.
+
+use reference::examples::{all, Example};
+use reference::{check, pairs, run, Fault, Rules};
+
+/// A small generator (splitmix64).
+struct Random(u64);
+
+impl Random {
+    fn next(&mut self) -> u64 {
+        self.0 = self.0.wrapping_add(0x9E37_79B9_7F4A_7C15);
+        let mut z = self.0;
+        z = (z ^ (z >> 30)).wrapping_mul(0xBF58_476D_1CE4_E5B9);
+        z = (z ^ (z >> 27)).wrapping_mul(0x94D0_49BB_1331_11EB);
+        z ^ (z >> 31)
+    }
+
+    fn below(&mut self, n: usize) -> usize {
+        (self.next() % n as u64) as usize
+    }
+}
+
+/// Small numbers are likelier to mean something than others.
+fn damage(random: &mut Random, bytes: &mut [u8]) {
+    if bytes.is_empty() {
+        return;
+    }
+    let at = random.below(bytes.len());
+    bytes[at] = match random.below(3) {
+        0 => random.next() as u8,
+        _ => random.below(12) as u8,
+    };
+}
+
+fn call(rules: Rules, book: &[u8], script: &[u8], values: &[i32]) {
+    check(rules, book, script);
+    pairs(rules, book, script);
+    let (mut values, mut log) = (values.to_vec(), [0; 20]);
+    run(rules, book, script, 1, &mut values, 40, &mut log);
+}
+
+fn damaged_call(random: &mut Random, rules: Rules, example: &Example) {
+    let (mut book, mut script) = (example.book.clone(), example.script.clone());
+    match random.below(4) {
+        0 => damage(random, &mut book),
+        1 => script.truncate(random.below(script.len() + 1)),
+        _ => damage(random, &mut script),
+    }
+    let values = example.runs.last().map_or(&[][..], |run| &run.values);
+    call(rules, &book, &script, values);
+}
+
+#[test]
+fn damaged_files_are_answered() {
+    let mut random = Random(1);
+    let faults = Fault::ALL.iter().map(|&fault| Some(fault));
+    let examples = all();
+    for fault in faults.chain([None]) {
+        for example in &examples {
+            damaged_call(&mut random, Rules { fault }, example);
+        }
+    }
+}
+
+#[test]
+fn random_bytes_are_answered() {
+    let mut random = Random(2);
+    for length in (0..80).cycle().take(4000) {
+        let bytes: Vec<u8> = (0..length).map(|_| random.below(9) as u8).collect();
+        let book = &bytes[..random.below(length + 1)];
+        call(Rules::default(), book, &bytes, &[]);
+        call(Rules::default(), &[2, 0, 3, 0, 2], &bytes, &[]);
+    }
+}

@@ -1,0 +1,37 @@
+//! The planted faults: each changes an answer on some example of the papers.
+
+use reference::examples::{all, Example, ExampleRun};
+use reference::{check, run, Fault, Rules};
+
+fn run_changes(rules: Rules, example: &Example, expected: &ExampleRun) -> bool {
+    let mut values = expected.values.clone();
+    let mut log = vec![0; expected.log];
+    let answer = run(
+        rules,
+        &example.book,
+        &example.script,
+        expected.reader,
+        &mut values,
+        expected.limit,
+        &mut log,
+    );
+    let mut words = expected.lines.concat();
+    words.resize(expected.log, 0);
+    answer != expected.answer || values != expected.values_after || log != words
+}
+
+fn changes(rules: Rules, example: &Example) -> bool {
+    let answer = check(rules, &example.book, &example.script);
+    let runs = &example.runs;
+    answer != example.expected_check || runs.iter().any(|r| run_changes(rules, example, r))
+}
+
+#[test]
+fn every_fault_is_found() {
+    let examples = all();
+    for &fault in Fault::ALL {
+        let rules = Rules { fault: Some(fault) };
+        let found = examples.iter().any(|example| changes(rules, example));
+        assert!(found, "no example finds that {}", fault.says());
+    }
+}
