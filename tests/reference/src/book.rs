@@ -87,7 +87,7 @@ fn refusal_1(bytes: &[u8]) -> Option<usize> {
 fn refusal_2(rules: Rules, order: &Order) -> Option<usize> {
     let mut found = order.levels().filter(|&i| order.breaks_the_order(rules, i));
     if rules.has(Fault::OrderPlaceLargest) {
-        return found.last();
+        return found.next_back();
     }
     found.next()
 }

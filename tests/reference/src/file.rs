@@ -7,6 +7,9 @@ const NAME_BYTES: usize = 4;
 const PART_BYTES: usize = 8;
 const TAIL_BYTES: usize = 8;
 const MARK: u16 = 0x5354;
+const MOST_NAMES: usize = 64;
+const MOST_EXPRESSIONS: usize = 256;
+const MOST_NODES: usize = 256;
 /// The owner of a session name.
 const SESSION: u16 = 65535;
 
@@ -131,22 +134,18 @@ fn tail(rules: Rules, bytes: &[u8]) -> Option<Tail> {
 
 /// 'The lists hold whole entries and touch each other.'
 fn whole_entries(tail: &Tail) -> bool {
-    tail.expressions % NAME_BYTES == 0
-        && (tail.nodes - tail.expressions) % PART_BYTES == 0
-        && (tail.tail - tail.nodes) % PART_BYTES == 0
+    tail.expressions.is_multiple_of(NAME_BYTES)
+        && (tail.nodes - tail.expressions).is_multiple_of(PART_BYTES)
+        && (tail.tail - tail.nodes).is_multiple_of(PART_BYTES)
 }
 
 /// Row 5: 'a count outside its limits', place 0. 'At most 64 names, 256
 /// expressions, 256 nodes; at least one node.'
 fn refusal_5(rules: Rules, file: &File) -> Option<usize> {
-    let most_names = if rules.has(Fault::NamesBelow64) {
-        63
-    } else {
-        64
-    };
+    let most_names = MOST_NAMES - usize::from(rules.has(Fault::NamesBelow64));
     let right = file.names.len() <= most_names
-        && file.expressions.len() <= 256
-        && (1..=256).contains(&file.nodes.len());
+        && file.expressions.len() <= MOST_EXPRESSIONS
+        && (1..=MOST_NODES).contains(&file.nodes.len());
     (!right).then_some(0)
 }
 

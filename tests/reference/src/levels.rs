@@ -53,21 +53,11 @@ pub fn levels(rules: Rules, book: &Book, file: &File) -> Result<Levels, usize> {
 fn expression_levels(rules: Rules, book: &Book, file: &File) -> Vec<Level> {
     let mut levels = vec![book.bottom(); file.expressions.len()];
     for (e, entry) in file.expressions.iter().enumerate() {
-        let operands = entry.operands();
-        let counted = if rules.has(Fault::SecondOperandIgnored) {
-            1
-        } else {
-            2
-        };
-        let of_operands = operands
-            .into_iter()
-            .take(counted)
-            .flatten()
-            .map(|o| levels[o]);
-        let of_register = entry.register().map(|x| file.names[x].level as Level);
-        levels[e] = of_operands
-            .chain(of_register)
-            .fold(book.bottom(), |joined, level| book.join(joined, level));
+        let counted = 2 - usize::from(rules.has(Fault::SecondOperandIgnored));
+        let operands = entry.operands().into_iter().take(counted).flatten();
+        let register = entry.register().map(|x| file.names[x].level as Level);
+        let parts = operands.map(|o| levels[o]).chain(register);
+        levels[e] = parts.fold(book.bottom(), |joined, level| book.join(joined, level));
     }
     levels
 }
@@ -105,12 +95,10 @@ impl Context<'_> {
 
     /// 'nil: W top, T bottom.'
     fn nil(&self) -> Levels {
-        let bottom = self.rules.has(Fault::NilWritesBottom);
-        self.writes(if bottom {
-            self.book.bottom()
-        } else {
-            self.book.top()
-        })
+        if self.rules.has(Fault::NilWritesBottom) {
+            return self.writes(self.book.bottom());
+        }
+        self.writes(self.book.top())
     }
 
     /// 'Assign, emit: W the name's level, T bottom.'
@@ -157,10 +145,9 @@ impl Context<'_> {
     fn while_do(&self, node: &NodeEntry, body: Levels) -> (Levels, bool) {
         let tested = self.tested(node);
         let levels = self.tests(body, tested);
-        let needed = if self.rules.has(Fault::WhileAgainstConditionOnly) {
-            tested
-        } else {
-            levels.test
+        let needed = match self.rules.has(Fault::WhileAgainstConditionOnly) {
+            true => tested,
+            false => levels.test,
         };
         (levels, self.book.at_or_below(needed, levels.write))
     }

@@ -4,6 +4,8 @@
 //! trees by the report's Figures 1 to 4, and derives the types of Figure 5 by
 //! brute force. A flag of the tests plants one fault in one of its rules.
 
+#![forbid(unsafe_code)]
+
 mod arguments;
 mod book;
 mod check;

@@ -45,7 +45,7 @@ pub fn run(
         steps: 0,
         instants: 0,
     };
-    let ending = run.to_the_end(&mut log);
+    let ending = run.take_steps(&mut log);
     for (x, (name, value)) in accepted.file.names.iter().zip(values).enumerate() {
         *value = run.value_at_end(x, name);
     }
@@ -61,7 +61,7 @@ pub fn run(
 
 impl Run<'_> {
     /// Takes steps until the run ends; returns how it ended.
-    fn to_the_end(&mut self, log: &mut Log) -> u32 {
+    fn take_steps(&mut self, log: &mut Log) -> u32 {
         loop {
             let next = step(self.rules, &self.configuration);
             if let Some(ending) = self.ending(next.as_ref(), log) {

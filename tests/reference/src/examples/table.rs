@@ -52,6 +52,8 @@ fn books() -> Vec<Example> {
         book("a book with a byte too many", &[1, 0, 1, 0]).refused(1, 0),
         book("a level without its own bit", &[2, 0, 3, 0, 0]).refused(2, 1),
         book("a bit at n", &[2, 0, 1, 0, 6]).refused(2, 1),
+        // 2 is no level: 0 at or below 1, with 1's bit 2 set, is no gap of 0.
+        book("a bit at n above", &[2, 0, 3, 0, 6]).refused(2, 1),
         book("two levels both ways", &[2, 0, 3, 0, 3]).refused(2, 0),
         book("not transitive", &[3, 0, 3, 0, 6, 0, 4]).refused(2, 0),
         book("no common upper", &[3, 0, 7, 0, 2, 0, 4]).refused(3, 18),
