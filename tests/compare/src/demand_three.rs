@@ -26,8 +26,11 @@ pub struct Tally {
 const USUAL: u64 = 20_000;
 
 impl Tally {
+    /// How many counts have a floor.
+    pub const FLOORS: usize = 7;
+
     /// Each count with its name and its floor.
-    fn rows(&self) -> [(&'static str, u64, u64); 7] {
+    fn rows(&self) -> [(&'static str, u64, u64); Tally::FLOORS] {
         [
             ("pairs with lines in the record", self.with_lines, 4000),
             ("pairs that start differently", self.starts_differ, 8000),

@@ -2,7 +2,8 @@
 
 use crate::engine::Engine;
 use crate::outcome::{outcome, Outcome};
-use cases::Case;
+use cases::file::File;
+use cases::{text, Case};
 use std::fmt;
 
 /// What was seen, for which case, under which seed.
@@ -39,12 +40,21 @@ fn hex(bytes: &[u8]) -> String {
     bytes.iter().map(|byte| format!("{byte:02x}")).collect()
 }
 
+/// A case as hexadecimal bytes and numbers, and its script as text where it can be read.
+pub fn show(case: &Case) -> String {
+    let Case { book, script, reader, values, limit, log } = case;
+    let text = File::read(script).map_or("unreadable".into(), |file| text::show(&file));
+    format!(
+        "  book       {}\n  script     {}\n  reads      {text}\n  reader {reader}, values {values:?}, \
+         limit {limit}, log of {log} words",
+        hex(book),
+        hex(script)
+    )
+}
+
 impl fmt::Display for Difference {
     fn fmt(&self, out: &mut fmt::Formatter) -> fmt::Result {
-        let Case { book, script, reader, values, limit, log } = &self.case;
-        writeln!(out, "difference, case seed {}: {}", self.seed, self.says)?;
-        writeln!(out, "  book       {}", hex(book))?;
-        writeln!(out, "  script     {}", hex(script))?;
-        write!(out, "  reader {reader}, values {values:?}, limit {limit}, log of {log} words")
+        let Difference { seed, case, says } = self;
+        write!(out, "difference, case seed {seed}: {says}\n{}", show(case))
     }
 }

@@ -1,7 +1,7 @@
 //! The comparison: the library against the reference on seeded cases.
 
 use crate::coverage::Coverage;
-use crate::difference::{compare, Difference};
+use crate::difference::{compare, show, Difference};
 use crate::engine::{Engine, Raw, Reference, Wrapper};
 use crate::outcome::{wrong_out, Outcome};
 use crate::shrink::shrink;
@@ -54,6 +54,11 @@ pub fn one(seed: u64, coverage: &mut Coverage) -> Result<(), Difference> {
     }
     coverage.record(&made, &outcome);
     near(seed, &made, &outcome, &mut rng, coverage)
+}
+
+/// The case of a seed as text.
+pub fn describe(seed: u64) -> String {
+    show(&cases::case(&mut Rng::new(seed)))
 }
 
 /// Library and reference agree on a case, or the difference, shrunk.

@@ -19,10 +19,11 @@ enum Form {
     PauseThen,
     Handshake,
     CutOff,
+    HeldBack,
 }
 
 /// Each form with its least size and its weight.
-const FORMS: [(Form, usize, usize); 12] = [
+const FORMS: [(Form, usize, usize); 13] = [
     (Form::Sequence, 3, 20),
     (Form::Parallel, 3, 14),
     (Form::Conditional, 3, 11),
@@ -35,6 +36,7 @@ const FORMS: [(Form, usize, usize); 12] = [
     (Form::PauseThen, 9, 8),
     (Form::Handshake, 7, 8),
     (Form::CutOff, 7, 8),
+    (Form::HeldBack, 18, 8),
 ];
 
 /// A form of at most `size` nodes, by weight.
@@ -62,6 +64,9 @@ impl Grower<'_> {
         if !self.has_expressions() {
             return self.without_expressions(bounds, size);
         }
+        if let Some(leak) = self.leak(bounds, size) {
+            return leak;
+        }
         match choose_form(self.rng, size) {
             Form::Sequence => self.in_sequence(bounds, size),
             Form::Parallel => self.in_parallel(bounds, size),
@@ -75,6 +80,7 @@ impl Grower<'_> {
             Form::PauseThen => self.pause_then(bounds, size),
             Form::Handshake => self.handshake(bounds, size),
             Form::CutOff => self.cut_off(bounds, size),
+            Form::HeldBack => self.held_back(bounds, size),
         }
     }
 

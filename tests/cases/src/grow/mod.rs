@@ -7,6 +7,7 @@
 mod bounds;
 mod expression;
 mod forms;
+mod leaks;
 mod motifs;
 
 use crate::file::{MOST_EXPRESSIONS, MOST_NAMES};
@@ -62,9 +63,10 @@ pub fn script(rng: &mut Rng, lattice: &Lattice, style: Style) -> Script {
         write: lattice.bottom,
         test: lattice.top,
     };
-    let root = match grower.rng.chance(1, 3) {
-        true => grower.with_clock(free, style.nodes),
-        false => grower.process(free, style.nodes),
+    let root = match grower.rng.below(6) {
+        0 | 1 => grower.with_clock(free, style.nodes),
+        2 => grower.in_two_phases(free, style.nodes),
+        _ => grower.process(free, style.nodes),
     };
     Script {
         names: grower.names,

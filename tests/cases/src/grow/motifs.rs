@@ -33,7 +33,7 @@ impl Grower<'_> {
     }
 
     /// `let c = rounds in while c do (body; c := c - 1)`, or with the count before the body.
-    fn count_down(&mut self, counter: usize, rounds: usize, first: bool, body: Process) -> Process {
+    pub fn count_down(&mut self, counter: usize, rounds: usize, first: bool, body: Process) -> Process {
         self.expressions = self.expressions.saturating_sub(7);
         let less = binary(SUBTRACT, Expression::Register(counter), Expression::Constant(1));
         let count = Process::Assign(counter, less);
@@ -57,20 +57,28 @@ impl Grower<'_> {
         }
     }
 
+    /// The report's `pause` with fresh signals of a level; seven nodes.
+    pub fn pause_at(&mut self, level: usize) -> Option<Process> {
+        let (never, now) = self.two_signals(level)?;
+        Some(local(never, local(now, pause(never, now))))
+    }
+
     /// The report's `pause` with fresh signals, and a process after it; nine nodes or more.
     pub fn pause_then(&mut self, bounds: Bounds, size: usize) -> Process {
-        let Some(level) = self.middle(bounds) else {
+        // The lowest level leaves what follows the most freedom.
+        let lowest = self.rng.chance(2, 3);
+        let Some(level) = self.middle(bounds).map(|level| if lowest { bounds.write } else { level })
+        else {
             return self.in_sequence(bounds, size);
         };
         let Some((never, now)) = self.two_signals(level) else {
             return self.in_sequence(bounds, size);
         };
-        let wait = sequence(Process::Emit(now), watching(now, when(never, Process::Nil)));
         let after = self.writes_at_least(bounds, level);
         let rest = self.process(after, size.saturating_sub(8));
         match self.rng.chance(1, 2) {
-            true => sequence(local(never, local(now, wait)), rest),
-            false => local(now, local(never, sequence(wait, rest))),
+            true => sequence(local(never, local(now, pause(never, now))), rest),
+            false => local(now, local(never, sequence(pause(never, now), rest))),
         }
     }
 
@@ -104,14 +112,50 @@ impl Grower<'_> {
         let (Some(kill), Some(never)) = (signal(self), signal(self)) else {
             return self.handshake(bounds, size);
         };
-        let within = Bounds::exactly(level);
-        let (before, after) = self.split(size - 4);
-        let waits = when(never, self.process(within, after));
+        let (first, second) = self.split(size - 4);
         let body = match self.rng.chance(1, 2) {
-            true => sequence(self.process(within, before), waits),
-            false => parallel(waits, self.process(within, before)),
+            true => {
+                let (before, after) = self.before_and_after(Bounds { write: level, ..bounds });
+                let after = self.writes_at_least(after, level);
+                sequence(self.process(before, first), when(never, self.process(after, second)))
+            }
+            false => {
+                let within = Bounds::exactly(level);
+                parallel(when(never, self.process(within, second)), self.process(within, first))
+            }
         };
         sequence(Process::Emit(kill), watching(kill, body))
+    }
+
+    /// `(when a do do P watching b) || (emit b; pause; emit a; Q)`: the when keeps an instant change from its
+    /// body, until a later instant. Eighteen nodes or more.
+    pub fn held_back(&mut self, bounds: Bounds, size: usize) -> Process {
+        let Some(level) = self.middle(bounds) else {
+            return self.in_parallel(bounds, size);
+        };
+        let (Some((a, b)), Some(pause)) = (self.two_signals(level), self.pause_at(level)) else {
+            return self.in_parallel(bounds, size);
+        };
+        let within = Bounds::exactly(level);
+        let (first, second) = self.split(size - 15);
+        let waits = when(a, watching(b, when(a, self.process(within, first))));
+        let later = sequence(pause, sequence(Process::Emit(a), self.process(within, second)));
+        let sends = sequence(Process::Emit(b), later);
+        let threads = match self.rng.chance(1, 2) {
+            true => parallel(waits, sends),
+            false => parallel(sends, waits),
+        };
+        local(a, local(b, threads))
+    }
+
+    /// First a process that tests nothing sealed, then one that writes nothing below some level and may test
+    /// anything.
+    pub fn in_two_phases(&mut self, bounds: Bounds, size: usize) -> Process {
+        let level = self.some_level();
+        let before = self.tests_at_most(bounds, self.lattice.bottom);
+        let after = self.writes_at_least(bounds, level);
+        let first = self.process(before, size / 3);
+        sequence(first, self.process(after, size - size / 3 - 1))
     }
 
     /// A process beside a thread that emits signals in each of a few instants, so that what waits goes
@@ -129,13 +173,12 @@ impl Grower<'_> {
             return self.process(bounds, size);
         };
         self.scope.pop();
-        let pause = sequence(Process::Emit(now), watching(now, when(never, Process::Nil)));
         let emits = match self.rng.chance(1, 2) {
             true => Process::Emit(tick),
             false => sequence(Process::Emit(tick), Process::Emit(tock)),
         };
         let rounds = self.rng.between(2, 6);
-        let clock = self.count_down(counter, rounds, true, sequence(emits, pause));
+        let clock = self.count_down(counter, rounds, true, sequence(emits, pause(never, now)));
         let clock = local(never, local(now, clock));
         let process = self.process(Bounds::exactly(level), size - 17);
         match self.rng.chance(1, 2) {
@@ -143,4 +186,9 @@ impl Grower<'_> {
             false => parallel(clock, process),
         }
     }
+}
+
+/// `emit now; do (when never do nil) watching now`: waits for the next instant.
+fn pause(never: usize, now: usize) -> Process {
+    sequence(Process::Emit(now), watching(now, when(never, Process::Nil)))
 }
