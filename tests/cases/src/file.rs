@@ -53,8 +53,11 @@ impl Entry {
     }
 
     fn bytes(&self) -> [u8; 8] {
-        let ([a, b], [c, d], [e, f]) =
-            (self.a.to_be_bytes(), self.b.to_be_bytes(), self.c.to_be_bytes());
+        let ([a, b], [c, d], [e, f]) = (
+            self.a.to_be_bytes(),
+            self.b.to_be_bytes(),
+            self.c.to_be_bytes(),
+        );
         [self.kind, self.zero, a, b, c, d, e, f]
     }
 
@@ -178,7 +181,10 @@ impl<'t, T> Parts<'t, T> {
         let place = self.trees.len();
         self.trees.push(tree);
         self.children.push(vec![]);
-        let children = children_of(tree).into_iter().map(|child| self.add(child, children_of)).collect();
+        let children = children_of(tree)
+            .into_iter()
+            .map(|child| self.add(child, children_of))
+            .collect();
         self.children[place] = children;
         place
     }
@@ -190,7 +196,11 @@ impl<'t, T> Parts<'t, T> {
         let mut numbers = vec![0; self.trees.len()];
         let mut open = roots;
         for number in (0..self.trees.len()).rev() {
-            let chosen = if interleaved { rng.below(open.len()) } else { open.len() - 1 };
+            let chosen = if interleaved {
+                rng.below(open.len())
+            } else {
+                open.len() - 1
+            };
             let part = open.swap_remove(chosen);
             numbers[part] = number;
             open.extend(&self.children[part]);
@@ -261,12 +271,7 @@ fn write_expressions(file: &mut File, parts: &Parts<Expression>, numbers: &Numbe
 }
 
 /// Writes the nodes, and into each declared name its owner.
-fn write_nodes(
-    file: &mut File,
-    parts: &Parts<Process>,
-    own: &[Option<usize>],
-    numbers: &Numbers,
-) {
+fn write_nodes(file: &mut File, parts: &Parts<Process>, own: &[Option<usize>], numbers: &Numbers) {
     for (place, process) in parts.trees.iter().enumerate() {
         let number = numbers.nodes[place];
         let child = |&child: &usize| numbers.nodes[child];

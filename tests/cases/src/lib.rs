@@ -35,6 +35,8 @@ pub struct Case {
 pub struct Made {
     pub case: Case,
     pub faults: Vec<&'static Sort>,
+    /// Nothing was damaged: the only refusal that is left is 11.
+    pub well_formed: bool,
 }
 
 /// A random case: well formed, refused or damaged.
@@ -46,19 +48,21 @@ pub fn case(rng: &mut Rng) -> Case {
 pub fn made(rng: &mut Rng) -> Made {
     let mut draft = draft(rng);
     let mut faults = vec![];
+    let mut well_formed = false;
     match rng.below(100) {
-        0..=54 => {}
+        0..=54 => well_formed = true,
         55..=87 => faults = damaged(&mut draft, rng, 1),
         88..=94 => {
             let several = rng.between(2, 4);
             faults = damaged(&mut draft, rng, several);
         }
-        95..=98 => damage::noise(&mut draft, rng),
+        95..=98 => damage::changed_bytes(&mut draft, rng),
         _ => damage::random_bytes(&mut draft, rng),
     }
     Made {
         case: draft.finish(),
         faults,
+        well_formed,
     }
 }
 
@@ -69,12 +73,20 @@ pub fn accepted_leaning(rng: &mut Rng) -> Case {
         nodes: rng.between(8, 45),
         session_names: rng.between(3, 12),
         mixed: true,
-        careless: if rng.chance(1, 2) { Some(careless(rng)) } else { None },
+        careless: if rng.chance(1, 2) {
+            Some(careless(rng))
+        } else {
+            None
+        },
     };
     let script = grow::script(rng, &lattice, style);
     let mut draft = with_inputs(rng, lattice, script);
     draft.limit = rng.between(1, 400) as u32;
-    draft.log = if rng.chance(1, 3) { rng.below(60) } else { 2000 };
+    draft.log = if rng.chance(1, 3) {
+        rng.below(60)
+    } else {
+        2000
+    };
     draft.finish()
 }
 
@@ -90,7 +102,11 @@ fn careless(rng: &mut Rng) -> Careless {
 fn draft(rng: &mut Rng) -> Draft {
     let lattice = order::lattice(rng);
     let shape = rng.below(100);
-    let careless = if rng.chance(1, 3) { Some(careless(rng)) } else { None };
+    let careless = if rng.chance(1, 3) {
+        Some(careless(rng))
+    } else {
+        None
+    };
     let mut grown = |nodes: (usize, usize), session_names: (usize, usize)| {
         let style = Style {
             nodes: rng.between(nodes.0, nodes.1),
@@ -115,7 +131,11 @@ fn draft(rng: &mut Rng) -> Draft {
 /// Writes the script, and chooses reader, values, limit and log.
 fn with_inputs(rng: &mut Rng, lattice: Lattice, script: Script) -> Draft {
     let file = file::write(&script, rng);
-    let reader = if rng.chance(1, 2) { lattice.top } else { rng.below(lattice.count()) };
+    let reader = if rng.chance(1, 2) {
+        lattice.top
+    } else {
+        rng.below(lattice.count())
+    };
     Draft {
         book: lattice.order.book(),
         reader: reader as u32,
@@ -176,4 +196,61 @@ fn damaged(draft: &mut Draft, rng: &mut Rng, count: usize) -> Vec<&'static Sort>
         }
     }
     chosen
+}
+
+#[cfg(test)]
+mod tests {
+    use super::*;
+
+    #[test]
+    fn a_seed_gives_one_case() {
+        for seed in 0..50 {
+            let (first, second) = (case(&mut Rng::new(seed)), case(&mut Rng::new(seed)));
+            assert_eq!(format!("{first:?}"), format!("{second:?}"));
+        }
+    }
+
+    #[test]
+    fn well_formed_files_read_back() {
+        for seed in 0..2000 {
+            let draft = draft(&mut Rng::new(seed));
+            assert_eq!(File::read(&draft.file.bytes()), Some(draft.file));
+        }
+    }
+
+    #[test]
+    fn sizes_stay_within_the_limits() {
+        for seed in 0..2000 {
+            let File {
+                names,
+                expressions,
+                nodes,
+            } = draft(&mut Rng::new(seed)).file;
+            assert!(names.len() <= file::MOST_NAMES);
+            assert!(expressions.len() <= file::MOST_EXPRESSIONS);
+            assert!((1..=file::MOST_NODES).contains(&nodes.len()));
+        }
+    }
+
+    #[test]
+    fn every_sort_of_fault_applies() {
+        for sort in damage::sorts() {
+            let applies = |seed| {
+                let mut rng = Rng::new(seed);
+                let mut draft = draft(&mut rng);
+                sort.apply(&mut draft, &mut rng).is_some()
+            };
+            assert!((0..200).any(applies), "{} {}", sort.refusal, sort.says);
+        }
+    }
+
+    #[test]
+    fn damage_upon_damage_is_no_panic() {
+        for seed in 0..5000 {
+            let mut rng = Rng::new(seed);
+            let mut draft = draft(&mut rng);
+            damaged(&mut draft, &mut rng, 12);
+            damage::changed_bytes(&mut draft, &mut rng);
+        }
+    }
 }

@@ -35,7 +35,8 @@ impl Order {
     /// The least common upper level of i and j, where there is one.
     pub fn least_upper(&self, i: usize, j: usize) -> Option<usize> {
         let uppers = self.rows[i] & self.rows[j];
-        self.levels().find(|&k| self.at_most(i, k) && self.at_most(j, k) && self.rows[k] == uppers)
+        self.levels()
+            .find(|&k| self.at_most(i, k) && self.at_most(j, k) && self.rows[k] == uppers)
     }
 
     /// The order upside down.
@@ -47,7 +48,8 @@ impl Order {
     pub fn is_lattice(&self) -> bool {
         let converse = self.converse();
         self.levels().all(|i| {
-            let has_both = |j| self.least_upper(i, j).is_some() && converse.least_upper(i, j).is_some();
+            let has_both =
+                |j| self.least_upper(i, j).is_some() && converse.least_upper(i, j).is_some();
             (0..i).all(has_both)
         })
     }
@@ -83,7 +85,12 @@ impl Lattice {
     /// The lattice of an order that is one; a pair without a common level would count as level 0.
     pub fn of(order: Order) -> Lattice {
         let table = |order: &Order| -> Vec<Vec<usize>> {
-            let row = |i| order.levels().map(|j| order.least_upper(i, j).unwrap_or(0)).collect();
+            let row = |i| {
+                order
+                    .levels()
+                    .map(|j| order.least_upper(i, j).unwrap_or(0))
+                    .collect()
+            };
             order.levels().map(row).collect()
         };
         let (joins, meets) = (table(&order), table(&order.converse()));
@@ -188,7 +195,11 @@ fn closure_system(rng: &mut Rng) -> Order {
     let mut sets: Vec<u8> = vec![0x1f];
     for _ in 0..rng.between(1, 9) {
         let new = rng.below(32) as u8;
-        let mut grown: Vec<u8> = sets.iter().map(|set| set & new).chain(sets.clone()).collect();
+        let mut grown: Vec<u8> = sets
+            .iter()
+            .map(|set| set & new)
+            .chain(sets.clone())
+            .collect();
         grown.sort_unstable();
         grown.dedup();
         if grown.len() <= MOST_LEVELS {

@@ -16,7 +16,11 @@ fn three_names(rng: &mut Rng, lattice: &Lattice) -> Vec<Name> {
     let same = rng.chance(3, 4);
     let mut name = |signal| Name {
         signal,
-        level: if same { level } else { rng.below(lattice.count()) },
+        level: if same {
+            level
+        } else {
+            rng.below(lattice.count())
+        },
         owned: false,
     };
     vec![name(false), name(true), name(true)]
@@ -52,7 +56,11 @@ pub fn deep(rng: &mut Rng, lattice: &Lattice) -> Script {
     };
     let mut nodes = script.root.size();
     let one_form = rng.chance(1, 2).then(|| rng.below(WRAPPERS));
-    let most = if rng.chance(1, 2) { MOST_NODES } else { rng.between(20, MOST_NODES) };
+    let most = if rng.chance(1, 2) {
+        MOST_NODES
+    } else {
+        rng.between(20, MOST_NODES)
+    };
     while nodes + 2 <= most {
         let form = one_form.unwrap_or_else(|| rng.below(WRAPPERS));
         let inner = std::mem::replace(&mut script.root, Process::Nil);
@@ -94,7 +102,11 @@ fn declare(names: &mut Vec<Name>, signal: bool) -> usize {
 
 /// An assignment of an expression up to 256 entries deep.
 pub fn deep_expression(rng: &mut Rng, lattice: &Lattice) -> Script {
-    let size = if rng.chance(1, 2) { MOST_EXPRESSIONS } else { rng.between(30, MOST_EXPRESSIONS) };
+    let size = if rng.chance(1, 2) {
+        MOST_EXPRESSIONS
+    } else {
+        rng.between(30, MOST_EXPRESSIONS)
+    };
     let form = rng.below(4);
     let root = Process::Assign(REGISTER, chain_of_operators(rng, form, size));
     Script {
@@ -157,7 +169,11 @@ fn fill_expressions(rng: &mut Rng, script: &mut Script, most: usize) {
     let register = script.names.len();
     script.names.push(Name {
         signal: false,
-        level: script.names.iter().find(|name| !name.owned).map_or(0, |name| name.level),
+        level: script
+            .names
+            .iter()
+            .find(|name| !name.owned)
+            .map_or(0, |name| name.level),
         owned: true,
     });
     let mut value = Expression::Constant(grow::value(rng));
@@ -165,7 +181,7 @@ fn fill_expressions(rng: &mut Rng, script: &mut Script, most: usize) {
         let operator = OPERATORS[rng.below(OPERATORS.len())];
         value = binary(operator, value, Expression::Constant(grow::value(rng)));
     }
-    if missing % 2 == 0 {
+    if missing.is_multiple_of(2) {
         value = not(value);
     }
     let inner = std::mem::replace(&mut script.root, Process::Nil);

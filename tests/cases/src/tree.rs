@@ -44,7 +44,7 @@ pub struct Script {
     pub root: Process,
 }
 
-// Short constructors, so that a motif reads like the report's programs.
+// Short constructors, so that a pattern reads like the report's programs.
 
 pub fn sequence(first: Process, second: Process) -> Process {
     Process::Sequence(Box::new(first), Box::new(second))
@@ -100,12 +100,20 @@ impl Expression {
 impl Process {
     /// The number of nodes in the file.
     pub fn size(&self) -> usize {
-        1 + self.children().iter().map(|child| child.size()).sum::<usize>()
+        1 + self
+            .children()
+            .iter()
+            .map(|child| child.size())
+            .sum::<usize>()
     }
 
     /// The number of expressions in the file, all nodes together.
     pub fn expressions(&self) -> usize {
-        let below: usize = self.children().iter().map(|child| child.expressions()).sum();
+        let below: usize = self
+            .children()
+            .iter()
+            .map(|child| child.expressions())
+            .sum();
         below + self.expression().map_or(0, Expression::size)
     }
 

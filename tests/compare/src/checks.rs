@@ -38,7 +38,10 @@ pub fn comparison(report: &mut Report, count: u64, seed: u64) {
     };
     print!("{coverage}");
     report.line("comparison", Ok(format!("of {count} cases, 0 differences")));
-    report.line("coverage", reached(coverage.missing(), Coverage::floor_count()));
+    report.line(
+        "coverage",
+        reached(coverage.missing(), Coverage::floor_count()),
+    );
 }
 
 pub fn long_runs(report: &mut Report) {
@@ -54,8 +57,14 @@ pub fn demand_three(report: &mut Report, count: u64, seed: u64) {
     match both {
         Ok(tally) => {
             print!("{tally}");
-            report.line("demand three", Ok(format!("holds of {} pairs", tally.pairs)));
-            report.line("demand three, coverage", reached(tally.missing(), Tally::FLOORS));
+            report.line(
+                "demand three",
+                Ok(format!("holds of {} pairs", tally.pairs)),
+            );
+            report.line(
+                "demand three, coverage",
+                reached(tally.missing(), Tally::FLOORS),
+            );
         }
         Err(violation) => report.line("demand three", Err(violation.to_string())),
     }

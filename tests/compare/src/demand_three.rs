@@ -3,6 +3,7 @@
 //! stamped n or less; with n = m the session registers at or below the reader's level end equal.
 
 use crate::engine::{Engine, RunArguments};
+use crate::floors;
 use crate::outcome::fresh_log;
 use crate::sweep::case_seed;
 use cases::file::{File, NameEntry, SESSION};
@@ -34,8 +35,16 @@ impl Tally {
         [
             ("pairs with lines in the record", self.with_lines, 4000),
             ("pairs that start differently", self.starts_differ, 8000),
-            ("pairs that differ in ending, steps or instants", self.paths_differ, 400),
-            ("pairs that end with different values", self.values_differ, 4000),
+            (
+                "pairs that differ in ending, steps or instants",
+                self.paths_differ,
+                400,
+            ),
+            (
+                "pairs that end with different values",
+                self.values_differ,
+                4000,
+            ),
             ("pairs with n < m", self.limits_differ, 4000),
             ("pairs that fill the log", self.log_full, 400),
             ("pairs over several instants", self.several_instants, 4000),
@@ -45,7 +54,7 @@ impl Tally {
     /// What was reached too seldom.
     pub fn missing(&self) -> Vec<String> {
         let too_few = |(what, seen, floor): (&str, u64, u64)| {
-            let floor = floor * self.pairs / USUAL;
+            let floor = floors::floor(floor, self.pairs, USUAL);
             (seen < floor).then(|| format!("{what}: {seen} of at least {floor}"))
         };
         self.rows().into_iter().filter_map(too_few).collect()
@@ -73,8 +82,16 @@ pub struct Violation {
 
 impl fmt::Display for Violation {
     fn fmt(&self, out: &mut fmt::Formatter) -> fmt::Result {
-        let Violation { seed, reader, says, pairs } = self;
-        write!(out, "case seed {seed}, reader {reader}, pair {pairs}: {says}")
+        let Violation {
+            seed,
+            reader,
+            says,
+            pairs,
+        } = self;
+        write!(
+            out,
+            "case seed {seed}, reader {reader}, pair {pairs}: {says}"
+        )
     }
 }
 
@@ -86,11 +103,20 @@ pub fn sweep(engine: &dyn Engine, count: u64, seed: u64) -> Result<Tally, Violat
         let seed = case_seed(seed, number);
         let mut rng = Rng::new(seed);
         let case = cases::accepted_leaning(&mut rng);
-        let readers = if accepted(engine, &case) { case.book[0] } else { 0 };
+        let readers = if accepted(engine, &case) {
+            case.book[0]
+        } else {
+            0
+        };
         for reader in 0..u32::from(readers) {
             let result = pair(engine, &case, reader, &mut rng, &mut tally);
             let pairs = tally.pairs;
-            result.map_err(|says| Violation { seed, reader, says, pairs })?;
+            result.map_err(|says| Violation {
+                seed,
+                reader,
+                says,
+                pairs,
+            })?;
         }
         if tally.pairs >= count {
             break;
@@ -161,7 +187,11 @@ fn pair(
             second_values[place] = other_values[place];
         }
     }
-    let n = if rng.chance(1, 2) { case.limit } else { rng.below(case.limit as usize + 1) as u32 };
+    let n = if rng.chance(1, 2) {
+        case.limit
+    } else {
+        rng.below(case.limit as usize + 1) as u32
+    };
     let first = Ran::new(engine, case, reader, &first_values, n);
     let second = Ran::new(engine, case, reader, &second_values, case.limit);
     if first.out[0] != 0 || second.out[0] != 0 {
@@ -178,7 +208,8 @@ fn pair(
     if first.record(n) != second.record(n) || first.record(n).len() != first.out[5] as usize {
         return Err("the records differ".into());
     }
-    let seen = |name: &NameEntry| name.kind == 0 && name.owner == SESSION && low(case, name, reader);
+    let seen =
+        |name: &NameEntry| name.kind == 0 && name.owner == SESSION && low(case, name, reader);
     let unequal = |place: usize| first.values[place] != second.values[place];
     let differs = (0..file.names.len()).find(|&place| seen(&file.names[place]) && unequal(place));
     match differs {

@@ -22,16 +22,25 @@ pub fn compare(one: &dyn Engine, other: &dyn Engine, case: &Case) -> Result<Outc
     }
     let mut says = String::new();
     if first.check != second.check {
-        says += &format!("\n  check      {:?} against {:?}", first.check, second.check);
+        says += &format!(
+            "\n  check      {:?} against {:?}",
+            first.check, second.check
+        );
     }
     if first.run != second.run {
         says += &format!("\n  run        {:?} against {:?}", first.run, second.run);
     }
     if first.values != second.values {
-        says += &format!("\n  values     {:?} against {:?}", first.values, second.values);
+        says += &format!(
+            "\n  values     {:?} against {:?}",
+            first.values, second.values
+        );
     }
     if let Some(place) = (0..case.log).find(|&place| first.log[place] != second.log[place]) {
-        says += &format!("\n  log word {place}: {} against {}", first.log[place], second.log[place]);
+        says += &format!(
+            "\n  log word {place}: {} against {}",
+            first.log[place], second.log[place]
+        );
     }
     Err(says)
 }
@@ -42,7 +51,14 @@ fn hex(bytes: &[u8]) -> String {
 
 /// A case as hexadecimal bytes and numbers, and its script as text where it can be read.
 pub fn show(case: &Case) -> String {
-    let Case { book, script, reader, values, limit, log } = case;
+    let Case {
+        book,
+        script,
+        reader,
+        values,
+        limit,
+        log,
+    } = case;
     let text = File::read(script).map_or("unreadable".into(), |file| text::show(&file));
     format!(
         "  book       {}\n  script     {}\n  reads      {text}\n  reader {reader}, values {values:?}, \

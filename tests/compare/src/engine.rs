@@ -44,11 +44,23 @@ impl Engine for Wrapper {
     }
 
     fn run(&self, book: &[u8], script: &[u8], arguments: RunArguments, out: &mut [u32]) {
-        let RunArguments { reader, values, limit, log } = arguments;
+        let RunArguments {
+            reader,
+            values,
+            limit,
+            log,
+        } = arguments;
         let answer = match station::run(book, script, reader, values, limit, log) {
             Ok(run) => {
                 let lines = run.lines.try_into().unwrap_or(u32::MAX);
-                [0, 0, ending_number(run.ending), run.steps, run.instants, lines]
+                [
+                    0,
+                    0,
+                    ending_number(run.ending),
+                    run.steps,
+                    run.instants,
+                    lines,
+                ]
             }
             Err(refusal) => [refusal.reason.number(), refusal.place, 0, 0, 0, 0],
         };
@@ -73,14 +85,32 @@ pub struct Reference(pub Rules);
 impl Engine for Reference {
     fn check(&self, book: &[u8], script: &[u8], out: &mut [u32]) {
         let answer = reference::check(self.0, book, script);
-        put(out, &[answer.number, answer.place, answer.write, answer.test]);
+        put(
+            out,
+            &[answer.number, answer.place, answer.write, answer.test],
+        );
     }
 
     fn run(&self, book: &[u8], script: &[u8], arguments: RunArguments, out: &mut [u32]) {
-        let RunArguments { reader, values, limit, log } = arguments;
+        let RunArguments {
+            reader,
+            values,
+            limit,
+            log,
+        } = arguments;
         let answer = reference::run(self.0, book, script, reader, values, limit, log);
         let (ending, steps) = (answer.ending, answer.steps);
-        put(out, &[answer.number, answer.place, ending, steps, answer.instants, answer.lines]);
+        put(
+            out,
+            &[
+                answer.number,
+                answer.place,
+                ending,
+                steps,
+                answer.instants,
+                answer.lines,
+            ],
+        );
     }
 }
 

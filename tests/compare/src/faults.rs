@@ -25,7 +25,10 @@ pub fn find_all(seed: u64) -> Vec<Finding> {
         let case = cases::case(&mut Rng::new(seed));
         let right = outcome(library(seed), &case);
         let mut left = 0;
-        for finding in findings.iter_mut().filter(|finding| finding.found.is_none()) {
+        for finding in findings
+            .iter_mut()
+            .filter(|finding| finding.found.is_none())
+        {
             let rules = Rules {
                 fault: Some(finding.fault),
             };

@@ -9,6 +9,7 @@ pub mod difference;
 pub mod engine;
 pub mod examples;
 pub mod faults;
+mod floors;
 pub mod guarded;
 pub mod long_runs;
 pub mod outcome;

@@ -19,11 +19,36 @@ fn runs() -> Vec<(&'static str, Process, u32, usize)> {
     let emit = || Process::Emit(SIGNAL);
     let paused = || sequence(emit(), watching(SIGNAL, when(ABSENT, Process::Nil)));
     vec![
-        ("a loop that does nothing", while_do(one(), Process::Nil), MOST_STEPS, 8),
-        ("a wait that never ends", when(ABSENT, Process::Nil), MOST_STEPS, 8),
-        ("a counter", while_do(one(), count()), MOST_STEPS - 1, 4 * 400_000),
-        ("a counter that fills the log", while_do(one(), count()), MOST_STEPS, 4 * 50_000 + 3),
-        ("an instant in each round", while_do(one(), paused()), 200_000, 4 * 100_000),
+        (
+            "a loop that does nothing",
+            while_do(one(), Process::Nil),
+            MOST_STEPS,
+            8,
+        ),
+        (
+            "a wait that never ends",
+            when(ABSENT, Process::Nil),
+            MOST_STEPS,
+            8,
+        ),
+        (
+            "a counter",
+            while_do(one(), count()),
+            MOST_STEPS - 1,
+            4 * 400_000,
+        ),
+        (
+            "a counter that fills the log",
+            while_do(one(), count()),
+            MOST_STEPS,
+            4 * 50_000 + 3,
+        ),
+        (
+            "an instant in each round",
+            while_do(one(), paused()),
+            200_000,
+            4 * 100_000,
+        ),
         (
             "two threads in each round",
             while_do(one(), parallel(paused(), sequence(count(), emit()))),

@@ -25,7 +25,9 @@ fn main() -> ExitCode {
     };
     let command = arguments.first().map_or("", String::as_str);
     let passed = match command {
-        "demand-three" => number(1, PAIRS).and_then(|pairs| Ok(demand_three(pairs, number(2, SEED)?))),
+        "demand-three" => {
+            number(1, PAIRS).and_then(|pairs| Ok(demand_three(pairs, number(2, SEED)?)))
+        }
         "faults" => number(1, SEED).map(|seed| reported(|report| checks::faults(report, seed))),
         "examples" => Ok(reported(checks::examples)),
         "case" => number(1, SEED).map(one_case),
@@ -60,7 +62,9 @@ fn compare(cases: u64, seed: u64) -> bool {
     };
     print!("{coverage}");
     let missing = coverage.missing();
-    missing.iter().for_each(|says| println!("below the floor: {says}"));
+    missing
+        .iter()
+        .for_each(|says| println!("below the floor: {says}"));
     println!("compared {cases} cases, 0 differences");
     missing.is_empty()
 }

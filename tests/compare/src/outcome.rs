@@ -88,7 +88,12 @@ impl Buffers {
             limit: case.limit,
             log: self.log.slice_mut(),
         };
-        engine.run(self.book.slice(), self.script.slice(), arguments, out.slice_mut());
+        engine.run(
+            self.book.slice(),
+            self.script.slice(),
+            arguments,
+            out.slice_mut(),
+        );
         guards_hold("run", &[("out", out.intact())])?;
         Ok(out.slice().to_vec())
     }
@@ -98,7 +103,15 @@ impl Buffers {
         let book = self.book.intact() && self.book.slice() == case.book;
         let script = self.script.intact() && self.script.slice() == case.script;
         let (values, log) = (self.values.intact(), self.log.intact());
-        guards_hold(call, &[("book", book), ("script", script), ("values", values), ("log", log)])
+        guards_hold(
+            call,
+            &[
+                ("book", book),
+                ("script", script),
+                ("values", values),
+                ("log", log),
+            ],
+        )
     }
 
     fn untouched(&self, case: &Case) -> bool {
@@ -127,7 +140,13 @@ pub fn outcome(engine: &dyn Engine, case: &Case) -> Result<Outcome, String> {
         return Err("a refused run changed values or log".into());
     }
     let written = (run[5] as usize).saturating_mul(4);
-    if buffers.log.slice().iter().skip(written).ne(fresh_log(case.log).iter().skip(written)) {
+    if buffers
+        .log
+        .slice()
+        .iter()
+        .skip(written)
+        .ne(fresh_log(case.log).iter().skip(written))
+    {
         return Err("words after the last line changed".into());
     }
     Ok(Outcome {
@@ -153,4 +172,91 @@ pub fn wrong_out(engine: &dyn Engine, case: &Case, words: usize) -> Result<(), S
         return Err(format!("an out of {words} words was not left untouched"));
     }
     Ok(())
+}
+
+#[cfg(test)]
+mod tests {
+    use super::*;
+    use crate::engine::{Raw, Reference};
+    use reference::Rules;
+
+    /// The reference, with a change of what it leaves.
+    struct Altered(fn(&mut RunArguments, &mut [u32]));
+
+    impl Engine for Altered {
+        fn check(&self, book: &[u8], script: &[u8], out: &mut [u32]) {
+            Reference(Rules::default()).check(book, script, out);
+        }
+
+        fn run(&self, book: &[u8], script: &[u8], mut arguments: RunArguments, out: &mut [u32]) {
+            let RunArguments { reader, limit, .. } = arguments;
+            let again = RunArguments {
+                reader,
+                limit,
+                values: &mut *arguments.values,
+                log: &mut *arguments.log,
+            };
+            Reference(Rules::default()).run(book, script, again, out);
+            (self.0)(&mut arguments, out);
+        }
+    }
+
+    /// 01's example: `x := 7`.
+    fn example() -> Case {
+        let script = [
+            0x0000_ffff_u32,
+            0x0000_0000,
+            0x0000_0007,
+            0x0100_0000,
+            0x0000_0000,
+            0x0004_000c,
+            0x0014_5354,
+        ];
+        Case {
+            book: vec![2, 0, 3, 0, 2],
+            script: script.iter().flat_map(|word| word.to_be_bytes()).collect(),
+            reader: 0,
+            values: vec![0],
+            limit: 1000,
+            log: 10,
+        }
+    }
+
+    #[test]
+    fn the_example_of_01() {
+        let seen = outcome(&Raw, &example()).unwrap();
+        assert_eq!(seen.check, [0, 0, 0, 0]);
+        assert_eq!(seen.run, [0, 0, 0, 1, 0, 1]);
+        assert_eq!(seen.values, [7]);
+        assert_eq!(seen.log[..4], [1, 0, 0, 7]);
+        assert_eq!(outcome(&Altered(|_, _| ()), &example()), Ok(seen));
+    }
+
+    #[test]
+    fn words_after_the_last_line_are_watched() {
+        let engine = Altered(|arguments, _| arguments.log[4] = 0);
+        assert!(outcome(&engine, &example()).is_err());
+    }
+
+    #[test]
+    fn a_refused_run_must_leave_values_and_log() {
+        let refused = Case {
+            reader: 2,
+            ..example()
+        };
+        assert!(outcome(&Altered(|_, _| ()), &refused).is_ok());
+        assert!(outcome(&Altered(|arguments, _| arguments.values[0] = 1), &refused).is_err());
+        assert!(outcome(&Altered(|arguments, _| arguments.log[9] = 1), &refused).is_err());
+    }
+
+    #[test]
+    fn a_wrong_out_must_be_left() {
+        for words in [0, 1, 3, 4, 5, 6, 7, 100] {
+            assert_eq!(wrong_out(&Raw, &example(), words), Ok(()));
+        }
+        let engine = Altered(|_, out| out.iter_mut().for_each(|word| *word = 0));
+        assert!(wrong_out(&engine, &example(), 5).is_err());
+        let engine = Altered(|arguments, _| arguments.values[0] = 9);
+        assert!(wrong_out(&engine, &example(), 0).is_err());
+    }
 }

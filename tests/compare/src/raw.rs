@@ -20,7 +20,12 @@ pub fn check(book: &[u8], script: &[u8], out: &mut [u32]) {
 }
 
 pub fn run(book: &[u8], script: &[u8], arguments: RunArguments, out: &mut [u32]) {
-    let RunArguments { reader, values, limit, log } = arguments;
+    let RunArguments {
+        reader,
+        values,
+        limit,
+        log,
+    } = arguments;
     // SAFETY: each pointer and length is that of a live slice; `values`, `log` and `out` are borrowed
     // mutably and so overlap no other.
     unsafe {

@@ -23,12 +23,18 @@ fn simpler(case: &Case) -> Vec<Case> {
     }
     for limit in [case.limit / 2, case.limit.saturating_sub(1)] {
         if limit < case.limit {
-            all.push(Case { limit, ..case.clone() });
+            all.push(Case {
+                limit,
+                ..case.clone()
+            });
         }
     }
     for log in [0, case.log / 2, case.log.saturating_sub(1)] {
         if log < case.log {
-            all.push(Case { log, ..case.clone() });
+            all.push(Case {
+                log,
+                ..case.clone()
+            });
         }
     }
     for place in 0..case.values.len() {
@@ -59,7 +65,10 @@ fn smaller_files(file: &File) -> Vec<File> {
 }
 
 fn weight(file: &File) -> (usize, usize) {
-    (file.nodes.len(), file.nodes.iter().filter(|node| node.kind != 0).count())
+    (
+        file.nodes.len(),
+        file.nodes.iter().filter(|node| node.kind != 0).count(),
+    )
 }
 
 /// The parts that the last node needs.
@@ -94,7 +103,10 @@ impl Used {
 }
 
 fn mark(used: &mut [bool], place: usize) {
-    used.iter_mut().skip(place).take(1).for_each(|mark| *mark = true);
+    used.iter_mut()
+        .skip(place)
+        .take(1)
+        .for_each(|mark| *mark = true);
 }
 
 /// The new number of a part: how many parts before it stay.
@@ -134,5 +146,34 @@ fn name_owners(file: &mut File) {
         let declares = |node: &Entry| matches!(node.kind, 2 | 7) && node.a == place;
         let owner = file.nodes.iter().position(declares);
         name.owner = owner.map_or(SESSION, |owner| owner as u16);
+    }
+}
+
+#[cfg(test)]
+mod tests {
+    use super::*;
+    use crate::difference::compare;
+    use crate::engine::Reference;
+    use cases::Rng;
+    use reference::{Fault, Rules};
+
+    #[test]
+    fn a_shrunk_case_still_differs_and_is_small() {
+        let right = Reference(Rules::default());
+        for fault in [
+            Fault::NoTradeWithNil,
+            Fault::SequenceChangesBoth,
+            Fault::LocalNotReset,
+        ] {
+            let wrong = Reference(Rules { fault: Some(fault) });
+            let differs = |case: &Case| compare(&right, &wrong, case).is_err();
+            let found = (0..20_000)
+                .map(|seed| cases::case(&mut Rng::new(seed)))
+                .find(differs);
+            let small = shrink(&found.expect("a case that shows the fault"), differs);
+            assert!(differs(&small));
+            let file = File::read(&small.script).expect("a right tail");
+            assert!(file.nodes.len() <= 14, "{}", cases::text::show(&file));
+        }
     }
 }

@@ -11,9 +11,13 @@ pub const SORTS: &[Sort] = &[
         put(draft, vec![0; 1 + rest])
     }),
     Sort::new(1, "17 levels", |draft, _| put(draft, chain_book(17))),
-    Sort::new(1, "many levels", |draft, rng| put(draft, chain_book(rng.between(18, 255)))),
+    Sort::new(1, "many levels", |draft, rng| {
+        put(draft, chain_book(rng.between(18, 255)))
+    }),
     Sort::new(1, "book too short", |draft, rng| {
-        draft.book.truncate(rng.between(1, draft.book.len().saturating_sub(1)));
+        draft
+            .book
+            .truncate(rng.between(1, draft.book.len().saturating_sub(1)));
         Some(())
     }),
     Sort::new(1, "book too long", |draft, rng| {
@@ -36,8 +40,12 @@ pub const SORTS: &[Sort] = &[
             Some(())
         })
     }),
-    Sort::new(2, "holds both ways", |draft, rng| damage_rows(draft, rng, both_ways)),
-    Sort::new(2, "not transitive", |draft, rng| damage_rows(draft, rng, gap)),
+    Sort::new(2, "holds both ways", |draft, rng| {
+        damage_rows(draft, rng, both_ways)
+    }),
+    Sort::new(2, "not transitive", |draft, rng| {
+        damage_rows(draft, rng, gap)
+    }),
     Sort::new(2, "any bits", |draft, rng| {
         damage_rows(draft, rng, |order, rng| {
             for row in &mut order.rows {
@@ -54,9 +62,11 @@ pub const SORTS: &[Sort] = &[
         let order = without_top(rng).converse();
         put_order(draft, rng, &order)
     }),
-    Sort::new(3, "no least upper, no greatest lower level", |draft, rng| {
-        put_order(draft, rng, &crossed())
-    }),
+    Sort::new(
+        3,
+        "no least upper, no greatest lower level",
+        |draft, rng| put_order(draft, rng, &crossed()),
+    ),
     Sort::new(3, "any partial order", |draft, rng| {
         let order = partial_order(rng);
         match order.is_lattice() {
@@ -73,7 +83,10 @@ fn put(draft: &mut Draft, book: Vec<u8>) -> Option<()> {
 
 /// Puts the book of an order, under random level numbers.
 fn put_order(draft: &mut Draft, rng: &mut Rng, order: &Order) -> Option<()> {
-    put(draft, order.renumbered(&rng.permutation(order.count())).book())
+    put(
+        draft,
+        order.renumbered(&rng.permutation(order.count())).book(),
+    )
 }
 
 /// A book that says n, with n rows, each above the row before where 16 bits say so.
@@ -100,7 +113,9 @@ fn damage_rows(
 fn pairs_below(order: &Order) -> Vec<(usize, usize)> {
     let count = order.count();
     let pairs = (0..count).flat_map(|i| (0..count).map(move |j| (i, j)));
-    pairs.filter(|&(i, j)| i != j && order.at_most(i, j)).collect()
+    pairs
+        .filter(|&(i, j)| i != j && order.at_most(i, j))
+        .collect()
 }
 
 fn both_ways(order: &mut Order, rng: &mut Rng) -> Option<()> {
@@ -113,7 +128,9 @@ fn both_ways(order: &mut Order, rng: &mut Rng) -> Option<()> {
 fn gap(order: &mut Order, rng: &mut Rng) -> Option<()> {
     let pairs = pairs_below(order);
     let between = |&(i, k): &(usize, usize)| {
-        pairs.iter().any(|&(from, j)| from == i && j != k && order.at_most(j, k))
+        pairs
+            .iter()
+            .any(|&(from, j)| from == i && j != k && order.at_most(j, k))
     };
     let gaps: Vec<(usize, usize)> = pairs.iter().copied().filter(between).collect();
     let (i, k) = rng.pick(&gaps)?;

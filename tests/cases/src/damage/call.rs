@@ -15,10 +15,12 @@ pub const SORTS: &[Sort] = &[
         Some(())
     }),
     Sort::new(12, "reader whose low bits are a level", |draft, rng| {
-        draft.reader += [16, 256, 65_536, 1 << 31][rng.below(4)];
+        draft.reader |= [16, 256, 65_536, 1 << 31][rng.below(4)];
         Some(())
     }),
-    Sort::new(13, "one value too few", |draft, _| draft.values.pop().map(|_| ())),
+    Sort::new(13, "one value too few", |draft, _| {
+        draft.values.pop().map(|_| ())
+    }),
     Sort::new(13, "one value too many", |draft, rng| {
         draft.values.push(rng.below(2) as i32);
         Some(())
@@ -63,7 +65,9 @@ fn entry(draft: &mut Draft, rng: &mut Rng, session_signal: bool, value: i32) -> 
         true => names[name].kind == 1 && names[name].owner == SESSION,
         false => names[name].owner != SESSION,
     };
-    let all: Vec<usize> = (0..names.len().min(draft.values.len())).filter(fits).collect();
+    let all: Vec<usize> = (0..names.len().min(draft.values.len()))
+        .filter(fits)
+        .collect();
     for _ in 0..rng.between(1, 3) {
         draft.values[rng.pick(&all)?] = value;
     }

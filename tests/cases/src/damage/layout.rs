@@ -8,7 +8,11 @@ pub const SORTS: &[Sort] = &[
     Sort::new(4, "under 8 bytes", |draft, rng| {
         let bytes = draft.script_mut();
         let (kept, from_end) = (rng.below(8), rng.chance(1, 2));
-        let start = if from_end { bytes.len().saturating_sub(kept) } else { 0 };
+        let start = if from_end {
+            bytes.len().saturating_sub(kept)
+        } else {
+            0
+        };
         *bytes = bytes[start..].iter().copied().take(kept).collect();
         Some(())
     }),
@@ -49,19 +53,29 @@ pub const SORTS: &[Sort] = &[
     }),
     Sort::new(4, "bytes after the tail", |draft, rng| {
         let more = rng.between(1, 9);
-        draft.script_mut().extend((0..more).map(|_| rng.next_u64() as u8));
+        draft
+            .script_mut()
+            .extend((0..more).map(|_| rng.next_u64() as u8));
         Some(())
     }),
-    Sort::new(4, "bytes before the tail that it does not count", |draft, rng| {
-        let bytes = draft.script_mut();
-        let end = bytes.len().checked_sub(8)?;
-        let more = if rng.chance(1, 2) { 8 } else { rng.between(1, 9) };
-        bytes.splice(end..end, vec![0; more]);
-        Some(())
-    }),
+    Sort::new(
+        4,
+        "bytes before the tail that it does not count",
+        |draft, rng| {
+            let bytes = draft.script_mut();
+            let end = bytes.len().checked_sub(8)?;
+            let more = if rng.chance(1, 2) {
+                8
+            } else {
+                rng.between(1, 9)
+            };
+            bytes.splice(end..end, vec![0; more]);
+            Some(())
+        },
+    ),
     Sort::new(4, "offsets that do not fit", |draft, rng| {
         // Rarely, since such a file is long: the lists end past 65,535.
-        if !rng.chance(1, 8) {
+        if !rng.chance(1, 3) {
             return None;
         }
         let missing = 65_536 - draft.file.bytes().len().min(65_536);
@@ -70,11 +84,19 @@ pub const SORTS: &[Sort] = &[
         Some(())
     }),
     Sort::new(5, "65 names", |draft, _| fill_names(draft, MOST_NAMES + 1)),
-    Sort::new(5, "many names", |draft, rng| fill_names(draft, rng.between(66, 300))),
-    Sort::new(5, "257 expressions", |draft, _| fill_expressions(draft, MOST_EXPRESSIONS + 1)),
-    Sort::new(5, "many expressions", |draft, rng| fill_expressions(draft, rng.between(258, 600))),
+    Sort::new(5, "many names", |draft, rng| {
+        fill_names(draft, rng.between(66, 300))
+    }),
+    Sort::new(5, "257 expressions", |draft, _| {
+        fill_expressions(draft, MOST_EXPRESSIONS + 1)
+    }),
+    Sort::new(5, "many expressions", |draft, rng| {
+        fill_expressions(draft, rng.between(258, 600))
+    }),
     Sort::new(5, "257 nodes", |draft, _| fill_nodes(draft, MOST_NODES + 1)),
-    Sort::new(5, "many nodes", |draft, rng| fill_nodes(draft, rng.between(258, 600))),
+    Sort::new(5, "many nodes", |draft, rng| {
+        fill_nodes(draft, rng.between(258, 600))
+    }),
     Sort::new(5, "no node", |draft, _| {
         draft.file.nodes.clear();
         Some(())
@@ -83,7 +105,11 @@ pub const SORTS: &[Sort] = &[
 
 /// The place of a word of the tail.
 fn tail_place(draft: &mut Draft, word: usize) -> Option<usize> {
-    draft.script_mut().len().checked_sub(8).map(|tail| tail + 2 * word)
+    draft
+        .script_mut()
+        .len()
+        .checked_sub(8)
+        .map(|tail| tail + 2 * word)
 }
 
 fn tail_word(draft: &mut Draft, word: usize) -> Option<u16> {
@@ -134,13 +160,21 @@ fn fill_nodes(draft: &mut Draft, count: usize) -> Option<()> {
 }
 
 /// One to four bits of the script turned over, or bytes of it replaced, cut out or doubled.
-pub fn noise(draft: &mut Draft, rng: &mut Rng) {
+pub fn changed_bytes(draft: &mut Draft, rng: &mut Rng) {
     let bytes = draft.script_mut();
     for _ in 0..rng.between(1, 4) {
         let place = rng.below(bytes.len());
         match rng.below(8) {
-            0..=3 => bytes.iter_mut().skip(place).take(1).for_each(|b| *b ^= 1 << rng.below(8)),
-            4..=5 => bytes.iter_mut().skip(place).take(1).for_each(|b| *b = rng.below(12) as u8),
+            0..=3 => bytes
+                .iter_mut()
+                .skip(place)
+                .take(1)
+                .for_each(|b| *b ^= 1 << rng.below(8)),
+            4..=5 => bytes
+                .iter_mut()
+                .skip(place)
+                .take(1)
+                .for_each(|b| *b = rng.below(12) as u8),
             6 => bytes.truncate(place),
             _ => {
                 let piece: Vec<u8> = bytes.iter().skip(place).take(8).copied().collect();

@@ -14,7 +14,7 @@ use crate::rng::Rng;
 use crate::Case;
 
 pub use call::MOST_STEPS;
-pub use layout::{noise, random_bytes};
+pub use layout::{changed_bytes, random_bytes};
 
 /// A case before its script is written out.
 #[derive(Clone, Debug)]
@@ -89,7 +89,9 @@ pub fn sorts() -> impl Iterator<Item = &'static Sort> {
 
 /// The place of an entry that fits.
 fn find(rng: &mut Rng, list: &[Entry], fits: impl Fn(&Entry) -> bool) -> Option<usize> {
-    let places: Vec<usize> = (0..list.len()).filter(|&place| fits(&list[place])).collect();
+    let places: Vec<usize> = (0..list.len())
+        .filter(|&place| fits(&list[place]))
+        .collect();
     rng.pick(&places)
 }
 

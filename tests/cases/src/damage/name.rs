@@ -5,9 +5,16 @@ use crate::file::{NameEntry, SESSION};
 use crate::rng::Rng;
 
 pub const SORTS: &[Sort] = &[
-    Sort::new(6, "kind 2", |draft, rng| change(draft, rng, |_| true, |name, _| name.kind = 2)),
+    Sort::new(6, "kind 2", |draft, rng| {
+        change(draft, rng, |_| true, |name, _| name.kind = 2)
+    }),
     Sort::new(6, "any kind above 1", |draft, rng| {
-        change(draft, rng, |_| true, |name, rng| name.kind = rng.between(2, 255) as u8)
+        change(
+            draft,
+            rng,
+            |_| true,
+            |name, rng| name.kind = rng.between(2, 255) as u8,
+        )
     }),
     Sort::new(6, "level n", |draft, rng| {
         let count = draft.lattice.count() as u8;
@@ -15,7 +22,12 @@ pub const SORTS: &[Sort] = &[
     }),
     Sort::new(6, "any level above n", |draft, rng| {
         let count = draft.lattice.count();
-        change(draft, rng, |_| true, |name, rng| name.level = rng.between(count, 255) as u8)
+        change(
+            draft,
+            rng,
+            |_| true,
+            |name, rng| name.level = rng.between(count, 255) as u8,
+        )
     }),
     Sort::new(6, "owner is the number of nodes", |draft, rng| {
         let count = draft.file.nodes.len() as u16;
@@ -37,7 +49,12 @@ pub const SORTS: &[Sort] = &[
         change(draft, rng, other, |name, _| name.owner = node as u16)
     }),
     Sort::new(6, "owner declares the other kind", |draft, rng| {
-        change(draft, rng, |name| name.owner != SESSION, |name, _| name.kind ^= 1)
+        change(
+            draft,
+            rng,
+            |name| name.owner != SESSION,
+            |name, _| name.kind ^= 1,
+        )
     }),
 ];
 
@@ -50,7 +67,9 @@ fn change(
 ) -> Option<()> {
     for _ in 0..rng.between(1, 3) {
         let names = &mut draft.file.names;
-        let places: Vec<usize> = (0..names.len()).filter(|&place| fits(&names[place])).collect();
+        let places: Vec<usize> = (0..names.len())
+            .filter(|&place| fits(&names[place]))
+            .collect();
         let place = rng.pick(&places)?;
         damage(&mut names[place], rng);
         if rng.chance(2, 3) {

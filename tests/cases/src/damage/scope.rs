@@ -5,8 +5,10 @@ use crate::file::{Entry, File, SESSION};
 use crate::rng::Rng;
 
 pub const SORTS: &[Sort] = &[
-    Sort::new(9, "expression never used", |draft, rng| spare_expression(draft, rng)),
-    Sort::new(9, "node never used", |draft, rng| spare_node(draft, rng)),
+    Sort::new(9, "expression never used", |draft, rng| {
+        spare_expression(draft, rng)
+    }),
+    Sort::new(9, "node never used", spare_node),
     Sort::new(9, "expression and node never used", |draft, rng| {
         spare_expression(draft, rng)?;
         spare_node(draft, rng)
@@ -17,13 +19,21 @@ pub const SORTS: &[Sort] = &[
         list[place].b = rng.below(place) as u16;
         Some(())
     }),
-    Sort::new(9, "expression used by two nodes, or by both", |draft, rng| {
-        let File { nodes, expressions, .. } = &mut draft.file;
-        let place = find(rng, nodes, |node| File::expression_field(node.kind).is_some())?;
-        let field = File::expression_field(nodes[place].kind)?;
-        *nodes[place].field_mut(field) = rng.below(expressions.len()) as u16;
-        Some(())
-    }),
+    Sort::new(
+        9,
+        "expression used by two nodes, or by both",
+        |draft, rng| {
+            let File {
+                nodes, expressions, ..
+            } = &mut draft.file;
+            let place = find(rng, nodes, |node| {
+                File::expression_field(node.kind).is_some()
+            })?;
+            let field = File::expression_field(nodes[place].kind)?;
+            *nodes[place].field_mut(field) = rng.below(expressions.len()) as u16;
+            Some(())
+        },
+    ),
     Sort::new(9, "expression used twice, none unused", |draft, rng| {
         let list = &mut draft.file.expressions;
         let place = 1 + find(rng, list.get(1..)?, |e| e.kind < 2)?;
@@ -63,29 +73,41 @@ pub const SORTS: &[Sort] = &[
         let entry = draft.file.nodes[node];
         let mut reached = Reached::none(&draft.file);
         reached.expression(&draft.file, entry.field(1));
-        use_in_expression(draft, rng, entry.field(0), |place| reached.expressions[place])
+        use_in_expression(draft, rng, entry.field(0), |place| {
+            reached.expressions[place]
+        })
     }),
-    Sort::new(10, "register in an expression outside its body", |draft, rng| {
-        let node = find(rng, &draft.file.nodes, |node| node.kind == 2)?;
-        let entry = draft.file.nodes[node];
-        let reached = Reached::body(&draft.file, node);
-        use_in_expression(draft, rng, entry.field(0), |place| !reached.expressions[place])
-    }),
+    Sort::new(
+        10,
+        "register in an expression outside its body",
+        |draft, rng| {
+            let node = find(rng, &draft.file.nodes, |node| node.kind == 2)?;
+            let entry = draft.file.nodes[node];
+            let reached = Reached::body(&draft.file, node);
+            use_in_expression(draft, rng, entry.field(0), |place| {
+                !reached.expressions[place]
+            })
+        },
+    ),
     Sort::new(10, "assign to a register outside its body", |draft, rng| {
         use_in_node(draft, rng, 2, |kind| kind == 1)
     }),
     Sort::new(10, "emit of a signal outside its body", |draft, rng| {
         use_in_node(draft, rng, 7, |kind| kind == 6)
     }),
-    Sort::new(10, "watching or when of a signal outside its body", |draft, rng| {
-        use_in_node(draft, rng, 7, |kind| matches!(kind, 8 | 9))
-    }),
+    Sort::new(
+        10,
+        "watching or when of a signal outside its body",
+        |draft, rng| use_in_node(draft, rng, 7, |kind| matches!(kind, 8 | 9)),
+    ),
     Sort::new(10, "an expression and a node out of reach", |draft, rng| {
         use_in_node(draft, rng, 7, |kind| matches!(kind, 6 | 8 | 9))?;
         let node = find(rng, &draft.file.nodes, |node| node.kind == 2)?;
         let entry = draft.file.nodes[node];
         let reached = Reached::body(&draft.file, node);
-        use_in_expression(draft, rng, entry.field(0), |place| !reached.expressions[place])
+        use_in_expression(draft, rng, entry.field(0), |place| {
+            !reached.expressions[place]
+        })
     }),
     Sort::new(11, "one level changed", |draft, rng| {
         let name = rng.below(draft.file.names.len());
@@ -93,13 +115,19 @@ pub const SORTS: &[Sort] = &[
         draft.file.names.get_mut(name)?.level = level;
         Some(())
     }),
-    Sort::new(11, "one session name to the top, another to the bottom", |draft, rng| {
-        let names = &mut draft.file.names;
-        let session: Vec<usize> = (0..names.len()).filter(|&name| names[name].owner == SESSION).collect();
-        names[rng.pick(&session)?].level = draft.lattice.top as u8;
-        names[rng.pick(&session)?].level = draft.lattice.bottom as u8;
-        Some(())
-    }),
+    Sort::new(
+        11,
+        "one session name to the top, another to the bottom",
+        |draft, rng| {
+            let names = &mut draft.file.names;
+            let session: Vec<usize> = (0..names.len())
+                .filter(|&name| names[name].owner == SESSION)
+                .collect();
+            names[rng.pick(&session)?].level = draft.lattice.top as u8;
+            names[rng.pick(&session)?].level = draft.lattice.bottom as u8;
+            Some(())
+        },
+    ),
     Sort::new(11, "all levels at random", |draft, rng| {
         let count = draft.lattice.count();
         for name in &mut draft.file.names {
@@ -119,10 +147,14 @@ fn spare_expression(draft: &mut Draft, rng: &mut Rng) -> Option<()> {
     let place = rng.between(0, draft.file.expressions.len());
     let moved = |number: &mut u16| *number = after(*number, place);
     for e in &mut draft.file.expressions {
-        File::operand_fields(e.kind).iter().for_each(|&field| moved(e.field_mut(field)));
+        File::operand_fields(e.kind)
+            .iter()
+            .for_each(|&field| moved(e.field_mut(field)));
     }
     for node in &mut draft.file.nodes {
-        File::expression_field(node.kind).iter().for_each(|&field| moved(node.field_mut(field)));
+        File::expression_field(node.kind)
+            .iter()
+            .for_each(|&field| moved(node.field_mut(field)));
     }
     draft.file.expressions.insert(place, Entry::constant(0));
     Some(())
@@ -133,9 +165,15 @@ fn spare_node(draft: &mut Draft, rng: &mut Rng) -> Option<()> {
     let place = rng.below(draft.file.nodes.len());
     let moved = |number: &mut u16| *number = after(*number, place);
     for node in &mut draft.file.nodes {
-        File::child_fields(node.kind).iter().for_each(|&field| moved(node.field_mut(field)));
+        File::child_fields(node.kind)
+            .iter()
+            .for_each(|&field| moved(node.field_mut(field)));
     }
-    let owned = draft.file.names.iter_mut().filter(|name| name.owner != SESSION);
+    let owned = draft
+        .file
+        .names
+        .iter_mut()
+        .filter(|name| name.owner != SESSION);
     owned.for_each(|name| moved(&mut name.owner));
     draft.file.nodes.insert(place, Entry::default());
     Some(())
@@ -201,8 +239,9 @@ fn use_in_expression(
     fits: impl Fn(usize) -> bool,
 ) -> Option<()> {
     let list = &mut draft.file.expressions;
-    let places: Vec<usize> =
-        (0..list.len()).filter(|&place| list[place].kind < 2 && fits(place)).collect();
+    let places: Vec<usize> = (0..list.len())
+        .filter(|&place| list[place].kind < 2 && fits(place))
+        .collect();
     rng.pick(&places)?;
     for _ in 0..rng.between(1, 3) {
         list[rng.pick(&places)?] = Entry::register(register);
@@ -221,8 +260,9 @@ fn use_in_node(
     let name = draft.file.nodes[owner].a;
     let reached = Reached::body(&draft.file, owner);
     let list = &mut draft.file.nodes;
-    let places: Vec<usize> =
-        (0..list.len()).filter(|&place| fits(list[place].kind) && !reached.nodes[place]).collect();
+    let places: Vec<usize> = (0..list.len())
+        .filter(|&place| fits(list[place].kind) && !reached.nodes[place])
+        .collect();
     for _ in 0..rng.between(1, 3) {
         list[rng.pick(&places)?].a = name;
     }

@@ -71,7 +71,7 @@ impl Grower<'_> {
     }
 
     pub fn some_level(&mut self) -> usize {
-        self.rng.pick(&self.palette).unwrap_or(self.lattice.bottom)
+        self.rng.pick(&self.levels).unwrap_or(self.lattice.bottom)
     }
 
     /// A level that may be written and tested within the bounds, if there is one.
@@ -80,7 +80,10 @@ impl Grower<'_> {
             return None;
         }
         let level = self.some_level();
-        Some(self.lattice.meet(self.lattice.join(level, bounds.write), bounds.test))
+        Some(
+            self.lattice
+                .meet(self.lattice.join(level, bounds.write), bounds.test),
+        )
     }
 
     pub fn tests_at_most(&self, bounds: Bounds, level: usize) -> Bounds {
@@ -120,18 +123,31 @@ impl Grower<'_> {
         let between = self.middle(bounds).unwrap_or(bounds.test);
         match self.breaks(Rule::Sequence) {
             true => (bounds, bounds),
-            false => (self.tests_at_most(bounds, between), self.writes_at_least(bounds, between)),
+            false => (
+                self.tests_at_most(bounds, between),
+                self.writes_at_least(bounds, between),
+            ),
         }
     }
 
     /// The bounds of the parts of a parallel: T of each is at or below W of the other.
     pub fn left_and_right(&mut self, bounds: Bounds) -> (Bounds, Bounds) {
         let middle = self.middle(bounds).unwrap_or(bounds.test);
-        let other = if self.rng.chance(1, 3) { self.some_level() } else { middle };
-        let (left, right) = (self.tests_at_most(bounds, middle), self.writes_at_least(bounds, middle));
+        let other = if self.rng.chance(1, 3) {
+            self.some_level()
+        } else {
+            middle
+        };
+        let (left, right) = (
+            self.tests_at_most(bounds, middle),
+            self.writes_at_least(bounds, middle),
+        );
         match self.breaks(Rule::Parallel) {
             true => (left, right),
-            false => (self.writes_at_least(left, other), self.tests_at_most(right, other)),
+            false => (
+                self.writes_at_least(left, other),
+                self.tests_at_most(right, other),
+            ),
         }
     }
 }

@@ -12,6 +12,11 @@ impl Grower<'_> {
         self.expressions >= SPARE_EXPRESSIONS
     }
 
+    /// Counts expressions of the file as used.
+    pub fn take(&mut self, count: usize) {
+        self.expressions = self.expressions.saturating_sub(count);
+    }
+
     /// An expression over registers at or below `level`, mostly small.
     pub fn expression(&mut self, level: usize) -> Expression {
         let size = match self.rng.below(8) {
@@ -19,7 +24,7 @@ impl Grower<'_> {
             4..=6 => 3,
             _ => self.rng.between(2, 9),
         };
-        self.expressions = self.expressions.saturating_sub(size);
+        self.take(size);
         self.expression_of(level, size)
     }
 
@@ -30,10 +35,14 @@ impl Grower<'_> {
         }
         match self.name(false, |lattice, other| lattice.at_most(other, level)) {
             Some(name) => {
-                self.expressions = self.expressions.saturating_sub(3);
+                self.take(3);
                 let bound = value(self.rng);
                 match self.rng.below(3) {
-                    0 => binary(LESS, Expression::Register(name), Expression::Constant(bound)),
+                    0 => binary(
+                        LESS,
+                        Expression::Register(name),
+                        Expression::Constant(bound),
+                    ),
                     1 => not(Expression::Register(name)),
                     _ => Expression::Register(name),
                 }
@@ -51,7 +60,11 @@ impl Grower<'_> {
             _ => {
                 let (left, right) = self.split(size);
                 let operator = OPERATORS[self.rng.below(OPERATORS.len())];
-                binary(operator, self.expression_of(level, left), self.expression_of(level, right))
+                binary(
+                    operator,
+                    self.expression_of(level, left),
+                    self.expression_of(level, right),
+                )
             }
         }
     }

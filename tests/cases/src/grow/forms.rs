@@ -4,7 +4,7 @@ use super::{Bounds, Grower, Rule};
 use crate::rng::Rng;
 use crate::tree::{if_else, let_in, local, parallel, sequence, watching, when, while_do, Process};
 
-/// The forms of more than one node: nodes of the language, then motifs.
+/// The forms of more than one node: nodes of the language, then patterns.
 #[derive(Clone, Copy)]
 enum Form {
     Sequence,
@@ -36,7 +36,7 @@ const FORMS: [(Form, usize, usize); 13] = [
     (Form::PauseThen, 9, 8),
     (Form::Handshake, 7, 8),
     (Form::CutOff, 7, 8),
-    (Form::HeldBack, 18, 8),
+    (Form::HeldBack, 20, 8),
 ];
 
 /// A form of at most `size` nodes, by weight.
@@ -45,12 +45,12 @@ fn choose_form(rng: &mut Rng, size: usize) -> Form {
         true => weight,
         false => 0,
     };
-    let mut ticket = rng.below(FORMS.iter().map(weight).sum());
+    let mut draw = rng.below(FORMS.iter().map(weight).sum());
     for form in &FORMS {
-        if ticket < weight(form) {
+        if draw < weight(form) {
             return form.0;
         }
-        ticket -= weight(form);
+        draw -= weight(form);
     }
     Form::Waiting
 }
@@ -117,7 +117,11 @@ impl Grower<'_> {
         let test = self.test(self.lattice.meet(bounds.test, level));
         let then_bounds = self.guarded(Rule::If, bounds, level);
         let else_bounds = self.guarded(Rule::If, bounds, level);
-        if_else(test, self.process(then_bounds, yes), self.process(else_bounds, no))
+        if_else(
+            test,
+            self.process(then_bounds, yes),
+            self.process(else_bounds, no),
+        )
     }
 
     /// A loop on any test: it may never begin, and it may never end.
@@ -149,7 +153,11 @@ impl Grower<'_> {
 
     fn with_register(&mut self, bounds: Bounds, size: usize) -> Process {
         let level = self.some_level();
-        let ceiling = if self.breaks(Rule::Let) { self.lattice.top } else { level };
+        let ceiling = if self.breaks(Rule::Let) {
+            self.lattice.top
+        } else {
+            level
+        };
         let value = self.expression(ceiling);
         let Some(name) = self.declare(false, level) else {
             return self.leaf(bounds);

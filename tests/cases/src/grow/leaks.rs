@@ -1,6 +1,7 @@
 //! Small programs that let a reader see what is sealed, by breaking one rule and no other. The checker must
 //! refuse each of them; a checker without the rule would accept it, and a run would show the difference.
 
+use super::patterns::COUNT_DOWN;
 use super::{Bounds, Grower, Rule};
 use crate::tree::*;
 
@@ -25,13 +26,15 @@ impl Grower<'_> {
             return None;
         }
         let signal = self.rng.chance(1, 2);
-        let low = self.name(signal, |lattice, level| lattice.at_most(bounds.write, level))?;
+        let low = self.name(signal, |lattice, level| {
+            lattice.at_most(bounds.write, level)
+        })?;
         let low_level = self.names[low].level;
         let sealed_signal = matches!(careless.rule, Rule::When | Rule::Watching);
         let sealed = self.name(sealed_signal, |lattice, level| {
             lattice.at_most(level, bounds.test) && !lattice.at_most(level, low_level)
         })?;
-        self.expressions = self.expressions.saturating_sub(2);
+        self.take(COUNT_DOWN + 2);
         self.leak_by(careless.rule, low, sealed)
     }
 

@@ -8,7 +8,7 @@ mod bounds;
 mod expression;
 mod forms;
 mod leaks;
-mod motifs;
+mod patterns;
 
 use crate::file::{MOST_EXPRESSIONS, MOST_NAMES};
 use crate::order::Lattice;
@@ -35,8 +35,8 @@ struct Grower<'r> {
     rng: &'r mut Rng,
     lattice: &'r Lattice,
     careless: Option<Careless>,
-    /// The levels that names have: few, so that names of equal level meet.
-    palette: Vec<usize>,
+    /// The levels that names get: few, so that names of one level meet.
+    levels: Vec<usize>,
     names: Vec<Name>,
     /// The names in reach.
     scope: Vec<usize>,
@@ -46,12 +46,12 @@ struct Grower<'r> {
 
 /// Grows a script over the levels of `lattice`.
 pub fn script(rng: &mut Rng, lattice: &Lattice, style: Style) -> Script {
-    let palette = palette(rng, lattice, style.mixed);
+    let levels = some_levels(rng, lattice, style.mixed);
     let mut grower = Grower {
         rng,
         lattice,
         careless: style.careless,
-        palette,
+        levels,
         names: vec![],
         scope: vec![],
         expressions: MOST_EXPRESSIONS,
@@ -75,7 +75,7 @@ pub fn script(rng: &mut Rng, lattice: &Lattice, style: Style) -> Script {
 }
 
 /// One to four levels; if `mixed`, two of them one below the other, as far as the lattice has such.
-fn palette(rng: &mut Rng, lattice: &Lattice, mixed: bool) -> Vec<usize> {
+fn some_levels(rng: &mut Rng, lattice: &Lattice, mixed: bool) -> Vec<usize> {
     let (first, second) = (rng.below(lattice.count()), rng.below(lattice.count()));
     let mut levels = match rng.below(if mixed { 4 } else { 6 }) {
         0 | 1 => vec![lattice.bottom, lattice.top],
@@ -129,7 +129,11 @@ impl Grower<'_> {
         let any_level = self.breaks(Rule::Name);
         let (names, lattice) = (&self.names, self.lattice);
         let chosen = |name: &usize| {
-            let Name { signal: kind, level, .. } = names[*name];
+            let Name {
+                signal: kind,
+                level,
+                ..
+            } = names[*name];
             kind == signal && (any_level || fits(lattice, level))
         };
         let all: Vec<usize> = self.scope.iter().copied().filter(chosen).collect();
@@ -150,7 +154,9 @@ impl Grower<'_> {
         let process = match self.rng.below(10) {
             0 => None,
             1..=5 if self.has_expressions() => self.assignment(write),
-            _ => self.name(true, |lattice, level| lattice.at_most(write, level)).map(Process::Emit),
+            _ => self
+                .name(true, |lattice, level| lattice.at_most(write, level))
+                .map(Process::Emit),
         };
         process.unwrap_or(Process::Nil)
     }

@@ -4,6 +4,9 @@
 use super::{Bounds, Grower, Rule};
 use crate::tree::*;
 
+/// The most expressions that counting down takes.
+pub const COUNT_DOWN: usize = 7;
+
 impl Grower<'_> {
     /// A loop that counts down from a small number; six nodes or more.
     pub fn counted_loop(&mut self, bounds: Bounds, size: usize) -> Process {
@@ -13,7 +16,8 @@ impl Grower<'_> {
         let Some(counter) = self.declare(false, level) else {
             return self.any_loop(bounds, size);
         };
-        let rounds = self.rng.between(1, 4);
+        self.take(COUNT_DOWN);
+        let rounds = self.rng.between(1, 5);
         let mut within = Bounds::exactly(level);
         let loose = self.breaks(Rule::While);
         if loose {
@@ -33,26 +37,43 @@ impl Grower<'_> {
     }
 
     /// `let c = rounds in while c do (body; c := c - 1)`, or with the count before the body.
-    pub fn count_down(&mut self, counter: usize, rounds: usize, first: bool, body: Process) -> Process {
-        self.expressions = self.expressions.saturating_sub(7);
-        let less = binary(SUBTRACT, Expression::Register(counter), Expression::Constant(1));
+    pub fn count_down(
+        &mut self,
+        counter: usize,
+        rounds: usize,
+        first: bool,
+        body: Process,
+    ) -> Process {
+        let less = binary(
+            SUBTRACT,
+            Expression::Register(counter),
+            Expression::Constant(1),
+        );
         let count = Process::Assign(counter, less);
-        let round = if first { sequence(count, body) } else { sequence(body, count) };
+        let round = if first {
+            sequence(count, body)
+        } else {
+            sequence(body, count)
+        };
         let test = match self.rng.below(3) {
             0 => binary(LESS, Expression::Constant(0), Expression::Register(counter)),
             _ => Expression::Register(counter),
         };
-        let_in(counter, Expression::Constant(rounds as i32), while_do(test, round))
+        let_in(
+            counter,
+            Expression::Constant(rounds as i32),
+            while_do(test, round),
+        )
     }
 
     /// Bodies that are left half-way and entered again.
     fn loop_body(&mut self, bounds: Bounds, size: usize) -> Process {
-        match self.rng.below(6) {
+        match self.rng.below(8) {
             0 if size >= 7 => self.cut_off(bounds, size),
-            1 if size >= 7 => self.handshake(bounds, size),
-            2 if size >= 9 => self.pause_then(bounds, size),
-            3 if size >= 3 => self.in_parallel(bounds, size),
-            4 if size >= 3 => self.in_sequence(bounds, size),
+            1..=3 if size >= 7 => self.handshake(bounds, size),
+            4 if size >= 9 => self.pause_then(bounds, size),
+            5 if size >= 3 => self.in_parallel(bounds, size),
+            6 if size >= 3 => self.in_sequence(bounds, size),
             _ => self.process(bounds, size),
         }
     }
@@ -67,7 +88,9 @@ impl Grower<'_> {
     pub fn pause_then(&mut self, bounds: Bounds, size: usize) -> Process {
         // The lowest level leaves what follows the most freedom.
         let lowest = self.rng.chance(2, 3);
-        let Some(level) = self.middle(bounds).map(|level| if lowest { bounds.write } else { level })
+        let Some(level) = self
+            .middle(bounds)
+            .map(|level| if lowest { bounds.write } else { level })
         else {
             return self.in_sequence(bounds, size);
         };
@@ -115,20 +138,29 @@ impl Grower<'_> {
         let (first, second) = self.split(size - 4);
         let body = match self.rng.chance(1, 2) {
             true => {
-                let (before, after) = self.before_and_after(Bounds { write: level, ..bounds });
+                let (before, after) = self.before_and_after(Bounds {
+                    write: level,
+                    ..bounds
+                });
                 let after = self.writes_at_least(after, level);
-                sequence(self.process(before, first), when(never, self.process(after, second)))
+                sequence(
+                    self.process(before, first),
+                    when(never, self.process(after, second)),
+                )
             }
             false => {
                 let within = Bounds::exactly(level);
-                parallel(when(never, self.process(within, second)), self.process(within, first))
+                parallel(
+                    when(never, self.process(within, second)),
+                    self.process(within, first),
+                )
             }
         };
         sequence(Process::Emit(kill), watching(kill, body))
     }
 
     /// `(when a do do P watching b) || (emit b; pause; emit a; Q)`: the when keeps an instant change from its
-    /// body, until a later instant. Eighteen nodes or more.
+    /// body, until a later instant. Twenty nodes or more.
     pub fn held_back(&mut self, bounds: Bounds, size: usize) -> Process {
         let Some(level) = self.middle(bounds) else {
             return self.in_parallel(bounds, size);
@@ -137,9 +169,12 @@ impl Grower<'_> {
             return self.in_parallel(bounds, size);
         };
         let within = Bounds::exactly(level);
-        let (first, second) = self.split(size - 15);
+        let (first, second) = self.split(size - 17);
         let waits = when(a, watching(b, when(a, self.process(within, first))));
-        let later = sequence(pause, sequence(Process::Emit(a), self.process(within, second)));
+        let later = sequence(
+            pause,
+            sequence(Process::Emit(a), self.process(within, second)),
+        );
         let sends = sequence(Process::Emit(b), later);
         let threads = match self.rng.chance(1, 2) {
             true => parallel(waits, sends),
@@ -165,10 +200,12 @@ impl Grower<'_> {
         let Some(level) = self.middle(bounds) else {
             return self.process(bounds, size);
         };
-        let (Some(tick), Some(tock), true) = (signal(self, level), signal(self, level), size > 20) else {
+        let (Some(tick), Some(tock), true) = (signal(self, level), signal(self, level), size > 20)
+        else {
             return self.process(bounds, size);
         };
-        let (Some((never, now)), Some(counter)) = (self.two_signals(level), self.declare(false, level))
+        let (Some((never, now)), Some(counter)) =
+            (self.two_signals(level), self.declare(false, level))
         else {
             return self.process(bounds, size);
         };
@@ -177,6 +214,7 @@ impl Grower<'_> {
             true => Process::Emit(tick),
             false => sequence(Process::Emit(tick), Process::Emit(tock)),
         };
+        self.take(COUNT_DOWN);
         let rounds = self.rng.between(2, 6);
         let clock = self.count_down(counter, rounds, true, sequence(emits, pause(never, now)));
         let clock = local(never, local(now, clock));
