@@ -1,1 +1,20 @@
-//! Stub.
+//! The library against the second interpreter: on seeded cases, on the papers' examples, on pairs of runs
+//! (demand 3), and against the second interpreter with planted faults, each of which must show.
+#![deny(unsafe_code)]
+
+pub mod checks;
+pub mod coverage;
+pub mod demand_three;
+pub mod difference;
+pub mod engine;
+pub mod examples;
+pub mod faults;
+mod floors;
+pub mod guarded;
+pub mod long_runs;
+pub mod outcome;
+mod raw;
+pub mod report;
+pub mod shrink;
+pub mod sweep;
+pub mod tightest;

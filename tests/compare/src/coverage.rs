@@ -1,0 +1,232 @@
+//! What the compared cases reached. A comparison that reaches too little of something fails.
+
+use crate::floors;
+use crate::outcome::Outcome;
+use cases::damage::{self, Sort};
+use cases::file::File;
+use cases::Made;
+use std::collections::BTreeMap;
+use std::fmt;
+
+/// Counts by what was reached, in the order of the table.
+#[derive(Default)]
+pub struct Coverage {
+    pub cases: u64,
+    counts: BTreeMap<(Topic, String), u64>,
+}
+
+#[derive(Clone, Copy, PartialEq, Eq, PartialOrd, Ord)]
+enum Topic {
+    Cases,
+    Refusal,
+    FlowAt,
+    Ending,
+    Run,
+    Fault,
+}
+
+/// The number of cases that the floors are stated for; others in proportion.
+const USUAL: u64 = 60_000;
+
+/// Every refusal, ending and kind of run in the hundreds, so that a rule that is wrong in one case of
+/// twenty is still met several times.
+const FLOOR: u64 = 200;
+
+/// The largest files are slow, and few.
+const LARGE_FLOOR: u64 = 100;
+
+/// Each single sort of fault, answered by its own refusal: some need a part that few scripts have.
+const SORT_FLOOR: u64 = 40;
+
+const KINDS: [&str; 11] = [
+    "nil", "assign", "let", "if", "while", "sequence", "emit", "local", "watching", "when",
+    "parallel",
+];
+
+const ENDINGS: [&str; 3] = ["finished", "spent", "log full"];
+
+/// What a run may show, with its floor.
+const NOTES: [(&str, u64); 12] = [
+    ("several instants", FLOOR),
+    ("lines written", FLOOR),
+    ("finished after several instants", FLOOR),
+    ("limit met exactly", FLOOR),
+    ("log filled exactly", FLOOR),
+    ("a let or local inside a loop, several instants", FLOOR),
+    ("lines for owned names", FLOOR),
+    ("100 steps or more", FLOOR),
+    ("100 nodes or more", FLOOR),
+    ("256 nodes", LARGE_FLOOR),
+    ("256 expressions", LARGE_FLOOR),
+    ("64 names", LARGE_FLOOR),
+];
+
+/// Notes about cases and what was compared beside them.
+pub const PAIRS_COMPARED: &str = "compared with every pair of Figure 5";
+pub const WRONG_OUT: &str = "called with a wrong out";
+pub const NEAR_ENDING: &str = "compared again near the ending";
+pub const ENTERED_AGAIN: &str = "a local entered again while its signal was present";
+const ACCEPTED: &str = "accepted";
+const SEVERAL_FAULTS: &str = "several faults at once";
+
+impl Coverage {
+    fn count(&mut self, topic: Topic, what: impl Into<String>) {
+        *self.counts.entry((topic, what.into())).or_default() += 1;
+    }
+
+    /// Counts an extra comparison that belongs to a case.
+    pub fn extra(&mut self, what: &str) {
+        self.count(Topic::Cases, what);
+    }
+
+    pub fn record(&mut self, made: &Made, outcome: &Outcome) {
+        self.cases += 1;
+        if made.faults.len() > 1 {
+            self.count(Topic::Cases, SEVERAL_FAULTS);
+        }
+        for fault in &made.faults {
+            if fault.refusal == outcome.refusal() {
+                self.count(Topic::Fault, sort_name(fault));
+            }
+        }
+        if outcome.accepted() {
+            self.count(Topic::Cases, ACCEPTED);
+        }
+        match outcome.refusal() {
+            0 => self.record_run(made, outcome),
+            number => self.count(Topic::Refusal, format!("{number:2}")),
+        }
+        if let (11, Some(file)) = (outcome.refusal(), File::read(&made.case.script)) {
+            let kind = file
+                .nodes
+                .get(outcome.run[1] as usize)
+                .map_or(0, |node| node.kind);
+            self.count(
+                Topic::FlowAt,
+                KINDS.get(usize::from(kind)).copied().unwrap_or("?"),
+            );
+        }
+    }
+
+    /// Counts how another run of a recorded case ended.
+    pub fn record_again(&mut self, made: &Made, outcome: &Outcome) {
+        if outcome.refusal() == 0 {
+            self.record_run(made, outcome);
+        }
+    }
+
+    fn record_run(&mut self, made: &Made, outcome: &Outcome) {
+        let ending = ENDINGS
+            .get(outcome.ending() as usize)
+            .copied()
+            .unwrap_or("?");
+        self.count(Topic::Ending, ending);
+        let case = &made.case;
+        let Some(file) = File::read(&case.script) else {
+            return;
+        };
+        let several = outcome.instants() > 1;
+        let full = 4 * outcome.lines() as usize == case.log && case.log > 0;
+        let reached: [bool; NOTES.len()] = [
+            several,
+            outcome.lines() > 0,
+            several && outcome.ending() == 0,
+            outcome.steps() == case.limit && outcome.ending() == 0,
+            full && outcome.ending() != 2,
+            several && declares_in_a_loop(&file),
+            owned_lines(&file, outcome),
+            outcome.steps() >= 100,
+            file.nodes.len() >= 100,
+            file.nodes.len() == 256,
+            file.expressions.len() == 256,
+            file.names.len() == 64,
+        ];
+        for ((note, _), _) in NOTES.iter().zip(reached).filter(|(_, reached)| *reached) {
+            self.count(Topic::Run, *note);
+        }
+    }
+
+    /// Everything that has a floor: its topic, its name, and the floor for the usual number of cases.
+    fn floors() -> Vec<(Topic, String, u64)> {
+        let mut all = vec![];
+        all.push((Topic::Cases, ACCEPTED.to_string(), USUAL / 3));
+        for note in [
+            PAIRS_COMPARED,
+            WRONG_OUT,
+            NEAR_ENDING,
+            SEVERAL_FAULTS,
+            ENTERED_AGAIN,
+        ] {
+            all.push((Topic::Cases, note.to_string(), FLOOR));
+        }
+        all.extend((1..=14).map(|number| (Topic::Refusal, format!("{number:2}"), FLOOR)));
+        let needs = [1, 2, 3, 4, 5, 8, 9, 10].map(|kind: usize| KINDS[kind]);
+        all.extend(needs.map(|kind| (Topic::FlowAt, kind.to_string(), SORT_FLOOR)));
+        all.extend(ENDINGS.map(|ending| (Topic::Ending, ending.to_string(), FLOOR)));
+        all.extend(NOTES.map(|(note, floor)| (Topic::Run, note.to_string(), floor)));
+        all.extend(damage::sorts().map(|sort| (Topic::Fault, sort_name(sort), SORT_FLOOR)));
+        all
+    }
+
+    /// What was reached too seldom.
+    pub fn missing(&self) -> Vec<String> {
+        let too_few = |(topic, what, floor): (Topic, String, u64)| {
+            let floor = floors::floor(floor, self.cases, USUAL);
+            let seen = self
+                .counts
+                .get(&(topic, what.clone()))
+                .copied()
+                .unwrap_or(0);
+            (seen < floor).then(|| format!("{} {what}: {seen} of at least {floor}", title(topic)))
+        };
+        Coverage::floors().into_iter().filter_map(too_few).collect()
+    }
+
+    /// How many things have a floor.
+    pub fn floor_count() -> usize {
+        Coverage::floors().len()
+    }
+}
+
+fn sort_name(sort: &Sort) -> String {
+    format!("{:2} {}", sort.refusal, sort.says)
+}
+
+/// Whether a declaration lies in the body of a loop; the file is a checked one.
+pub fn declares_in_a_loop(file: &File) -> bool {
+    let mut inside = vec![false; file.nodes.len()];
+    for (place, node) in file.nodes.iter().enumerate().rev() {
+        for &field in File::child_fields(node.kind) {
+            inside[node.field(field)] = inside[place] || node.kind == 4;
+        }
+    }
+    let declares = |place: usize| matches!(file.nodes[place].kind, 2 | 7);
+    (0..file.nodes.len()).any(|place| inside[place] && declares(place))
+}
+
+fn owned_lines(file: &File, outcome: &Outcome) -> bool {
+    let owned = |name: u32| file.names[name as usize].owner != cases::file::SESSION;
+    let lines = outcome.log.chunks_exact(4).take(outcome.lines() as usize);
+    lines.into_iter().any(|line| owned(line[2]))
+}
+
+fn title(topic: Topic) -> &'static str {
+    match topic {
+        Topic::Cases => "cases",
+        Topic::Refusal => "refusal",
+        Topic::FlowAt => "refusal 11 at",
+        Topic::Ending => "ending",
+        Topic::Run => "run",
+        Topic::Fault => "fault answered by its refusal",
+    }
+}
+
+impl fmt::Display for Coverage {
+    fn fmt(&self, out: &mut fmt::Formatter) -> fmt::Result {
+        for ((topic, what), count) in &self.counts {
+            let what = format!("{}: {what}", title(*topic));
+            writeln!(out, "  {what:<72} {count:>8}")?;
+        }
+        Ok(())
+    }
+}

@@ -1,0 +1,76 @@
+//! A case on which the library and the reference differ, and how to show it.
+
+use crate::engine::Engine;
+use crate::outcome::{outcome, Outcome};
+use cases::file::File;
+use cases::{text, Case};
+use std::fmt;
+
+/// What was seen, for which case, under which seed.
+#[derive(Debug)]
+pub struct Difference {
+    pub seed: u64,
+    pub case: Case,
+    pub says: String,
+}
+
+/// Compares two engines on one case; gives what both say, or how they differ.
+pub fn compare(one: &dyn Engine, other: &dyn Engine, case: &Case) -> Result<Outcome, String> {
+    let (first, second) = (outcome(one, case)?, outcome(other, case)?);
+    if first == second {
+        return Ok(first);
+    }
+    let mut says = String::new();
+    if first.check != second.check {
+        says += &format!(
+            "\n  check      {:?} against {:?}",
+            first.check, second.check
+        );
+    }
+    if first.run != second.run {
+        says += &format!("\n  run        {:?} against {:?}", first.run, second.run);
+    }
+    if first.values != second.values {
+        says += &format!(
+            "\n  values     {:?} against {:?}",
+            first.values, second.values
+        );
+    }
+    if let Some(place) = (0..case.log).find(|&place| first.log[place] != second.log[place]) {
+        says += &format!(
+            "\n  log word {place}: {} against {}",
+            first.log[place], second.log[place]
+        );
+    }
+    Err(says)
+}
+
+fn hex(bytes: &[u8]) -> String {
+    bytes.iter().map(|byte| format!("{byte:02x}")).collect()
+}
+
+/// A case as hexadecimal bytes and numbers, and its script as text where it can be read.
+pub fn show(case: &Case) -> String {
+    let Case {
+        book,
+        script,
+        reader,
+        values,
+        limit,
+        log,
+    } = case;
+    let text = File::read(script).map_or("unreadable".into(), |file| text::show(&file));
+    format!(
+        "  book       {}\n  script     {}\n  reads      {text}\n  reader {reader}, values {values:?}, \
+         limit {limit}, log of {log} words",
+        hex(book),
+        hex(script)
+    )
+}
+
+impl fmt::Display for Difference {
+    fn fmt(&self, out: &mut fmt::Formatter) -> fmt::Result {
+        let Difference { seed, case, says } = self;
+        write!(out, "difference, case seed {seed}: {says}\n{}", show(case))
+    }
+}

@@ -1,0 +1,122 @@
+//! The two calls of the C interface, answered by the library or by the reference.
+
+use crate::raw;
+use reference::Rules;
+use station::Ending;
+
+/// One call's arguments, beside the level book and the script file.
+pub struct RunArguments<'a> {
+    pub reader: u32,
+    pub values: &'a mut [i32],
+    pub limit: u32,
+    pub log: &'a mut [u32],
+}
+
+/// Something that checks and runs scripts. Answers go into `out`, as the C interface has it.
+pub trait Engine {
+    fn check(&self, book: &[u8], script: &[u8], out: &mut [u32]);
+    fn run(&self, book: &[u8], script: &[u8], arguments: RunArguments, out: &mut [u32]);
+}
+
+/// The library by its C interface.
+pub struct Raw;
+
+impl Engine for Raw {
+    fn check(&self, book: &[u8], script: &[u8], out: &mut [u32]) {
+        raw::check(book, script, out);
+    }
+
+    fn run(&self, book: &[u8], script: &[u8], arguments: RunArguments, out: &mut [u32]) {
+        raw::run(book, script, arguments, out);
+    }
+}
+
+/// The library by its safe wrapper.
+pub struct Wrapper;
+
+impl Engine for Wrapper {
+    fn check(&self, book: &[u8], script: &[u8], out: &mut [u32]) {
+        let answer = match station::check(book, script) {
+            Ok(levels) => [0, 0, levels.write, levels.test],
+            Err(refusal) => [refusal.reason.number(), refusal.place, 0, 0],
+        };
+        put(out, &answer);
+    }
+
+    fn run(&self, book: &[u8], script: &[u8], arguments: RunArguments, out: &mut [u32]) {
+        let RunArguments {
+            reader,
+            values,
+            limit,
+            log,
+        } = arguments;
+        let answer = match station::run(book, script, reader, values, limit, log) {
+            Ok(run) => {
+                let lines = run.lines.try_into().unwrap_or(u32::MAX);
+                [
+                    0,
+                    0,
+                    ending_number(run.ending),
+                    run.steps,
+                    run.instants,
+                    lines,
+                ]
+            }
+            Err(refusal) => [refusal.reason.number(), refusal.place, 0, 0, 0, 0],
+        };
+        put(out, &answer);
+    }
+}
+
+/// 01's number of an ending.
+fn ending_number(ending: Ending) -> u32 {
+    match ending {
+        Ending::Finished => 0,
+        Ending::Spent => 1,
+        Ending::LogFull => 2,
+        Ending::Unknown(number) => number,
+        _ => u32::MAX,
+    }
+}
+
+/// The second interpreter, by the papers' rules or with one fault.
+pub struct Reference(pub Rules);
+
+impl Engine for Reference {
+    fn check(&self, book: &[u8], script: &[u8], out: &mut [u32]) {
+        let answer = reference::check(self.0, book, script);
+        put(
+            out,
+            &[answer.number, answer.place, answer.write, answer.test],
+        );
+    }
+
+    fn run(&self, book: &[u8], script: &[u8], arguments: RunArguments, out: &mut [u32]) {
+        let RunArguments {
+            reader,
+            values,
+            limit,
+            log,
+        } = arguments;
+        let answer = reference::run(self.0, book, script, reader, values, limit, log);
+        let (ending, steps) = (answer.ending, answer.steps);
+        put(
+            out,
+            &[
+                answer.number,
+                answer.place,
+                ending,
+                steps,
+                answer.instants,
+                answer.lines,
+            ],
+        );
+    }
+}
+
+/// Writes an answer where `out` has its length, and nothing elsewhere.
+fn put(out: &mut [u32], answer: &[u32]) {
+    if out.len() == answer.len() {
+        out.copy_from_slice(answer);
+    }
+}

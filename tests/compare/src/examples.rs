@@ -1,0 +1,74 @@
+//! The papers' examples, against the library by both ways in and against the reference.
+
+use crate::engine::{Engine, Raw, Reference, Wrapper};
+use crate::outcome::outcome;
+use cases::Case;
+use reference::examples::{Example, ExampleRun};
+use reference::Rules;
+
+/// Whether every engine answers an example as the papers say.
+pub fn holds(example: &Example) -> Result<(), String> {
+    let reference = Reference(Rules::default());
+    let engines: [(&str, &dyn Engine); 3] = [
+        ("library", &Raw),
+        ("wrapper", &Wrapper),
+        ("reference", &reference),
+    ];
+    for (name, engine) in engines {
+        checks(engine, example).map_err(|says| format!("{name}: {says}"))?;
+        for run in &example.runs {
+            runs(engine, example, run).map_err(|says| format!("{name}: {says}"))?;
+        }
+    }
+    Ok(())
+}
+
+fn checks(engine: &dyn Engine, example: &Example) -> Result<(), String> {
+    let mut out = [u32::MAX; 4];
+    engine.check(&example.book, &example.script, &mut out);
+    let answer = example.expected_check;
+    equal(
+        "check",
+        &out,
+        &[answer.number, answer.place, answer.write, answer.test],
+    )
+}
+
+fn runs(engine: &dyn Engine, example: &Example, run: &ExampleRun) -> Result<(), String> {
+    let case = Case {
+        book: example.book.clone(),
+        script: example.script.clone(),
+        reader: run.reader,
+        values: run.values.clone(),
+        limit: run.limit,
+        log: run.log,
+    };
+    let seen = outcome(engine, &case)?;
+    let answer = run.answer;
+    let (ending, steps) = (answer.ending, answer.steps);
+    let expected = [
+        answer.number,
+        answer.place,
+        ending,
+        steps,
+        answer.instants,
+        answer.lines,
+    ];
+    equal("run", &seen.run, &expected)?;
+    equal("values", &seen.values, &run.values_after)?;
+    let lines: Vec<u32> = run.lines.iter().flatten().copied().collect();
+    equal("log", &seen.log[..lines.len().min(seen.log.len())], &lines)
+}
+
+fn equal<T: PartialEq + std::fmt::Debug>(
+    what: &str,
+    seen: &[T],
+    expected: &[T],
+) -> Result<(), String> {
+    match seen == expected {
+        true => Ok(()),
+        false => Err(format!(
+            "{what} gives {seen:?}, the papers say {expected:?}"
+        )),
+    }
+}

@@ -1,0 +1,45 @@
+//! Planted faults: the comparison must find each of them.
+
+use crate::engine::Reference;
+use crate::outcome::outcome;
+use crate::sweep::{case_seed, library};
+use cases::Rng;
+use reference::{Fault, Rules};
+
+/// A planted fault, and the number of the case that showed it, from 1.
+pub struct Finding {
+    pub fault: Fault,
+    pub found: Option<u64>,
+}
+
+/// The most cases that are tried.
+pub const MOST_CASES: u64 = 60_000;
+
+/// Looks for every fault at once: each case is given to the library once, and to the reference under
+/// every fault that is still to be found.
+pub fn find_all(seed: u64) -> Vec<Finding> {
+    let unfound = |&fault: &Fault| Finding { fault, found: None };
+    let mut findings: Vec<Finding> = Fault::ALL.iter().map(unfound).collect();
+    for number in 0..MOST_CASES {
+        let seed = case_seed(seed, number);
+        let case = cases::case(&mut Rng::new(seed));
+        let right = outcome(library(seed), &case);
+        let mut left = 0;
+        for finding in findings
+            .iter_mut()
+            .filter(|finding| finding.found.is_none())
+        {
+            let rules = Rules {
+                fault: Some(finding.fault),
+            };
+            match outcome(&Reference(rules), &case) == right {
+                true => left += 1,
+                false => finding.found = Some(number + 1),
+            }
+        }
+        if left == 0 {
+            break;
+        }
+    }
+    findings
+}

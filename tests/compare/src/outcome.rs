@@ -1,0 +1,262 @@
+//! What an engine makes of a case, with every buffer guarded.
+
+use crate::engine::{Engine, RunArguments};
+use crate::guarded::Guarded;
+use cases::Case;
+
+const BYTE_GUARD: u8 = 0xc3;
+const WORD_GUARD: u32 = 0xfeed_5354;
+const VALUE_GUARD: i32 = 0x7ead_beef;
+
+/// What the words of `out` hold before a call.
+const UNWRITTEN: u32 = 0xdead_c0de;
+
+/// Everything that a caller sees after check and run.
+#[derive(Clone, Debug, PartialEq, Eq)]
+pub struct Outcome {
+    /// Number, place, W, T.
+    pub check: Vec<u32>,
+    /// Number, place, ending, steps, instants, lines.
+    pub run: Vec<u32>,
+    pub values: Vec<i32>,
+    pub log: Vec<u32>,
+}
+
+impl Outcome {
+    pub fn refusal(&self) -> u32 {
+        self.run[0]
+    }
+
+    pub fn ending(&self) -> u32 {
+        self.run[2]
+    }
+
+    pub fn steps(&self) -> u32 {
+        self.run[3]
+    }
+
+    pub fn instants(&self) -> u32 {
+        self.run[4]
+    }
+
+    pub fn lines(&self) -> u32 {
+        self.run[5]
+    }
+
+    pub fn accepted(&self) -> bool {
+        self.check[0] == 0
+    }
+}
+
+/// What a log holds before a run: words that no line has.
+pub fn fresh_log(words: usize) -> Vec<u32> {
+    (0..words as u32).map(|place| 0xa5a5_0000 ^ place).collect()
+}
+
+/// The buffers of one case.
+struct Buffers {
+    book: Guarded<u8>,
+    script: Guarded<u8>,
+    values: Guarded<i32>,
+    log: Guarded<u32>,
+}
+
+impl Buffers {
+    fn new(case: &Case) -> Buffers {
+        Buffers {
+            book: Guarded::new(&case.book, BYTE_GUARD),
+            script: Guarded::new(&case.script, BYTE_GUARD),
+            values: Guarded::new(&case.values, VALUE_GUARD),
+            log: Guarded::new(&fresh_log(case.log), WORD_GUARD),
+        }
+    }
+
+    /// Calls check with an `out` of `words`, and gives `out`.
+    fn check(&mut self, engine: &dyn Engine, words: usize) -> Result<Vec<u32>, String> {
+        let mut out = Guarded::new(&vec![UNWRITTEN; words], WORD_GUARD);
+        engine.check(self.book.slice(), self.script.slice(), out.slice_mut());
+        guards_hold("check", &[("out", out.intact())])?;
+        Ok(out.slice().to_vec())
+    }
+
+    /// Calls run with an `out` of `words`, and gives `out`.
+    fn run(&mut self, engine: &dyn Engine, case: &Case, words: usize) -> Result<Vec<u32>, String> {
+        let mut out = Guarded::new(&vec![UNWRITTEN; words], WORD_GUARD);
+        let arguments = RunArguments {
+            reader: case.reader,
+            values: self.values.slice_mut(),
+            limit: case.limit,
+            log: self.log.slice_mut(),
+        };
+        engine.run(
+            self.book.slice(),
+            self.script.slice(),
+            arguments,
+            out.slice_mut(),
+        );
+        guards_hold("run", &[("out", out.intact())])?;
+        Ok(out.slice().to_vec())
+    }
+
+    /// Book and script are read only; no call writes outside a buffer.
+    fn hold(&self, case: &Case, call: &str) -> Result<(), String> {
+        let book = self.book.intact() && self.book.slice() == case.book;
+        let script = self.script.intact() && self.script.slice() == case.script;
+        let (values, log) = (self.values.intact(), self.log.intact());
+        guards_hold(
+            call,
+            &[
+                ("book", book),
+                ("script", script),
+                ("values", values),
+                ("log", log),
+            ],
+        )
+    }
+
+    fn untouched(&self, case: &Case) -> bool {
+        self.values.slice() == case.values && self.log.slice() == fresh_log(case.log)
+    }
+}
+
+fn guards_hold(call: &str, buffers: &[(&str, bool)]) -> Result<(), String> {
+    match buffers.iter().find(|(_, holds)| !holds) {
+        Some((buffer, _)) => Err(format!("{call} wrote where it must not: {buffer}")),
+        None => Ok(()),
+    }
+}
+
+/// Checks and runs a case; an error says what an engine did to a buffer that it must leave.
+pub fn outcome(engine: &dyn Engine, case: &Case) -> Result<Outcome, String> {
+    let mut buffers = Buffers::new(case);
+    let check = buffers.check(engine, 4)?;
+    buffers.hold(case, "check")?;
+    if !buffers.untouched(case) {
+        return Err("check changed values or log".into());
+    }
+    let run = buffers.run(engine, case, 6)?;
+    buffers.hold(case, "run")?;
+    if run[0] != 0 && !buffers.untouched(case) {
+        return Err("a refused run changed values or log".into());
+    }
+    let written = (run[5] as usize).saturating_mul(4);
+    if buffers
+        .log
+        .slice()
+        .iter()
+        .skip(written)
+        .ne(fresh_log(case.log).iter().skip(written))
+    {
+        return Err("words after the last line changed".into());
+    }
+    Ok(Outcome {
+        check,
+        run,
+        values: buffers.values.slice().to_vec(),
+        log: buffers.log.slice().to_vec(),
+    })
+}
+
+/// Calls with `out` of a wrong length, which must leave everything as it was.
+pub fn wrong_out(engine: &dyn Engine, case: &Case, words: usize) -> Result<(), String> {
+    let mut buffers = Buffers::new(case);
+    let mut outs = vec![];
+    if words != 4 {
+        outs.extend(buffers.check(engine, words)?);
+    }
+    if words != 6 {
+        outs.extend(buffers.run(engine, case, words)?);
+    }
+    buffers.hold(case, "a call with a wrong out")?;
+    if !buffers.untouched(case) || outs.iter().any(|&word| word != UNWRITTEN) {
+        return Err(format!("an out of {words} words was not left untouched"));
+    }
+    Ok(())
+}
+
+#[cfg(test)]
+mod tests {
+    use super::*;
+    use crate::engine::{Raw, Reference};
+    use reference::Rules;
+
+    /// The reference, with a change of what it leaves.
+    struct Altered(fn(&mut RunArguments, &mut [u32]));
+
+    impl Engine for Altered {
+        fn check(&self, book: &[u8], script: &[u8], out: &mut [u32]) {
+            Reference(Rules::default()).check(book, script, out);
+        }
+
+        fn run(&self, book: &[u8], script: &[u8], mut arguments: RunArguments, out: &mut [u32]) {
+            let RunArguments { reader, limit, .. } = arguments;
+            let again = RunArguments {
+                reader,
+                limit,
+                values: &mut *arguments.values,
+                log: &mut *arguments.log,
+            };
+            Reference(Rules::default()).run(book, script, again, out);
+            (self.0)(&mut arguments, out);
+        }
+    }
+
+    /// 01's example: `x := 7`.
+    fn example() -> Case {
+        let script = [
+            0x0000_ffff_u32,
+            0x0000_0000,
+            0x0000_0007,
+            0x0100_0000,
+            0x0000_0000,
+            0x0004_000c,
+            0x0014_5354,
+        ];
+        Case {
+            book: vec![2, 0, 3, 0, 2],
+            script: script.iter().flat_map(|word| word.to_be_bytes()).collect(),
+            reader: 0,
+            values: vec![0],
+            limit: 1000,
+            log: 10,
+        }
+    }
+
+    #[test]
+    fn the_example_of_01() {
+        let seen = outcome(&Raw, &example()).unwrap();
+        assert_eq!(seen.check, [0, 0, 0, 0]);
+        assert_eq!(seen.run, [0, 0, 0, 1, 0, 1]);
+        assert_eq!(seen.values, [7]);
+        assert_eq!(seen.log[..4], [1, 0, 0, 7]);
+        assert_eq!(outcome(&Altered(|_, _| ()), &example()), Ok(seen));
+    }
+
+    #[test]
+    fn words_after_the_last_line_are_watched() {
+        let engine = Altered(|arguments, _| arguments.log[4] = 0);
+        assert!(outcome(&engine, &example()).is_err());
+    }
+
+    #[test]
+    fn a_refused_run_must_leave_values_and_log() {
+        let refused = Case {
+            reader: 2,
+            ..example()
+        };
+        assert!(outcome(&Altered(|_, _| ()), &refused).is_ok());
+        assert!(outcome(&Altered(|arguments, _| arguments.values[0] = 1), &refused).is_err());
+        assert!(outcome(&Altered(|arguments, _| arguments.log[9] = 1), &refused).is_err());
+    }
+
+    #[test]
+    fn a_wrong_out_must_be_left() {
+        for words in [0, 1, 3, 4, 5, 6, 7, 100] {
+            assert_eq!(wrong_out(&Raw, &example(), words), Ok(()));
+        }
+        let engine = Altered(|_, out| out.iter_mut().for_each(|word| *word = 0));
+        assert!(wrong_out(&engine, &example(), 5).is_err());
+        let engine = Altered(|arguments, _| arguments.values[0] = 9);
+        assert!(wrong_out(&engine, &example(), 0).is_err());
+    }
+}

@@ -1,0 +1,143 @@
+//! The comparison: the library against the reference on seeded cases.
+
+use crate::coverage::{self, declares_in_a_loop, Coverage};
+use crate::difference::{compare, show, Difference};
+use crate::engine::{Engine, Raw, Reference, Wrapper};
+use crate::outcome::{outcome, wrong_out, Outcome};
+use crate::shrink::shrink;
+use crate::tightest;
+use cases::file::File;
+use cases::{Case, Made, Rng};
+use reference::{Fault, Rules};
+
+/// The seed of a case: its number under the seed of the sweep.
+pub fn case_seed(seed: u64, number: u64) -> u64 {
+    (seed << 32).wrapping_add(number)
+}
+
+/// Compares `count` cases.
+pub fn sweep(count: u64, seed: u64) -> Result<Coverage, Difference> {
+    let mut coverage = Coverage::default();
+    for number in 0..count {
+        one(case_seed(seed, number), &mut coverage)?;
+    }
+    Ok(coverage)
+}
+
+/// Calls alternate between the C interface and the wrapper.
+pub fn library(seed: u64) -> &'static dyn Engine {
+    match seed % 2 {
+        0 => &Raw,
+        _ => &Wrapper,
+    }
+}
+
+/// Compares the case of a seed, and what belongs to it.
+pub fn one(seed: u64, coverage: &mut Coverage) -> Result<(), Difference> {
+    let mut rng = Rng::new(seed);
+    let made = cases::made(&mut rng);
+    let outcome = agree(seed, &made.case)?;
+    let difference = |says: String| Difference {
+        seed,
+        case: made.case.clone(),
+        says,
+    };
+    if rng.chance(1, 3) {
+        if let Some(result) = tightest::compare(&made.case, &outcome) {
+            result.map_err(difference)?;
+            coverage.extra(coverage::PAIRS_COMPARED);
+        }
+    }
+    if rng.chance(1, 16) {
+        let words = [0, 1, 2, 3, 4, 5, 6, 7, 8, 12, 24][rng.below(11)];
+        wrong_out(&Raw, &made.case, words).map_err(difference)?;
+        coverage.extra(coverage::WRONG_OUT);
+    }
+    if enters_local_again(&made.case, &outcome) {
+        coverage.extra(coverage::ENTERED_AGAIN);
+    }
+    coverage.record(&made, &outcome);
+    near(seed, &made, &outcome, &mut rng, coverage)
+}
+
+/// Whether a local is entered again while its signal is present: the outcome is another if the signal stays.
+fn enters_local_again(case: &Case, right: &Outcome) -> bool {
+    if right.refusal() != 0
+        || !File::read(&case.script).is_some_and(|file| declares_in_a_loop(&file))
+    {
+        return false;
+    }
+    let rules = Rules {
+        fault: Some(Fault::LocalNotReset),
+    };
+    outcome(&Reference(rules), case).as_ref() != Ok(right)
+}
+
+/// The case of a seed as text.
+pub fn describe(seed: u64) -> String {
+    show(&cases::case(&mut Rng::new(seed)))
+}
+
+/// Library and reference agree on a case, or the difference, shrunk.
+fn agree(seed: u64, case: &Case) -> Result<Outcome, Difference> {
+    let reference = Reference(Rules::default());
+    compare(library(seed), &reference, case).map_err(|_| {
+        let case = shrink(case, |case| {
+            compare(library(seed), &reference, case).is_err()
+        });
+        let says = compare(library(seed), &reference, &case)
+            .err()
+            .unwrap_or_default();
+        Difference { seed, case, says }
+    })
+}
+
+/// Limits near the number of steps, and logs near the number of lines.
+fn near(
+    seed: u64,
+    made: &Made,
+    outcome: &Outcome,
+    rng: &mut Rng,
+    coverage: &mut Coverage,
+) -> Result<(), Difference> {
+    if outcome.refusal() != 0 || outcome.steps() > 2000 || rng.chance(1, 2) {
+        return Ok(());
+    }
+    let mut close = made.clone();
+    if rng.chance(2, 3) {
+        close.case.limit = (outcome.steps() + 1).saturating_sub(rng.below(3) as u32);
+    }
+    if rng.chance(2, 3) {
+        close.case.log = (4 * outcome.lines() as usize + 4).saturating_sub(rng.below(9));
+    }
+    let outcome = agree(seed, &close.case)?;
+    coverage.extra(coverage::NEAR_ENDING);
+    coverage.record_again(&close, &outcome);
+    Ok(())
+}
+
+#[cfg(test)]
+mod tests {
+    use super::*;
+
+    #[test]
+    fn a_well_formed_case_is_refused_by_11_alone() {
+        for seed in 0..3000 {
+            let made = cases::made(&mut Rng::new(seed));
+            let number = outcome(&Raw, &made.case).unwrap().refusal();
+            assert!(
+                !made.well_formed || number == 0 || number == 11,
+                "seed {seed}: {number}"
+            );
+        }
+    }
+
+    #[test]
+    fn most_scripts_for_demand_three_are_accepted() {
+        let accepted = |seed: &u64| {
+            let case = cases::accepted_leaning(&mut Rng::new(*seed));
+            outcome(&Raw, &case).unwrap().accepted()
+        };
+        assert!((0..1000).filter(accepted).count() > 700);
+    }
+}
