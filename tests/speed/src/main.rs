@@ -1,4 +1,6 @@
 //! The library beside a plain interpreter: `cargo run --release --offline -p speed`.
+//!
+//! `speed SIDE NAME LIMIT` runs one workload once, on side 0 (library), 1 (plain) or 2 (resting), for a profiler.
 
 mod draft;
 mod library;
@@ -7,88 +9,100 @@ mod plain;
 mod timing;
 mod workloads;
 
-use timing::Times;
-use workloads::{Nesting, Workload};
+use measure::{CHECK_SIDES, RUN_SIDES};
+use workloads::{Call, Workload};
 
 fn main() {
-    runs();
-    calls();
-    growth();
+    let arguments: Vec<String> = std::env::args().skip(1).collect();
+    match &arguments[..] {
+        [] => tables(),
+        [side, name, limit] => once(side, name, limit),
+        _ => eprintln!("usage: speed [SIDE NAME LIMIT]"),
+    }
+}
+
+fn tables() {
+    println!("Ratios are times of plain and of resting over that of the library: above 1 the library is faster.");
+    heading("Runs", "nanoseconds per step");
+    for Workload { name, call } in workloads::runs() {
+        row(&name, measure::run(&name, &call).map(|time| time * 1e9));
+    }
+    heading("Calls", "microseconds per call");
+    checks();
+    starts();
+    heading("Growth", "nanoseconds per step");
+    for Workload { name, call } in workloads::growth() {
+        row(&name, measure::run(&name, &call).map(|time| time * 1e9));
+    }
 }
 
 fn heading(title: &str, unit: &str) {
-    println!("\n{title}\n{:<44}{:>12}{:>12}{:>9}", unit, "library", "plain", "ratio");
-}
-
-fn row(name: &str, times: Times, scale: f64) {
-    let Times { library, plain } = times;
+    println!("\n{title}");
     println!(
-        "{name:<44}{:>12.1}{:>12.1}{:>9.2}",
-        library * scale,
-        plain * scale,
-        times.ratio()
+        "{unit:<42}{:>10}{:>10}{:>10}{:>9}{:>9}",
+        "library", "plain", "resting", "plain", "resting"
     );
 }
 
-fn runs() {
-    heading("Runs, limit 1,000,000; log of 0 words unless said", "nanoseconds per step");
-    let rows = [
-        workloads::counting(),
-        workloads::under_watchings(250),
-        workloads::waiting(64, Nesting::Left),
-        workloads::waiting(64, Nesting::Right),
-        workloads::working(64, Nesting::Left),
-        workloads::working(64, Nesting::Right),
-        workloads::exchange(),
-        workloads::arithmetic(),
-        workloads::logging(),
-    ];
-    for Workload { name, call } in &rows {
-        row(name, measure::run(name, call).times, 1e9);
-    }
+fn row<const SIDES: usize>(name: &str, times: [f64; SIDES]) {
+    let shown: String = times.iter().map(|time| format!("{time:>10.1}")).collect();
+    let ratios: String = times[1..]
+        .iter()
+        .map(|time| format!("{:>9.2}", time / times[0]))
+        .collect();
+    println!("{name:<42}{shown:<30}{ratios}");
 }
 
-fn calls() {
-    heading("Calls", "microseconds per call");
+fn checks() {
     let (smallest, largest) = (workloads::smallest(), workloads::largest());
-    let books = [
-        ("subsets", workloads::subsets()),
-        ("chain", workloads::chain()),
-        ("side by side", workloads::side_by_side()),
-    ];
-    for (name, book) in &books {
-        let name = format!("check, one node, 16 levels, {name}");
-        row(&name, measure::check(&name, book, &smallest), 1e6);
-    }
-    let two = workloads::two_levels();
-    row("check, one node, 2 levels", measure::check("smallest", &two, &smallest), 1e6);
-    row("check, largest file, subsets", measure::check("largest", &books[0].1, &largest), 1e6);
-    let Workload { name, call } = workloads::counting();
-    row("run with limit 0, counting loop", measure::start(&name, &call), 1e6);
-    let call = workloads::Call {
-        book: books[0].1.clone(),
-        values: vec![0; 64],
-        script: largest,
-        ..call
+    let check = |name: &str, book: &[u8], script: &[u8]| {
+        let times: [f64; CHECK_SIDES] = measure::check(name, book, script);
+        row(name, times.map(|time| time * 1e6));
     };
-    row("run with limit 0, largest file", measure::start("largest", &call), 1e6);
+    check(
+        "check: 2 levels, one node",
+        &workloads::two_levels(),
+        &smallest,
+    );
+    check(
+        "check: 16 levels, subsets, one node",
+        &workloads::subsets(),
+        &smallest,
+    );
+    check(
+        "check: 16 levels, chain, one node",
+        &workloads::chain(),
+        &smallest,
+    );
+    check(
+        "check: 16 levels, antichain, one node",
+        &workloads::antichain(),
+        &smallest,
+    );
+    check(
+        "check: 16 levels, largest file",
+        &workloads::subsets(),
+        &largest,
+    );
 }
 
-fn growth() {
-    heading("Growth", "million steps per second");
-    let depths = [1, 10, 100, 250].map(workloads::under_watchings);
-    let threads = |make: fn(usize, Nesting) -> Workload| {
-        [Nesting::Left, Nesting::Right]
-            .into_iter()
-            .flat_map(move |nesting| [1, 8, 64].map(|count| make(count, nesting)))
+fn starts() {
+    let start = |name: &str, call: &Call| {
+        let times: [f64; RUN_SIDES] = measure::start(name, call);
+        row(name, times.map(|time| time * 1e6));
     };
-    let rows = depths
+    start("run, limit 0: counting loop", &workloads::counting().call);
+    start("run, limit 0: largest file", &workloads::largest_call());
+}
+
+fn once(side: &str, name: &str, limit: &str) {
+    let side = side.parse().expect("side: 0, 1 or 2");
+    let limit = limit.parse().expect("limit: a number");
+    let workload = workloads::runs()
         .into_iter()
-        .chain(threads(workloads::waiting))
-        .chain(threads(workloads::working));
-    for Workload { name, call } in rows {
-        let times = measure::run(&name, &call).times;
-        let Times { library, plain } = times;
-        println!("{name:<44}{:>12.1}{:>12.1}{:>9.2}", 1e-6 / library, 1e-6 / plain, times.ratio());
-    }
+        .find(|workload| workload.name == name);
+    let Workload { call, .. } = workload.expect("name: that of a run");
+    let (mut values, mut log) = (call.values.clone(), vec![0; call.log]);
+    let out = measure::run_on(side, &call, limit, &mut values, &mut log);
+    println!("{out:?}");
 }

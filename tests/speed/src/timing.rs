@@ -1,49 +1,24 @@
-//! Two sides, timed in turn; the best time of each counts, since other work on the machine only adds to it.
+//! Sides that do the same work are timed in turn; the best time of each counts, since other work on the machine only
+//! adds to it.
 
 use std::time::{Duration, Instant};
 
-/// Seconds.
-#[derive(Clone, Copy)]
-pub struct Times {
-    pub library: f64,
-    pub plain: f64,
-}
+/// Each side runs at least this often, and until all have taken `ENOUGH` together.
+const LEAST_RUNS: usize = 3;
+const ENOUGH: Duration = Duration::from_millis(400);
 
-impl Times {
-    /// How many times as fast as the plain interpreter the library is.
-    pub fn ratio(&self) -> f64 {
-        self.plain / self.library
-    }
-
-    pub fn per(&self, count: u32) -> Times {
-        Times {
-            library: self.library / count as f64,
-            plain: self.plain / count as f64,
-        }
-    }
-}
-
-/// Each side runs at least this often, and until both together have taken `ENOUGH`.
-const LEAST_RUNS: usize = 5;
-const ENOUGH: Duration = Duration::from_millis(600);
-
-pub fn in_turn(mut library: impl FnMut(), mut plain: impl FnMut()) -> Times {
+/// The best time of each of the sides, in seconds; `work(i)` is the work of side i.
+pub fn in_turn<const SIDES: usize>(mut work: impl FnMut(usize)) -> [f64; SIDES] {
     let begin = Instant::now();
-    let mut best = Times {
-        library: f64::INFINITY,
-        plain: f64::INFINITY,
-    };
+    let mut best = [f64::INFINITY; SIDES];
     let mut runs = 0;
     while runs < LEAST_RUNS || begin.elapsed() < ENOUGH {
-        best.library = best.library.min(seconds(&mut library));
-        best.plain = best.plain.min(seconds(&mut plain));
+        for (side, time) in best.iter_mut().enumerate() {
+            let start = Instant::now();
+            work(side);
+            *time = time.min(start.elapsed().as_secs_f64());
+        }
         runs += 1;
     }
     best
-}
-
-fn seconds(work: &mut impl FnMut()) -> f64 {
-    let begin = Instant::now();
-    work();
-    begin.elapsed().as_secs_f64()
 }

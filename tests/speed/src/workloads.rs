@@ -2,7 +2,9 @@
 
 use crate::draft::Draft;
 
-pub const MOST_STEPS: u32 = 1_000_000;
+const MOST_STEPS: u32 = 1_000_000;
+/// For workloads whose steps are slow: the call's start still counts for less than a thousandth.
+const FEWER_STEPS: u32 = 100_000;
 /// Levels of `two_levels`. The reader has the low one, so a write to a high name needs no line.
 const LOW: u8 = 0;
 const HIGH: u8 = 1;
@@ -23,10 +25,45 @@ pub struct Workload {
     pub call: Call,
 }
 
+impl Workload {
+    fn with_limit(mut self, limit: u32) -> Workload {
+        self.call.limit = limit;
+        self
+    }
+}
+
 #[derive(Clone, Copy)]
 pub enum Nesting {
     Left,
     Right,
+}
+
+pub fn runs() -> Vec<Workload> {
+    vec![
+        counting(),
+        under_watchings(250).with_limit(FEWER_STEPS),
+        waiting(64, Nesting::Left).with_limit(FEWER_STEPS),
+        waiting(64, Nesting::Right).with_limit(FEWER_STEPS),
+        working(64, Nesting::Left).with_limit(FEWER_STEPS),
+        working(64, Nesting::Right).with_limit(FEWER_STEPS),
+        exchange(),
+        arithmetic(),
+        logging(),
+    ]
+}
+
+pub fn growth() -> Vec<Workload> {
+    let depths = [1, 10, 100, 250].map(under_watchings);
+    let threads = |make: fn(usize, Nesting) -> Workload| {
+        let sides = [Nesting::Left, Nesting::Right].into_iter();
+        sides.flat_map(move |nesting| [1, 8, 64].map(|count| make(count, nesting)))
+    };
+    let all = depths
+        .into_iter()
+        .chain(threads(waiting))
+        .chain(threads(working));
+    all.map(|workload| workload.with_limit(FEWER_STEPS))
+        .collect()
 }
 
 /// A level book from the rows' sets.
@@ -51,8 +88,8 @@ pub fn chain() -> Vec<u8> {
     book(&(0..16).map(|i| u16::MAX << i).collect::<Vec<u16>>())
 }
 
-/// A least level, 14 levels side by side, a greatest level.
-pub fn side_by_side() -> Vec<u8> {
+/// A least level, 14 levels of which none is below another, a greatest level.
+pub fn antichain() -> Vec<u8> {
     let above = |i: u16| match i {
         0 => u16::MAX,
         15 => 1 << 15,
@@ -105,8 +142,12 @@ fn nested(draft: &mut Draft, threads: &[u16], nesting: Nesting) {
     let (first, rest) = threads.split_first().expect("a thread");
     let (last, init) = threads.split_last().expect("a thread");
     match nesting {
-        Nesting::Left => rest.iter().fold(*first, |left, &thread| draft.parallel(left, thread)),
-        Nesting::Right => init.iter().rfold(*last, |right, &thread| draft.parallel(thread, right)),
+        Nesting::Left => rest
+            .iter()
+            .fold(*first, |left, &thread| draft.parallel(left, thread)),
+        Nesting::Right => init
+            .iter()
+            .rfold(*last, |right, &thread| draft.parallel(thread, right)),
     };
 }
 
@@ -128,7 +169,11 @@ pub fn waiting(threads: usize, nesting: Nesting) -> Workload {
         })
         .collect();
     nested(&mut draft, &nodes, nesting);
-    workload(format!("{threads} waiting threads, nested {}", side(nesting)), draft, 0)
+    workload(
+        format!("{threads} waiting threads, nested {}", side(nesting)),
+        draft,
+        0,
+    )
 }
 
 /// The last thread counts and waits for the next instant in each round; the others wait for signals that never come.
@@ -146,7 +191,11 @@ pub fn working(threads: usize, nesting: Nesting) -> Workload {
     let body = draft.sequence(count, pause);
     nodes.push(draft.forever(x, body));
     nested(&mut draft, &nodes, nesting);
-    workload(format!("1 working thread of {threads}, nested {}", side(nesting)), draft, 0)
+    workload(
+        format!("1 working thread of {threads}, nested {}", side(nesting)),
+        draft,
+        0,
+    )
 }
 
 /// Eight threads; in each instant each emits its signal and, on the signal of the one before it, adds that one's
@@ -244,6 +293,18 @@ pub fn largest() -> Vec<u8> {
     draft.while_do(test, script);
     assert_eq!(draft.counts(), [64, 256, 256]);
     draft.file()
+}
+
+/// A call of run with the largest file and the largest book.
+pub fn largest_call() -> Call {
+    Call {
+        book: subsets(),
+        script: largest(),
+        values: vec![0; 64],
+        reader: 0,
+        limit: 0,
+        log: 0,
+    }
 }
 
 /// Names of the first unit. They have the least level, so that all units may test them.

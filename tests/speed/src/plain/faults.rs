@@ -48,7 +48,9 @@ pub fn nodes(lists: &Lists, names: &[Name]) -> Result<Vec<Node>, Refusal> {
         let node = Node::decode(entry).filter(|node| {
             names_are_right(names, k, node)
                 && node.children().all(|child| child < k)
-                && node.expression().is_none_or(|e| e < lists.expressions.len())
+                && node
+                    .expression()
+                    .is_none_or(|e| e < lists.expressions.len())
         });
         node.ok_or(refusal(8, k))
     };
@@ -56,7 +58,8 @@ pub fn nodes(lists: &Lists, names: &[Name]) -> Result<Vec<Node>, Refusal> {
 }
 
 fn names_are_right(names: &[Name], k: usize, node: &Node) -> bool {
-    let declared = |x: u16, signal| is_kind(names, x, signal) && names[x as usize].owner as usize == k;
+    let declared =
+        |x: u16, signal| is_kind(names, x, signal) && names[x as usize].owner as usize == k;
     match *node {
         Node::Assign { name, .. } => is_kind(names, name, false),
         Node::Let { name, .. } => declared(name, false),
@@ -69,7 +72,9 @@ fn names_are_right(names: &[Name], k: usize, node: &Node) -> bool {
 }
 
 fn is_kind(names: &[Name], x: u16, signal: bool) -> bool {
-    names.get(x as usize).is_some_and(|name| name.signal == signal)
+    names
+        .get(x as usize)
+        .is_some_and(|name| name.signal == signal)
 }
 
 /// Refusal 9.
@@ -77,10 +82,14 @@ pub fn loose_part(script: &Script) -> Result<(), Refusal> {
     let mut expressions = vec![0u16; script.expressions.len()];
     let mut nodes = vec![0u16; script.nodes.len()];
     for expression in &script.expressions {
-        expression.operands().for_each(|operand| expressions[operand] += 1);
+        expression
+            .operands()
+            .for_each(|operand| expressions[operand] += 1);
     }
     for node in &script.nodes {
-        node.expression().into_iter().for_each(|e| expressions[e] += 1);
+        node.expression()
+            .into_iter()
+            .for_each(|e| expressions[e] += 1);
         node.children().for_each(|child| nodes[child] += 1);
     }
     nodes[script.root()] = 1;

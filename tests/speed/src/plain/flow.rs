@@ -99,9 +99,10 @@ impl Pass<'_> {
                 (self.child(body), holds)
             }
             Node::Local { body, .. } => (self.child(body), true),
-            Node::If { test, then, other } => {
-                self.guarded(self.expression(test), self.both(self.child(then), self.child(other)))
-            }
+            Node::If { test, then, other } => self.guarded(
+                self.expression(test),
+                self.both(self.child(then), self.child(other)),
+            ),
             Node::Watching { signal, body } | Node::When { signal, body } => {
                 self.guarded(self.name(signal), self.child(body))
             }
@@ -122,6 +123,9 @@ impl Pass<'_> {
     }
 
     fn guarded(&self, level: u8, body: Levels) -> (Levels, bool) {
-        (self.tested(body, level), self.book.at_or_below(level, body.write))
+        (
+            self.tested(body, level),
+            self.book.at_or_below(level, body.write),
+        )
     }
 }

@@ -3,10 +3,11 @@
 use super::book::Book;
 use super::expression::{value, Expression};
 use super::script::{Node, Script};
+use super::Variant;
 
 /// What is left of a node.
 #[derive(Clone, Copy, PartialEq)]
-enum State {
+pub enum State {
     Whole,
     /// Of a let or a local the body; of a loop the body, and then the loop.
     Body,
@@ -19,7 +20,7 @@ enum State {
 }
 
 /// What a walk finds or does.
-enum Step {
+pub enum Step {
     Moved,
     /// Nothing is left to move.
     Gone,
@@ -29,15 +30,15 @@ enum Step {
 }
 
 pub struct Machine<'a> {
-    nodes: &'a [Node],
+    pub nodes: &'a [Node],
     expressions: &'a [Expression],
     signals: Vec<usize>,
     owned: Vec<usize>,
     seen: Vec<bool>,
-    state: Vec<State>,
+    pub state: Vec<State>,
     values: &'a mut [i32],
     log: &'a mut [u32],
-    steps: u32,
+    pub steps: u32,
     instants: u32,
     lines: usize,
 }
@@ -55,8 +56,13 @@ impl<'a> Machine<'a> {
             nodes: &script.nodes,
             expressions: &script.expressions,
             signals: (0..names.len()).filter(|&x| names[x].signal).collect(),
-            owned: (0..names.len()).filter(|&x| !names[x].is_session()).collect(),
-            seen: names.iter().map(|name| book.at_or_below(name.level, reader as u8)).collect(),
+            owned: (0..names.len())
+                .filter(|&x| !names[x].is_session())
+                .collect(),
+            seen: names
+                .iter()
+                .map(|name| book.at_or_below(name.level, reader as u8))
+                .collect(),
             state: vec![State::Whole; script.nodes.len()],
             values,
             log,
@@ -67,34 +73,40 @@ impl<'a> Machine<'a> {
     }
 
     /// Number, place, ending, steps, instants, lines.
-    pub fn run(mut self, limit: u32) -> [u32; 6] {
-        let ending = self.run_to_ending(limit);
+    pub fn run(mut self, variant: Variant, limit: u32) -> [u32; 6] {
+        let ending = match variant {
+            Variant::Walking => self.run_by_steps(limit),
+            Variant::Resting => self.run_by_rests(limit),
+        };
         for &x in &self.owned {
             self.values[x] = 0;
         }
         [0, 0, ending, self.steps, self.instants, self.lines as u32]
     }
 
-    fn run_to_ending(&mut self, limit: u32) -> u32 {
+    /// The ending of a run.
+    fn run_by_steps(&mut self, limit: u32) -> u32 {
         let root = (self.nodes.len() - 1) as u16;
         while self.steps < limit {
             match self.step(root) {
                 Step::Gone => return 0,
                 Step::Full => return 2,
                 Step::Moved => {}
-                Step::Suspended => {
-                    self.change(root);
-                    self.signals.iter().for_each(|&x| self.values[x] = 0);
-                    self.instants += 1;
-                }
+                Step::Suspended => self.change_instant(root),
             }
             self.steps += 1;
         }
         !self.is_gone(root) as u32
     }
 
+    pub fn change_instant(&mut self, root: u16) {
+        self.change(root);
+        self.signals.iter().for_each(|&x| self.values[x] = 0);
+        self.instants += 1;
+    }
+
     /// Moves node k once, or says why it can't move.
-    fn step(&mut self, k: u16) -> Step {
+    pub fn step(&mut self, k: u16) -> Step {
         let state = self.state[k as usize];
         if state == State::Gone {
             return Step::Gone;
@@ -103,7 +115,9 @@ impl<'a> Machine<'a> {
             (Node::Nil, _) => Step::Gone,
             (Node::Assign { name, value }, _) => self.write(k, name, self.value(value)),
             (Node::Emit { signal }, _) => self.write(k, signal, 1),
-            (Node::Let { name, value, body }, State::Whole) => self.declare(k, name, self.value(value), body),
+            (Node::Let { name, value, body }, State::Whole) => {
+                self.declare(k, name, self.value(value), body)
+            }
             (Node::Local { signal, body }, State::Whole) => self.declare(k, signal, 0, body),
             (Node::Let { body, .. } | Node::Local { body, .. }, _) => self.step(body),
             (Node::If { test, then, other }, State::Whole) => self.branch(k, test, then, other),
@@ -193,13 +207,13 @@ impl<'a> Machine<'a> {
         }
     }
 
-    fn leave(&mut self, k: u16, state: State) -> Step {
+    pub fn leave(&mut self, k: u16, state: State) -> Step {
         self.state[k as usize] = state;
         Step::Moved
     }
 
     /// Node k begins anew, with all that is in it from the beginning.
-    fn enter(&mut self, k: u16) {
+    pub fn enter(&mut self, k: u16) {
         self.state[k as usize] = State::Whole;
         match self.nodes[k as usize] {
             Node::Sequence { first, .. } => self.enter(first),
@@ -212,7 +226,7 @@ impl<'a> Machine<'a> {
         }
     }
 
-    fn is_suspended(&self, k: u16) -> bool {
+    pub fn is_suspended(&self, k: u16) -> bool {
         match (self.nodes[k as usize], self.state[k as usize]) {
             (_, State::Gone) => false,
             (Node::When { signal, body }, _) => !self.is_present(signal) || self.is_suspended(body),
@@ -253,7 +267,7 @@ impl<'a> Machine<'a> {
         }
     }
 
-    fn is_present(&self, signal: u16) -> bool {
+    pub fn is_present(&self, signal: u16) -> bool {
         self.values[signal as usize] != 0
     }
 
@@ -268,7 +282,9 @@ fn part(node: Node, state: State) -> Option<u16> {
         (Node::Sequence { first, .. }, State::Whole) => Some(first),
         (Node::Watching { body, .. } | Node::When { body, .. }, _) => Some(body),
         (_, State::Whole) => None,
-        (Node::Let { body, .. } | Node::Local { body, .. } | Node::While { body, .. }, _) => Some(body),
+        (Node::Let { body, .. } | Node::Local { body, .. } | Node::While { body, .. }, _) => {
+            Some(body)
+        }
         (Node::If { then, .. }, State::First) => Some(then),
         (Node::If { other, .. }, _) => Some(other),
         (Node::Sequence { second, .. }, _) => Some(second),

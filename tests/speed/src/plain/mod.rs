@@ -1,9 +1,12 @@
 //! A plain interpreter of the rules of 01, the rival of the benchmark: what a Rust programmer writes without proofs.
 //!
-//! A call decodes the files once into vectors of enums, keeps one state per node, and makes each step by a walk from the
-//! root: `step` goes into what is in front, `suspended` asks, `change` is the instant change. An owned name has its own
-//! slot in the value list. A waiting part is asked once per walk: `step` itself answers that its part is suspended, so
-//! that only the other part of a parallel has to be asked besides.
+//! A call decodes the files once into vectors of enums and keeps one state per node; an owned name has its own slot in
+//! the value list. There are two variants.
+//!
+//! - Walking, the obvious one: each step is a walk from the root. `step` moves what is in front or answers that it is
+//!   suspended, so that of a parallel only the other part has to be asked besides; `change` is the instant change.
+//! - Resting, the cleverer one, as the library does it: a node is run as far as it goes within the instant, so that a
+//!   step under many nodes costs no walk through them.
 
 mod book;
 mod expression;
@@ -12,6 +15,7 @@ mod flow;
 mod layout;
 mod machine;
 mod reach;
+mod resting;
 mod script;
 
 use book::Book;
@@ -43,8 +47,15 @@ pub fn check(book: &[u8], script: &[u8]) -> [u32; 4] {
     }
 }
 
+#[derive(Clone, Copy)]
+pub enum Variant {
+    Walking,
+    Resting,
+}
+
 /// Number, place, ending, steps, instants, lines.
 pub fn run(
+    variant: Variant,
     book: &[u8],
     script: &[u8],
     reader: u32,
@@ -57,7 +68,9 @@ pub fn run(
         Ok((book, script))
     });
     match accepted {
-        Ok((book, script)) => Machine::new(&book, &script, reader as usize, values, log).run(limit),
+        Ok((book, script)) => {
+            Machine::new(&book, &script, reader as usize, values, log).run(variant, limit)
+        }
         Err(refusal) => [refusal.number, refusal.place, 0, 0, 0, 0],
     }
 }

@@ -37,7 +37,9 @@ impl Walk<'_> {
         }
         let (used, declared) = match node {
             Node::Assign { name, .. } => (Some(name), None),
-            Node::Emit { signal } | Node::Watching { signal, .. } | Node::When { signal, .. } => (Some(signal), None),
+            Node::Emit { signal } | Node::Watching { signal, .. } | Node::When { signal, .. } => {
+                (Some(signal), None)
+            }
             Node::Let { name, .. } => (None, Some(name)),
             Node::Local { signal, .. } => (None, Some(signal)),
             _ => (None, None),
@@ -54,6 +56,8 @@ impl Walk<'_> {
         if matches!(expression, Expression::Register(x) if reach >> x & 1 == 0) {
             self.expression = Some(self.expression.map_or(e, |least| least.min(e)));
         }
-        expression.operands().for_each(|operand| self.expression(operand, reach));
+        expression
+            .operands()
+            .for_each(|operand| self.expression(operand, reach));
     }
 }

@@ -42,15 +42,41 @@ impl Node {
         let (node, zeros) = match entry[0] {
             0 => (Node::Nil, [a, b, c]),
             1 => (Node::Assign { name: a, value: b }, [c, 0, 0]),
-            2 => (Node::Let { name: a, value: b, body: c }, [0; 3]),
-            3 => (Node::If { test: a, then: b, other: c }, [0; 3]),
+            2 => (
+                Node::Let {
+                    name: a,
+                    value: b,
+                    body: c,
+                },
+                [0; 3],
+            ),
+            3 => (
+                Node::If {
+                    test: a,
+                    then: b,
+                    other: c,
+                },
+                [0; 3],
+            ),
             4 => (Node::While { test: a, body: b }, [c, 0, 0]),
-            5 => (Node::Sequence { first: a, second: b }, [c, 0, 0]),
+            5 => (
+                Node::Sequence {
+                    first: a,
+                    second: b,
+                },
+                [c, 0, 0],
+            ),
             6 => (Node::Emit { signal: a }, [b, c, 0]),
             7 => (Node::Local { signal: a, body: b }, [c, 0, 0]),
             8 => (Node::Watching { signal: a, body: b }, [c, 0, 0]),
             9 => (Node::When { signal: a, body: b }, [c, 0, 0]),
-            10 => (Node::Parallel { first: a, second: b }, [c, 0, 0]),
+            10 => (
+                Node::Parallel {
+                    first: a,
+                    second: b,
+                },
+                [c, 0, 0],
+            ),
             _ => return None,
         };
         (entry[1] == 0 && zeros == [0; 3]).then_some(node)
@@ -65,7 +91,9 @@ impl Node {
             | Node::Watching { body, .. }
             | Node::When { body, .. } => (Some(body), None),
             Node::If { then, other, .. } => (Some(then), Some(other)),
-            Node::Sequence { first, second } | Node::Parallel { first, second } => (Some(first), Some(second)),
+            Node::Sequence { first, second } | Node::Parallel { first, second } => {
+                (Some(first), Some(second))
+            }
         };
         first.into_iter().chain(second).map(usize::from)
     }
