@@ -25,6 +25,13 @@ pub struct Workload {
     pub call: Call,
 }
 
+/// A call of check.
+pub struct Check {
+    pub name: &'static str,
+    pub book: Vec<u8>,
+    pub script: Vec<u8>,
+}
+
 impl Workload {
     fn with_limit(mut self, limit: u32) -> Workload {
         self.call.limit = limit;
@@ -33,7 +40,7 @@ impl Workload {
 }
 
 #[derive(Clone, Copy)]
-pub enum Nesting {
+enum Nesting {
     Left,
     Right,
 }
@@ -50,6 +57,33 @@ pub fn runs() -> Vec<Workload> {
         arithmetic(),
         logging(),
     ]
+}
+
+/// The cost of a book is that of a check with a script of one node.
+pub fn checks() -> Vec<Check> {
+    let check = |name, book, script| Check { name, book, script };
+    vec![
+        check("check: 2 levels, one node", two_levels(), smallest()),
+        check("check: 16 levels, subsets, one node", subsets(), smallest()),
+        check("check: 16 levels, chain, one node", chain(), smallest()),
+        check(
+            "check: 16 levels, antichain, one node",
+            antichain(),
+            smallest(),
+        ),
+        check("check: 16 levels, largest file", subsets(), largest()),
+    ]
+}
+
+/// Calls of run with step limit 0.
+pub fn starts() -> Vec<Workload> {
+    let mut largest = workload("run, limit 0: largest file", Draft::default(), 0);
+    largest.call.book = subsets();
+    largest.call.script = self::largest();
+    largest.call.values = vec![0; 64];
+    let mut small = counting();
+    small.name = "run, limit 0: counting loop".into();
+    vec![small.with_limit(0), largest.with_limit(0)]
 }
 
 pub fn growth() -> Vec<Workload> {
@@ -73,23 +107,23 @@ fn book(rows: &[u16]) -> Vec<u8> {
     bytes
 }
 
-pub fn two_levels() -> Vec<u8> {
+fn two_levels() -> Vec<u8> {
     book(&[0b11, 0b10])
 }
 
 /// The subsets of four elements, by inclusion: 16 levels, most pairs side by side.
-pub fn subsets() -> Vec<u8> {
+fn subsets() -> Vec<u8> {
     let above = |i: u16| (0..16).fold(0, |row, j: u16| row | ((i & j == i) as u16) << j);
     book(&(0..16).map(above).collect::<Vec<u16>>())
 }
 
 /// 16 levels, each below the next.
-pub fn chain() -> Vec<u8> {
+fn chain() -> Vec<u8> {
     book(&(0..16).map(|i| u16::MAX << i).collect::<Vec<u16>>())
 }
 
 /// A least level, 14 levels of which none is below another, a greatest level.
-pub fn antichain() -> Vec<u8> {
+fn antichain() -> Vec<u8> {
     let above = |i: u16| match i {
         0 => u16::MAX,
         15 => 1 << 15,
@@ -99,7 +133,7 @@ pub fn antichain() -> Vec<u8> {
 }
 
 /// The script of one nil.
-pub fn smallest() -> Vec<u8> {
+fn smallest() -> Vec<u8> {
     let mut draft = Draft::default();
     draft.nil();
     draft.file()
@@ -120,7 +154,7 @@ fn workload(name: impl Into<String>, draft: Draft, log: usize) -> Workload {
 }
 
 /// `while x < i32::MAX do x := x + 1`: three steps a round.
-pub fn counting() -> Workload {
+fn counting() -> Workload {
     let mut draft = Draft::default();
     let x = draft.register(HIGH);
     let body = draft.increment(x);
@@ -129,7 +163,7 @@ pub fn counting() -> Workload {
 }
 
 /// The counting loop under so many watchings of a signal that is absent.
-pub fn under_watchings(depth: usize) -> Workload {
+fn under_watchings(depth: usize) -> Workload {
     let mut draft = Draft::default();
     let (x, s) = (draft.register(HIGH), draft.signal(LOW));
     let body = draft.increment(x);
@@ -159,7 +193,7 @@ fn side(nesting: Nesting) -> &'static str {
 }
 
 /// Each thread waits for its own signal, `when s do nil`; none comes, so every step is an instant change.
-pub fn waiting(threads: usize, nesting: Nesting) -> Workload {
+fn waiting(threads: usize, nesting: Nesting) -> Workload {
     let mut draft = Draft::default();
     let nodes: Vec<u16> = (0..threads)
         .map(|_| {
@@ -177,7 +211,7 @@ pub fn waiting(threads: usize, nesting: Nesting) -> Workload {
 }
 
 /// The last thread counts and waits for the next instant in each round; the others wait for signals that never come.
-pub fn working(threads: usize, nesting: Nesting) -> Workload {
+fn working(threads: usize, nesting: Nesting) -> Workload {
     let mut draft = Draft::default();
     let s = draft.signal(HIGH);
     let mut nodes: Vec<u16> = (1..threads)
@@ -200,7 +234,7 @@ pub fn working(threads: usize, nesting: Nesting) -> Workload {
 
 /// Eight threads; in each instant each emits its signal and, on the signal of the one before it, adds that one's
 /// register to its own.
-pub fn exchange() -> Workload {
+fn exchange() -> Workload {
     const THREADS: usize = 8;
     let mut draft = Draft::default();
     let signals: Vec<u16> = (0..THREADS).map(|_| draft.signal(HIGH)).collect();
@@ -227,7 +261,7 @@ pub fn exchange() -> Workload {
 }
 
 /// A loop over nested ifs with arithmetic: the test of each is `(x * k + y) / (k + 2) - x < y`.
-pub fn arithmetic() -> Workload {
+fn arithmetic() -> Workload {
     let mut draft = Draft::default();
     let (x, y) = (draft.register(HIGH), draft.register(HIGH));
     let mut inner = draft.nil();
@@ -262,7 +296,7 @@ fn arithmetic_test(draft: &mut Draft, x: u16, y: u16, k: i32) -> u16 {
 }
 
 /// A loop of eight writes that the reader sees; the log has room for all lines.
-pub fn logging() -> Workload {
+fn logging() -> Workload {
     let mut draft = Draft::default();
     let always = draft.constant(1);
     let (x, s) = (draft.register(LOW), draft.signal(LOW));
@@ -276,7 +310,7 @@ pub fn logging() -> Workload {
 }
 
 /// A file of 64 names, 256 expressions and 256 nodes, with every kind of entry, accepted under `subsets`.
-pub fn largest() -> Vec<u8> {
+fn largest() -> Vec<u8> {
     let mut draft = Draft::default();
     let mut script = draft.nil();
     for level in 0..16 {
@@ -293,18 +327,6 @@ pub fn largest() -> Vec<u8> {
     draft.while_do(test, script);
     assert_eq!(draft.counts(), [64, 256, 256]);
     draft.file()
-}
-
-/// A call of run with the largest file and the largest book.
-pub fn largest_call() -> Call {
-    Call {
-        book: subsets(),
-        script: largest(),
-        values: vec![0; 64],
-        reader: 0,
-        limit: 0,
-        log: 0,
-    }
 }
 
 /// Names of the first unit. They have the least level, so that all units may test them.
