@@ -1,0 +1,106 @@
+//! The sides on one input: first that they agree, then how long they take.
+
+use std::hint::black_box;
+
+use crate::plain::Variant;
+use crate::timing::in_turn;
+use crate::workloads::Call;
+use crate::{library, plain};
+
+/// Calls in one timed run of what is too short to be timed alone.
+const CALLS: u32 = 200;
+
+/// Library, plain, resting.
+pub const RUN_SIDES: usize = 3;
+
+/// Library, plain.
+pub const CHECK_SIDES: usize = 2;
+
+/// What a log word holds before the runs that are compared: no word of a line is like it.
+const UNTOUCHED: u32 = 0xA5A5_A5A5;
+
+pub fn run_on(
+    side: usize,
+    call: &Call,
+    limit: u32,
+    values: &mut [i32],
+    log: &mut [u32],
+) -> [u32; 6] {
+    let Call {
+        book,
+        script,
+        reader,
+        ..
+    } = call;
+    match side {
+        0 => library::run(book, script, *reader, values, limit, log),
+        1 => plain::run(Variant::Walking, book, script, *reader, values, limit, log),
+        _ => plain::run(Variant::Resting, book, script, *reader, values, limit, log),
+    }
+}
+
+pub fn check_on(side: usize, book: &[u8], script: &[u8]) -> [u32; 4] {
+    match side {
+        0 => library::check(book, script),
+        _ => plain::check(book, script),
+    }
+}
+
+/// What a run returns; panics unless all sides return and leave the same.
+pub fn agreed_run(name: &str, call: &Call, limit: u32) -> [u32; 6] {
+    let outcome = |side| {
+        let (mut values, mut log) = (call.values.clone(), vec![UNTOUCHED; call.log]);
+        let out = run_on(side, call, limit, &mut values, &mut log);
+        (out, values, log)
+    };
+    let by_library = outcome(0);
+    for side in 1..RUN_SIDES {
+        let other = outcome(side);
+        assert_eq!(by_library.0, other.0, "{name}: returned numbers");
+        assert_eq!(by_library.1, other.1, "{name}: values");
+        assert!(by_library.2 == other.2, "{name}: log");
+    }
+    by_library.0
+}
+
+pub fn agreed_check(name: &str, book: &[u8], script: &[u8]) -> [u32; 4] {
+    let out = check_on(0, book, script);
+    assert_eq!(out, check_on(1, book, script), "{name}");
+    out
+}
+
+/// Seconds for a step of a whole run. The log is not cleared between runs; values are set anew.
+pub fn run(name: &str, call: &Call) -> [f64; RUN_SIDES] {
+    let out = agreed_run(name, call, call.limit);
+    assert_eq!(out[..2], [0, 0], "{name}: refused");
+    let times = timed_run(call, call.limit, 1);
+    times.map(|time| time / out[3].max(1) as f64)
+}
+
+/// Seconds for a call of run with step limit 0: all checks, and the preparation.
+pub fn start(name: &str, call: &Call) -> [f64; RUN_SIDES] {
+    agreed_run(name, call, 0);
+    timed_run(call, 0, CALLS).map(|time| time / CALLS as f64)
+}
+
+fn timed_run(call: &Call, limit: u32, calls: u32) -> [f64; RUN_SIDES] {
+    let (mut values, mut log) = (call.values.clone(), vec![0; call.log]);
+    in_turn(|side| {
+        for _ in 0..calls {
+            values.copy_from_slice(&call.values);
+            black_box(run_on(side, black_box(call), limit, &mut values, &mut log));
+        }
+    })
+}
+
+/// Seconds for a call of check.
+pub fn check(name: &str, book: &[u8], script: &[u8]) -> [f64; CHECK_SIDES] {
+    let out = agreed_check(name, book, script);
+    assert_eq!(out[..2], [0, 0], "{name}: refused");
+    let times: [f64; CHECK_SIDES] = in_turn(|side| {
+        for _ in 0..CALLS {
+            black_box(check_on(side, black_box(book), black_box(script)));
+        }
+    });
+    times.map(|time| time / CALLS as f64)
+}

@@ -1,0 +1,104 @@
+//! The plain interpreter answers as the library does, on the workloads and on damaged files.
+
+use crate::measure::{agreed_check, agreed_run};
+use crate::workloads::{checks, growth, runs, starts, Call, Check, Workload};
+
+/// Pseudo-random numbers (splitmix64).
+struct Rng(u64);
+
+impl Rng {
+    fn below(&mut self, n: usize) -> usize {
+        self.0 = self.0.wrapping_add(0x9E37_79B9_7F4A_7C15);
+        let mut z = self.0;
+        z = (z ^ (z >> 30)).wrapping_mul(0xBF58_476D_1CE4_E5B9);
+        z = (z ^ (z >> 27)).wrapping_mul(0x94D0_49BB_1331_11EB);
+        ((z ^ (z >> 31)) % n as u64) as usize
+    }
+
+    /// Another value for one byte; mostly a small one, which is more likely to be right.
+    fn damage(&mut self, bytes: &mut [u8]) {
+        let at = self.below(bytes.len());
+        bytes[at] = if self.below(3) == 0 {
+            self.below(256) as u8
+        } else {
+            self.below(12) as u8
+        };
+    }
+}
+
+fn workloads() -> Vec<Workload> {
+    runs().into_iter().chain(growth()).chain(starts()).collect()
+}
+
+#[test]
+fn workloads_agree_at_each_limit() {
+    for Workload { name, mut call } in workloads() {
+        call.log = call.log.min(100);
+        for limit in (0..200).chain([1000, 1234]) {
+            agreed_run(&name, &call, limit);
+        }
+    }
+}
+
+#[test]
+fn other_logs_and_readers_agree() {
+    for Workload { name, mut call } in workloads() {
+        for log in [0, 3, 4, 41] {
+            call.log = log;
+            for reader in 0..3 {
+                call.reader = reader;
+                agreed_run(&name, &call, 500);
+            }
+        }
+    }
+}
+
+#[test]
+fn damaged_books_agree() {
+    let mut rng = Rng(1);
+    for _ in 0..3000 {
+        for Check {
+            name,
+            mut book,
+            script,
+        } in checks()
+        {
+            (0..=rng.below(3)).for_each(|_| rng.damage(&mut book));
+            agreed_check(name, &book, &script);
+        }
+    }
+}
+
+#[test]
+fn damaged_scripts_agree() {
+    let mut rng = Rng(2);
+    for _ in 0..2000 {
+        for Workload { name, mut call } in workloads() {
+            (0..=rng.below(3)).for_each(|_| rng.damage(&mut call.script));
+            call.log = 40;
+            agreed_check(&name, &call.book, &call.script);
+            agreed_run(&name, &call, 200);
+        }
+    }
+}
+
+#[test]
+fn damaged_calls_agree() {
+    let mut rng = Rng(3);
+    for Workload { name, mut call } in workloads() {
+        call.log = 8;
+        for _ in 0..50 {
+            let x = rng.below(call.values.len());
+            let mut values = call.values.clone();
+            values[x] = rng.below(4) as i32 - 1;
+            values.truncate(call.values.len() - rng.below(20) / 19);
+            let damaged = Call {
+                book: call.book.clone(),
+                script: call.script.clone(),
+                values,
+                ..call
+            };
+            agreed_run(&name, &damaged, [0, 7, 300, 1_000_001][rng.below(4)]);
+        }
+    }
+}
