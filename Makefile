@@ -1,11 +1,25 @@
-# The commands of README.md. They need the Rattle toolchain (rt) and nothing else.
-.PHONY: test run
+# The commands of README.md. They need the Rattle toolchain (rt), and the tests also a C compiler and cargo.
+.PHONY: test run library compare speed
 
-# Proves every crate from nothing, tries every must-fail edit, runs every program against its stored output.
+# Everything from nothing: proofs, must-fail edits, programs; then the library from C and Rust, beside the second interpreter.
 test:
-	@rt ci
+	@tests/gate.sh
 
 # Proves and builds the program, and runs it on the example of 01.
 run:
 	@mkdir -p target && rt check station >target/run.log 2>&1 || { cat target/run.log; exit 1; }
 	@cd crates/station/data && ../../../target/bin/station
+
+# Proves and builds the static library for C and Rust.
+library:
+	@mkdir -p target && { rt check engine && rt staticlib engine; } >target/run.log 2>&1 || { cat target/run.log; exit 1; }
+
+# Millions of cases against the second interpreter: make compare CASES=5000000 SEED=7
+CASES ?= 1000000
+SEED ?= 1
+compare: library
+	@CARGO_TARGET_DIR=target/cargo cargo run -q --release --offline --locked --manifest-path tests/Cargo.toml -p compare -- $(CASES) $(SEED)
+
+# The tables of docs/PERFORMANCE.md.
+speed: library
+	@CARGO_TARGET_DIR=target/cargo cargo run -q --release --offline --locked --manifest-path tests/Cargo.toml -p speed

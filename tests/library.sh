@@ -1,0 +1,60 @@
+#!/usr/bin/env bash
+# Tests the built library as C and Rust programs use it, beside the second interpreter. `rt staticlib engine` has built it.
+# The last line is 'N passed, M failed'.
+set -u
+cd "$(dirname "$0")/.."
+export CARGO_TARGET_DIR=$PWD/target/cargo
+library=target/staticlib/libengine.a
+log=target/library.log
+passed=0
+failed=0
+
+# One test: its name, and the command.
+try() {
+    local name=$1
+    shift
+    if "$@"; then
+        passed=$((passed + 1))
+        echo "ok $name"
+    else
+        failed=$((failed + 1))
+        echo "FAILED $name"
+    fi
+}
+
+# A command that counts its own tests: the lines of its output that fit the pattern say how many passed and failed. One
+# that stops before it has counted is a failed test, too.
+tally() {
+    local name=$1 pattern=$2 status p f
+    shift 2
+    "$@" 2>&1 | tee "$log"
+    status=${PIPESTATUS[0]}
+    while read -r p f; do
+        passed=$((passed + p))
+        failed=$((failed + f))
+    done < <(sed -nE "s/^$pattern.*/\1 \2/p" "$log")
+    try "$name" test "$status" -eq 0
+}
+
+prints_the_example() { diff <("$@") crates/station/stdout; }
+
+rust() {
+    local command=$1 folder=$2
+    shift 2
+    cargo "$command" --offline --locked --manifest-path "$folder/Cargo.toml" "$@"
+}
+
+counted='test result: [a-zA-Z]+\. ([0-9]+) passed; ([0-9]+) failed'
+cc=(cc -std=c99 -Wall -Wextra -pedantic -Werror -I include)
+
+try 'C: first_run builds' "${cc[@]}" bindings/c/first_run.c $library -o target/first_run
+try 'C: first_run prints the example' prints_the_example target/first_run
+try 'C: edges builds' "${cc[@]}" bindings/c/edges.c $library -o target/edges
+try 'C: edges' target/edges
+tally 'Rust: crate station' "$counted" rust test bindings/rust
+try 'Rust: first_run prints the example' prints_the_example rust run bindings/rust -q --example first_run
+tally 'Rust: tests' "$counted" rust test tests --release
+tally 'Rust: comparison' '([0-9]+) passed, ([0-9]+) failed' rust run tests -q --release -p compare -- all
+
+echo "$passed passed, $failed failed"
+[ "$failed" -eq 0 ]
