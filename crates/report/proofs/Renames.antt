@@ -172,4 +172,3 @@ module _ {L : Type 0} where
   ren-then (r-watching q d) {σ} (r-watching r g) = r-watching (r ∙ ap (σ sig) q) (ren-then d g)
   ren-then (r-when q d) {σ} (r-when r g) = r-when (r ∙ ap (σ sig) q) (ren-then d g)
   ren-then (r-parallel d d′) (r-parallel g g′) = r-parallel (ren-then d g) (ren-then d′ g′)
-
