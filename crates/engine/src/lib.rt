@@ -76,14 +76,14 @@ pub fn run(
     if refusal.number != 0 {
         return refused(refusal);
     }
-    let sizes = script::sizes::find_sizes(script, c);
+    let plan = runner::plan::find_plan(script, c);
     let seen = values::find_seen(script, c, b, reader as usize);
     let mut state = [0u8; Script::MAX_NODES];
     let n = c.nodes;
     let r = runner::run(
         script,
         c,
-        &sizes,
+        &plan,
         &seen,
         values,
         &mut state[0..n],

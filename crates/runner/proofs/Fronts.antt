@@ -1,19 +1,37 @@
 -- The form of a node, as it is found: where a part is in front, the node has a first child.
 -- Assumes nothing.
-use mathlib.Core.Path.{_≡_, sym, ap, _∙_, subst}
-use mathlib.Core.Bool.{true, false}
-use mathlib.Core.List.{List}
+use mathlib.Core.Path.{_≡_, refl, sym, ap, _∙_, subst}
+use mathlib.Core.Bool.{true, false, true≢false}
+use mathlib.Core.List.{List, []}
 use Prim.Native.Nat.{ℕ, zero, suc, _+_, _≤_, _<_}
 use native.Mathlib.Omega.{arith}
+use native.Mathlib.Nat.{le-trans}
 use lib.Dec.{leb}
-use borrow.Author.Tests.{le-leb, lt-leb}
+use lib.ListN.{getD, length, List·getD-eq-default}
+use borrow.Author.Tests.{leb-true, le-leb, lt-leb}
+use Rattle.prelude.specs.Search.{all, any, firstFrom}
+use Rattle.prelude.specs.Search as search-for
+use Rattle.prelude.proofs.Searches.{all-elim, none-of-any}
 use Rattle.script.specs.Layout.{nodeCount}
 use Rattle.script.specs.Entries.{partOf, node, firstChild, secondChild}
 use Rattle.script.specs.Tree.{processOf, size}
 use Rattle.script.specs.Checked.{Checked}
 use Rattle.script.proofs.Views.{NodeView, aNil, anAssign, aLet, anIf, aWhile, aSequence, anEmit, aLocal, aWatching, aWhen, aParallel, node-view}
-use Rattle.script.specs.declared.entries.Part.{Part}
-use Rattle.runner.specs.Forms.{mover, formOf, fromSecond, frontOf}
+use Rattle.runner.specs.Forms.{gone, mover, formRows, formOf, fromSecond, frontOf}
+
+-- no kind has more than four forms
+short : (kind : ℕ) → kind < 11 → length (getD formRows kind []) ≤ 4
+unfolding all any search-for.first firstFrom
+short kind h = leb-true _ _ (all-elim (λ k. leb (length (getD formRows k [])) 4) 11 refl kind h)
+
+pub form-past : (kind tag : ℕ) → kind < 11 → 4 ≤ tag → gone ≡ formOf kind tag
+form-past kind tag h l =
+    sym (List·getD-eq-default {A = ℕ} (getD formRows kind []) gone {n = tag} (le-trans (short kind h) l))
+
+-- in no form of this kind is the second part in front
+no-second :
+    (kind tag : ℕ) → any (λ t. fromSecond (formOf kind t)) 4 ≡ false → tag < 4 → fromSecond (formOf kind tag) ≡ true → ⊥
+no-second kind tag none h t = true≢false (sym t ∙ none-of-any (λ n. fromSecond (formOf kind n)) 4 none tag h)
 
 module _ (s : List ℕ) (ok : Checked s) (k : ℕ) (h : k < nodeCount s) where
   kind-of : NodeView s k → partOf s (node s k) .kind < 11
@@ -58,38 +76,52 @@ module _ (s : List ℕ) (ok : Checked s) (k : ℕ) (h : k < nodeCount s) where
       (tag : ℕ) → mover < formOf (partOf s (node s k) .kind) tag → firstChild (partOf s (node s k)) < k
   child-known tag l = child-of tag l (node-view s ok k h)
 
--- the front that is found, for a node whose entry is p
-module _ (s : List ℕ) (k tag len : ℕ) (p : Part) (e : p ≡ partOf s (node s k)) where
-  form-is : {form : ℕ} → form ≡ formOf (p .kind) tag → form ≡ formOf (partOf s (node s k) .kind) tag
-  form-is f = f ∙ ap (λ (x : Part). formOf (x .kind) tag) e
+  -- a node whose second part is in front has a second child
+  second-of :
+      (tag : ℕ) → tag < 4 → fromSecond (formOf (partOf s (node s k) .kind) tag) ≡ true → NodeView s k →
+      secondChild (partOf s (node s k)) < k
+  unfolding secondChild all any search-for.first firstFrom
+  second-of tag l t v =
+      let no : (n : ℕ) → partOf s (node s k) .kind ≡ n → any (λ t. fromSecond (formOf n t)) 4 ≡ false → ⊥ =
+      λ n e none. no-second n tag none l (subst (λ n. fromSecond (formOf n tag) ≡ true) e t) in
+      elim v [
+        | aNil e q ↦ absurd (no 0 e refl)
+        | anAssign e q x y ↦ absurd (no 1 e refl)
+        | aLet e q x y z ↦ absurd (no 2 e refl)
+        | anIf e q x y z ↦ rw e (z .before)
+        | aWhile e q x y ↦ absurd (no 4 e refl)
+        | aSequence e q x y ↦ rw e (y .before)
+        | anEmit e q x ↦ absurd (no 6 e refl)
+        | aLocal e q x y ↦ absurd (no 7 e refl)
+        | aWatching e q x y ↦ absurd (no 8 e refl)
+        | aWhen e q x y ↦ absurd (no 9 e refl)
+        | aParallel e q x y ↦ rw e (y .before)
+      ]
 
-  pub front-none :
-      {form : ℕ} → form ≡ formOf (p .kind) tag → form ≤ mover →
-      record { form = form; child = 0; from = 0; to = 0 } ≡ frontOf s k tag len
+  pub second-known :
+      (tag : ℕ) → tag < 4 → fromSecond (formOf (partOf s (node s k) .kind) tag) ≡ true →
+      secondChild (partOf s (node s k)) < k
+  second-known tag l t = second-of tag l t (node-view s ok k h)
+
+-- the front that is found
+module _ (s : List ℕ) (k tag len : ℕ) {form : ℕ} (f : form ≡ formOf (partOf s (node s k) .kind) tag) where
+  pub front-none : form ≤ mover → record { form = form; child = 0; from = 0; to = 0 } ≡ frontOf s k tag len
   unfolding frontOf
-  front-none f l =
-      let g = form-is f in
-      rw (g, le-leb (formOf (partOf s (node s k) .kind) tag) mover (subst (λ x. x ≤ mover) g l))
+  front-none l = rw (f, le-leb (formOf (partOf s (node s k) .kind) tag) mover (subst (λ x. x ≤ mover) f l))
 
-  module _ {form : ℕ} (f : form ≡ formOf (p .kind) tag) (l : mover < form) where
+  module _ (l : mover < form) {middle : ℕ}
+      (m : middle ≡ 1 + size (processOf s (firstChild (partOf s (node s k))))) where
     more : leb (formOf (partOf s (node s k) .kind) tag) mover ≡ false
-    more = lt-leb (formOf (partOf s (node s k) .kind) tag) mover (subst (λ x. mover < x) (form-is f) l)
+    more = lt-leb (formOf (partOf s (node s k) .kind) tag) mover (subst (λ x. mover < x) f l)
 
-    module _ {one two middle : ℕ}
-        (a : one ≡ firstChild p) (b : two ≡ secondChild p) (m : middle ≡ 1 + size (processOf s one)) where
-      middle-is : middle ≡ 1 + size (processOf s (firstChild (partOf s (node s k))))
-      middle-is = m ∙ ap (λ j. 1 + size (processOf s j)) (a ∙ ap firstChild e)
+    pub front-second :
+        {two : ℕ} → two ≡ secondChild (partOf s (node s k)) → fromSecond form ≡ true →
+        record { form = form; child = two; from = middle; to = len } ≡ frontOf s k tag len
+    unfolding frontOf
+    front-second b t = rw (f, more, ap fromSecond (sym f) ∙ t, b, m)
 
-      pub front-second :
-          fromSecond form ≡ true → record { form = form; child = two; from = middle; to = len } ≡ frontOf s k tag len
-      unfolding frontOf
-      front-second t =
-          rw
-          (form-is f, more, ap fromSecond (sym (form-is f)) ∙ t, b ∙ ap secondChild e, middle-is)
-
-      pub front-first :
-          fromSecond form ≡ false → record { form = form; child = one; from = 1; to = middle } ≡ frontOf s k tag len
-      unfolding frontOf
-      front-first t =
-          rw
-          (form-is f, more, ap fromSecond (sym (form-is f)) ∙ t, a ∙ ap firstChild e, middle-is)
+    pub front-first :
+        {one : ℕ} → one ≡ firstChild (partOf s (node s k)) → fromSecond form ≡ false →
+        record { form = form; child = one; from = 1; to = middle } ≡ frontOf s k tag len
+    unfolding frontOf
+    front-first a t = rw (f, more, ap fromSecond (sym f) ∙ t, a, m)

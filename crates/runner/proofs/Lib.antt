@@ -9,6 +9,7 @@ pub mod Residuals
 pub mod Scopes
 pub mod Sights
 pub mod Fronts
+pub mod Plans
 pub mod Movers
 pub mod Advancing
 pub mod Resting

@@ -13,9 +13,9 @@ ghost use mathlib.Core.Path.{_≡_};
 ghost use Prim.Native.Nat.{_/_, _≤_, _<_};
 ghost use lib.ListN.{length};
 ghost use Rattle.script.specs.Layout.{nodeCount};
-ghost use Rattle.script.specs.Tree.{KeepsSizes};
 ghost use Rattle.runner.specs.Residual.{own};
 ghost use Rattle.runner.specs.Forms.{frontOf};
+ghost use Rattle.runner.specs.Plan.{KeepsPlan};
 ghost use Rattle.runner.specs.Contracts.{mostSteps, Valued, At, Counted, left, seenIn, runningAt, Advances, Enters, Byte, byteAfter, Rests, Settles};
 
 // The part in front is to be advanced.
@@ -31,7 +31,7 @@ pub struct Entered {
 fn enter(
     s: &[u8],
     c: Script,
-    sizes: &[u16; Script::MAX_NODES],
+    plan: &[usize; Script::MAX_NODES],
     seen: &[u8],
     values: &mut [i32],
     state: &mut [u8],
@@ -40,10 +40,10 @@ fn enter(
     at: Counts,
     k: usize,
 ) -> Entered
-    requires { ⌜ Valued (now s) c (now values) × (KeepsSizes (now s) (nodeCount (now s)) (now sizes) × (At (now s) k (now state) × (Counted (limits .steps) (now log) (at .steps) (at .lines) × (length (now values) ≤ length (now seen))))) ⌝ }
+    requires { ⌜ Valued (now s) c (now values) × (KeepsPlan (now s) (nodeCount (now s)) (now plan) × (At (now s) k (now state) × (Counted (limits .steps) (now log) (at .steps) (at .lines) × (length (now values) ≤ length (now seen))))) ⌝ }
     ensures { λ r. ⌜ Enters (seenIn (now (seen .entry))) (limits .steps) (length (now (log .entry)) / 4) (now (s .entry)) k (now (state .entry)) (now (state .exit)) (runningAt (now (s .entry)) k (now (state .entry)) (now (values .entry)) (now (log .entry)) (at .steps) (limits .instant) (at .lines)) (runningAt (now (s .entry)) k (now (state .exit)) (now (values .exit)) (now (log .exit)) (r .at .steps) (limits .instant) (r .at .lines)) (r .why) (r .front) ⌝ }
 {
-    let f = forms::find_front(s, c, sizes, k, state[0], state.len());
+    let f = forms::find_front(s, c, plan, k, state[0], state.len());
     if f.form == forms::GONE {
         return Entered {
             why: moves::GONE,
@@ -93,7 +93,7 @@ fn byte_after(form: u8, why: u8, tag: u8) -> u8
 fn leave(
     s: &[u8],
     c: Script,
-    sizes: &[u16; Script::MAX_NODES],
+    plan: &[usize; Script::MAX_NODES],
     values: &[i32],
     state: &mut [u8],
     limits: Limits,
@@ -102,7 +102,7 @@ fn leave(
     f: Front,
     why: u8,
 ) -> Done
-    requires { ⌜ Valued (now s) c (now values) × (KeepsSizes (now s) (nodeCount (now s)) (now sizes) × (At (now s) k (now state) × ((at .steps ≤ limits .steps) × (limits .steps ≤ mostSteps)))) ⌝ }
+    requires { ⌜ Valued (now s) c (now values) × (KeepsPlan (now s) (nodeCount (now s)) (now plan) × (At (now s) k (now state) × ((at .steps ≤ limits .steps) × (limits .steps ≤ mostSteps)))) ⌝ }
     requires { ⌜ (f ≡ frontOf (now s) k (own (now state)) (length (now state))) × Rests (now s) k (now state) (now values) f why ⌝ }
     ensures { λ r. ⌜ Settles (limits .steps) (left (now (s .entry)) k (now (state .entry))) (now (values .entry)) (left (now (s .entry)) k (now (state .exit))) (at .steps) (at .lines) why (r .why) (r .at .steps) (r .at .lines) ⌝ }
 {
@@ -110,7 +110,7 @@ fn leave(
     if form < forms::BEFORE {
         return Done { why, at };
     }
-    if why == moves::SUSPENDED && suspension::rear_waits(s, c, sizes, values, state, k, form) {
+    if why == moves::SUSPENDED && suspension::rear_waits(s, c, plan, values, state, k, form) {
         return Done { why, at };
     }
     if limits.steps <= at.steps {
@@ -133,7 +133,7 @@ fn leave(
 pub fn advance(
     s: &[u8],
     c: Script,
-    sizes: &[u16; Script::MAX_NODES],
+    plan: &[usize; Script::MAX_NODES],
     seen: &[u8],
     values: &mut [i32],
     state: &mut [u8],
@@ -142,12 +142,12 @@ pub fn advance(
     at: Counts,
     k: usize,
 ) -> Done
-    requires { ⌜ Valued (now s) c (now values) × (KeepsSizes (now s) (nodeCount (now s)) (now sizes) × (At (now s) k (now state) × (Counted (limits .steps) (now log) (at .steps) (at .lines) × (length (now values) ≤ length (now seen))))) ⌝ }
+    requires { ⌜ Valued (now s) c (now values) × (KeepsPlan (now s) (nodeCount (now s)) (now plan) × (At (now s) k (now state) × (Counted (limits .steps) (now log) (at .steps) (at .lines) × (length (now values) ≤ length (now seen))))) ⌝ }
     ensures { λ r. ⌜ Advances (seenIn (now (seen .entry))) (limits .steps) (length (now (log .entry)) / 4) (runningAt (now (s .entry)) k (now (state .entry)) (now (values .entry)) (now (log .entry)) (at .steps) (limits .instant) (at .lines)) (runningAt (now (s .entry)) k (now (state .exit)) (now (values .exit)) (now (log .exit)) (r .at .steps) (limits .instant) (r .at .lines)) (r .why) × (0 < r .why) ⌝ }
 {
     let mut now = at;
     loop {
-        let e = enter(s, c, sizes, seen, values, state, log, limits, now, k);
+        let e = enter(s, c, plan, seen, values, state, log, limits, now, k);
         let why = e.why;
         let entered = e.at;
         if why == INTO {
@@ -158,7 +158,7 @@ pub fn advance(
             let r = advance(
                 s,
                 c,
-                sizes,
+                plan,
                 seen,
                 values,
                 part,
@@ -171,7 +171,7 @@ pub fn advance(
                 return r;
             }
             let advanced = r.at;
-            let l = leave(s, c, sizes, values, state, limits, advanced, k, f, r.why);
+            let l = leave(s, c, plan, values, state, limits, advanced, k, f, r.why);
             if l.why != moves::AGAIN {
                 return l;
             }

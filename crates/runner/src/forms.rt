@@ -1,12 +1,12 @@
 // The form that a node has come to: what is in front, and what stands around it.
+use crate::plan;
 use script::layout::Script;
 ghost use mathlib.Core.Path.{_≡_};
 ghost use Prim.Native.Nat.{_<_};
-ghost use lib.ListN.{getD};
 ghost use Rattle.script.specs.Layout.{nodeCount, Laid};
-ghost use Rattle.script.specs.Tree.{KeepsSizes};
 ghost use Rattle.script.specs.Checked.{Checked};
 ghost use Rattle.runner.specs.Forms.{formOf, frontOf};
+ghost use Rattle.runner.specs.Plan.{KeepsPlan};
 
 // Nil.
 pub const GONE: u8 = 0;
@@ -53,7 +53,7 @@ pub struct Front {
     pub to: usize,
 }
 
-fn form_of(kind: usize, tag: u8) -> u8
+pub fn form_of(kind: usize, tag: u8) -> u8
     requires { ⌜ kind < 11 ⌝ }
     ensures { λ r. ⌜ r ≡ formOf kind tag ⌝ }
 {
@@ -64,33 +64,28 @@ fn form_of(kind: usize, tag: u8) -> u8
     FORM_ROWS[kind][t]
 }
 
-fn wide(x: u16) -> usize
-    ensures { λ r. ⌜ r ≡ x ⌝ }
-{
-    x as usize
-}
-
-fn size_at(sizes: &[u16; Script::MAX_NODES], k: usize) -> usize
-    requires { ⌜ k < 256 ⌝ }
-    ensures { λ r. ⌜ r ≡ getD (now (sizes .entry)) k 0 ⌝ }
-{
-    wide(sizes[k])
-}
-
 // The form of node k whose own byte is `tag` and which has so many bytes.
 pub fn find_front(
     s: &[u8],
     c: Script,
-    sizes: &[u16; Script::MAX_NODES],
+    plan: &[usize; Script::MAX_NODES],
     k: usize,
     tag: u8,
     len: usize,
 ) -> Front
-    requires { ⌜ Laid (now s) c × (Checked (now s) × (KeepsSizes (now s) (nodeCount (now s)) (now sizes) × (k < nodeCount (now s)))) ⌝ }
+    requires { ⌜ Laid (now s) c × (Checked (now s) × (KeepsPlan (now s) (nodeCount (now s)) (now plan) × (k < nodeCount (now s)))) ⌝ }
     ensures { λ r. ⌜ r ≡ frontOf (now (s .entry)) k tag len ⌝ }
 {
-    let p = script::entries::part_at(s, c, c.expressions + k);
-    let form = form_of(p.kind, tag);
+    if NIL <= tag {
+        return Front {
+            form: GONE,
+            child: 0,
+            from: 0,
+            to: 0,
+        };
+    }
+    let w = plan[k];
+    let form = plan::form_in(w, prelude::wide(tag)) as u8;
     if form <= MOVER {
         return Front {
             form,
@@ -99,20 +94,18 @@ pub fn find_front(
             to: 0,
         };
     }
-    let parts = script::children::children_of(p);
-    let first = parts.first;
-    let middle = 1 + size_at(sizes, first);
+    let middle = 1 + plan::size_in(w);
     if form == SECOND || form == TURNED {
         return Front {
             form,
-            child: parts.second,
+            child: plan::second_in(w),
             from: middle,
             to: len,
         };
     }
     Front {
         form,
-        child: first,
+        child: plan::first_in(w),
         from: 1,
         to: middle,
     }

@@ -7,24 +7,25 @@ ghost use mathlib.Core.Path.{_≡_};
 ghost use Rattle.language.specs.Steps.{change, instantStart};
 ghost use Rattle.language.specs.Calls.{givenBack};
 ghost use Rattle.script.specs.Layout.{nodeCount};
-ghost use Rattle.script.specs.Tree.{namesOf, KeepsSizes};
+ghost use Rattle.script.specs.Tree.{namesOf};
+ghost use Rattle.runner.specs.Plan.{KeepsPlan};
 ghost use Rattle.runner.specs.Contracts.{Valued, At, left};
 
 // The instant change of node k, which goes into what is in front and reads the signals of the instant that ends.
 pub fn change_instant(
     s: &[u8],
     c: Script,
-    sizes: &[u16; Script::MAX_NODES],
+    plan: &[usize; Script::MAX_NODES],
     values: &[i32],
     state: &mut [u8],
     k: usize,
 )
-    requires { ⌜ Valued (now s) c (now values) × (KeepsSizes (now s) (nodeCount (now s)) (now sizes) × At (now s) k (now state)) ⌝ }
+    requires { ⌜ Valued (now s) c (now values) × (KeepsPlan (now s) (nodeCount (now s)) (now plan) × At (now s) k (now state)) ⌝ }
     ensures { λ _. ⌜ left (now (s .entry)) k (now (state .exit)) ≡ change (left (now (s .entry)) k (now (state .entry))) (now (values .entry)) ⌝ }
 {
     let tag = state[0];
     let len = state.len();
-    let f = find_front(s, c, sizes, k, tag, len);
+    let f = find_front(s, c, plan, k, tag, len);
     if f.form <= forms::MOVER {
         return;
     }
@@ -37,12 +38,12 @@ pub fn change_instant(
     }
     let from = f.from;
     let to = f.to;
-    change_instant(s, c, sizes, values, &mut state[from..to], f.child);
+    change_instant(s, c, plan, values, &mut state[from..to], f.child);
     if forms::BESIDE <= f.form {
-        let g = find_front(s, c, sizes, k, 1 - tag, len);
+        let g = find_front(s, c, plan, k, 1 - tag, len);
         let start = g.from;
         let end = g.to;
-        change_instant(s, c, sizes, values, &mut state[start..end], g.child);
+        change_instant(s, c, plan, values, &mut state[start..end], g.child);
     }
 }
 

@@ -1,5 +1,6 @@
 // Runs a checked script, as far as the step limit and the log let it.
 mod forms; // forms.rt: the form that a node has come to
+pub mod plan; // plan.rt: what a run goes by of each node
 mod values; // values.rt: what the names hold, and the values of expressions
 mod log; // log.rt: the lines of the log
 mod moves; // moves.rt: a node's own moves
@@ -14,8 +15,9 @@ ghost use mathlib.Core.Path.{_≡_};
 ghost use Prim.Native.Nat.{_/_, _≤_};
 ghost use lib.ListN.{length, replicate};
 ghost use Rattle.script.specs.Layout.{nodeCount};
-ghost use Rattle.script.specs.Tree.{namesOf, KeepsSizes};
+ghost use Rattle.script.specs.Tree.{namesOf};
 ghost use Rattle.runner.specs.Outcome.{outcome};
+ghost use Rattle.runner.specs.Plan.{KeepsPlan};
 ghost use Rattle.runner.specs.Contracts.{mostSteps, Valued, seenIn, starting, endingOf, Gives};
 
 // How a run ended, and what it counted.
@@ -43,14 +45,14 @@ fn ending_of(why: u8) -> u32
 pub fn run(
     s: &[u8],
     c: Script,
-    sizes: &[u16; Script::MAX_NODES],
+    plan: &[usize; Script::MAX_NODES],
     seen: &[u8],
     values: &mut [i32],
     state: &mut [u8],
     log: &mut [u32],
     limit: u32,
 ) -> Ran
-    requires { ⌜ Valued (now s) c (now values) × (KeepsSizes (now s) (nodeCount (now s)) (now sizes) × ((now state ≡ replicate (nodeCount (now s)) 0) × ((length (now values) ≤ length (now seen)) × (limit ≤ mostSteps)))) ⌝ }
+    requires { ⌜ Valued (now s) c (now values) × (KeepsPlan (now s) (nodeCount (now s)) (now plan) × ((now state ≡ replicate (nodeCount (now s)) 0) × ((length (now values) ≤ length (now seen)) × (limit ≤ mostSteps)))) ⌝ }
     ensures { λ r. ⌜ Gives (outcome (namesOf (now (s .entry))) (seenIn (now (seen .entry))) limit (length (now (log .entry)) / 4) (starting (now (s .entry)) (now (values .entry)) (now (log .entry)))) r (now (values .exit)) (now (log .exit)) ⌝ }
 {
     let k = c.nodes - 1;
@@ -61,7 +63,7 @@ pub fn run(
             steps: limit,
             instant,
         };
-        let r = advance::advance(s, c, sizes, seen, values, state, log, limits, at, k);
+        let r = advance::advance(s, c, plan, seen, values, state, log, limits, at, k);
         if r.why != moves::SUSPENDED || limit <= r.at.steps {
             instants::clear_owned(s, c, values);
             return Ran {
@@ -71,7 +73,7 @@ pub fn run(
                 lines: r.at.lines,
             };
         }
-        instants::change_instant(s, c, sizes, values, state, k);
+        instants::change_instant(s, c, plan, values, state, k);
         instants::clear_signals(s, c, values);
         at = Counts {
             steps: r.at.steps + 1,

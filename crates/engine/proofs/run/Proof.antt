@@ -18,9 +18,10 @@ use Rattle.lattice.proofs.Theorems.{order-at}
 use Rattle.language.specs.Calls.{readable}
 use Rattle.script.specs.Layout.{nameCount, Laid}
 use Rattle.script.specs.Entries.{nameOf}
-use Rattle.script.specs.Tree.{namesOf, KeepsSizes}
+use Rattle.script.specs.Tree.{namesOf}
 use Rattle.script.proofs.Layouts.{few-bounds, names-are, nodes-are}
 use Rattle.script.proofs.Theorems.{accepted-exactly}
+use Rattle.runner.specs.Plan.{KeepsPlan}
 use Rattle.runner.specs.Contracts.{seenIn}
 use Rattle.runner.proofs.Residuals.{take-zeros}
 use Rattle.script.specs.Checked.{Checked, Levelled}
@@ -120,8 +121,8 @@ returns-2 c =
     let e = refused-left (now (start .args .book)) (now (start .args .script)) (start .args .reader) (now (start .args .values)) (start .args .limit) (now (start .args .log)) (call-is ((c .before .before .before))) f in
     (c .refused2 .ensures ∙ ap (λ (l : Left). l .report) e, (ap (λ (l : Left). l .values) e, ap (λ (l : Left). l .log) e))
 
-find-sizes-requires : tie.Need-find-sizes-requires
-find-sizes-requires c κs =
+find-plan-requires : tie.Need-find-plan-requires
+find-plan-requires c κs =
     (laid ((c .before .before .before .before .before .before)), file ((c .before .before .before .before .before .before)))
 
 find-seen-requires : tie.Need-find-seen-requires
@@ -168,7 +169,7 @@ run-requires c κs =
     let started = run-accepted (now (start .args .book)) (now (start .args .script)) (start .args .reader) (now (start .args .values)) (start .args .limit) (passed ((c .before .before .before .before .before .before .before))) .1 in (
       record { laid = l; checked = file ((c .before .before .before .before .before .before .before .before .before .before .before .before .before)); named = started .named },
       (
-        subst (λ n. KeepsSizes (now (start .args .script)) n (c .before .before .before .before .before .before .find-sizes .result)) (nodes-are l) (c .before .before .before .before .before .before .find-sizes .ensures),
+        subst (λ n. KeepsPlan (now (start .args .script)) n (c .before .before .before .before .before .before .find-plan .result)) (nodes-are l) (c .before .before .before .before .before .before .find-plan .ensures),
         (
           cleared (c .before .before .before .before .before .before .before .before .before .before .before .before .before .before .before .prepare .result .script .nodes) _ (few-bounds (c .before .before .before .before .before .before .before .before .before .before .before .before .before .before .before .prepare .result .script) (l .few) .1 .1 .1) (nodes-are l),
           (long-enough ((c .before .before .before)) (started .named), omega (arith, run-bounds (now (start .args .book)) (now (start .args .script)) (start .args .reader) (now (start .args .values)) (start .args .limit) (passed ((c .before .before .before .before .before .before .before))) .1)),
@@ -214,7 +215,7 @@ run-spec =
     refused-requires-2
     same-length
     returns-2
-    find-sizes-requires
+    find-plan-requires
     find-seen-requires
     slice-aggregate-run
     sub-run

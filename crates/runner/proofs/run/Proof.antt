@@ -22,12 +22,12 @@ use Rattle.runner.proofs.run.Statement.{statement}
 use Rattle.runner.proofs.run.Tie as tie
 
 abbrev Inv-loop : tie.InvT-loop
-Inv-loop s c sizes seen values₀ state₀ log₀ limit k at₀ instant₀ values state log at instant =
+Inv-loop s c plan seen values₀ state₀ log₀ limit k at₀ instant₀ values state log at instant =
     Comes (namesOf s) (seenIn seen) limit (starting s values₀ log₀)
     (runningAt s k state values log (at .steps) instant (at .lines)) state₀ state
 
 abbrev μ-loop : tie.MeasureT-loop
-μ-loop s c sizes seen values₀ state₀ log₀ limit k at₀ instant₀ values state log at instant = limit - at .steps
+μ-loop s c plan seen values₀ state₀ log₀ limit k at₀ instant₀ values state log at instant = limit - at .steps
 
 -- the script is run as far as it goes in the instant
 advanced :

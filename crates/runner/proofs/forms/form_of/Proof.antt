@@ -1,15 +1,15 @@
 -- `form_of`: the rows of the code are those of the definition, filled up with GONE.
-use mathlib.Core.Path.{_≡_, refl, sym, ap, _∙_}
+use mathlib.Core.Path.{_≡_, refl, ap, _∙_}
 use mathlib.Core.List.{List, [], _∷_}
-use Prim.Native.Nat.{ℕ, _≤_, _<_}
-use native.Mathlib.Nat.{le-trans}
-use lib.Dec.{eqb, leb}
-use lib.ListN.{getD, length, List·getD-eq-default}
-use borrow.Author.Tests.{eqb-true, leb-true}
+use Prim.Native.Nat.{ℕ, _<_}
+use lib.Dec.{eqb}
+use lib.ListN.{getD}
+use borrow.Author.Tests.{eqb-true}
 use Rattle.prelude.specs.Search.{all, any, firstFrom}
 use Rattle.prelude.specs.Search as search-for
 use Rattle.prelude.proofs.Searches.{all-elim}
-use Rattle.runner.specs.Forms.{gone, mover, first, second, before, watched, guarded, beside, turned, formRows, formOf}
+use Rattle.runner.specs.Forms.{gone, mover, first, second, before, watched, guarded, beside, turned, formOf}
+use Rattle.runner.proofs.Fronts.{form-past}
 use borrow.Author.Needs.{needs}
 use Rattle.runner.proofs.forms.form_of.Statement.{statement}
 use Rattle.runner.proofs.forms.form_of.Tie as tie
@@ -33,11 +33,6 @@ filled =
     ∷ row beside turned first second
     ∷ []
 
--- no row is longer than four
-short : (kind : ℕ) → kind < 11 → length (getD formRows kind []) ≤ 4
-unfolding all any search-for.first firstFrom
-short kind h = leb-true _ _ (all-elim (λ k. leb (length (getD formRows k [])) 4) 11 refl kind h)
-
 same : (kind tag : ℕ) → kind < 11 → tag < 4 → getD (getD filled kind []) tag 0 ≡ formOf kind tag
 unfolding all any search-for.first firstFrom
 same kind tag h l =
@@ -47,10 +42,7 @@ same kind tag h l =
     tag l)
 
 returns : tie.Need-returns
-returns c =
-    sym
-    (List·getD-eq-default {A = ℕ} (getD formRows (c .before .args .kind) []) gone {n = c .before .args .tag}
-    (le-trans (short (c .before .args .kind) (c .before .pre)) (c .if1 .taken)))
+returns c = form-past (c .before .args .kind) (c .before .args .tag) (c .before .pre) (c .if1 .taken)
 
 wide-requires : tie.Need-wide-requires
 wide-requires c κs = search needs
