@@ -2,6 +2,7 @@
 pub mod Sizes
 pub mod Stores
 pub mod Sweeps
+pub mod Rows
 pub mod Orders
 pub mod Passing
 pub mod Loads

@@ -15,10 +15,13 @@ use Rattle.lattice.specs.declared.Loaded.{Loaded}
 use Rattle.lattice.specs.declared.book.Book.{Book}
 use Rattle.prelude.specs.Refusals.{refusedBy, notRefused, passes}
 use Rattle.lattice.specs.Order.{Relation, converse, leastUpper, PartialOrder}
-use Rattle.lattice.specs.LevelBook.{mostLevels, count, sizeIsRight, rows, atOrBelow}
+use Rattle.lattice.specs.LevelBook.{mostLevels, count, sizeIsRight, rows, atOrBelow, converseRows}
 use Rattle.lattice.specs.Refusals.{firstFaulty, lacksUpper, firstLacking, refusal, isAccepted}
 use Rattle.lattice.specs.Bounds.{kept, Keeps, Square, Swept}
 use Rattle.lattice.specs.Load.{answer, noBook, bookOf, loaded, Loads}
+use Rattle.lattice.proofs.Sizes.{few}
+use Rattle.lattice.proofs.Sweeps.{swept-same}
+use Rattle.lattice.proofs.Rows.{upside-down}
 use Rattle.lattice.proofs.Orders.{dual, least-swap, least-own}
 use Rattle.lattice.proofs.Passing.{passing, order}
 
@@ -123,7 +126,9 @@ module _ (s : List ℕ) (join meet : List (List ℕ)) where
           (ordered : b .count ≤ f)
           (u l p : ℕ)
           (up : Swept (atOrBelow (b .rows)) (b .count) join u)
-          (down : Swept (converse (atOrBelow (b .rows))) (b .count) meet l)
+          (d : Book)
+          (turned : (d .count ≡ b .count) × (d .rows ≡ converseRows (b .rows)))
+          (down : Swept (atOrBelow (d .rows)) (d .count) meet l)
           (lesser : p ≡ cond (leb u l) u l)
         where
           ordered′ : count s ≤ firstFaulty (rows s) (count s)
@@ -133,7 +138,13 @@ module _ (s : List ℕ) (join meet : List (List ℕ)) where
           up′ = subst (λ x. Swept (atOrBelow (x .rows)) (x .count) join u) read up
 
           down′ : Swept (converse (atOrBelow (rows s))) (count s) meet l
-          down′ = subst (λ x. Swept (converse (atOrBelow (x .rows))) (x .count) meet l) read down
+          down′ =
+              swept-same (atOrBelow (converseRows (rows s))) (converse (atOrBelow (rows s))) (count s)
+              (λ i j u v. upside-down (rows s) i j (omega (arith, few s size)) (omega (arith, few s size)))
+              meet l
+              (subst (λ x. Swept (atOrBelow (converseRows (x .rows))) (x .count) meet l) read
+              (subst (λ x. Swept (atOrBelow x) (b .count) meet l) (turned .1)
+              (subst (λ k. Swept (atOrBelow (d .rows)) k meet l) (turned .0) down)))
 
           place-is : p ≡ firstLacking (atOrBelow (rows s)) (count s)
           unfolding firstLacking

@@ -1,14 +1,15 @@
 -- The sweep over the pairs: what holds when the pairs of all places below p are done.
 -- Assumes nothing.
-use mathlib.Core.Path.{_≡_, sym, _∙_, subst}
-use mathlib.Core.Bool.{true, false}
+use mathlib.Core.Path.{_≡_, refl, sym, ap, _∙_, subst}
+use mathlib.Core.Bool.{Bool, true, false, _&&_}
 use mathlib.Core.List.{List}
 use Prim.Native.Nat.{ℕ, _+_, _*_, _/_, _%_, _≤_, _<_}
 use native.Mathlib.Decide.{ℕ-discrete, decLt}
 use native.Mathlib.Omega.{arith}
-use borrow.Author.Tests.{lt-ltb, le-ltb, eq-eqb, ne-eqb}
-use Rattle.prelude.proofs.Searches.{first-is, first-none}
-use Rattle.lattice.specs.Order.{Relation, leastUpper}
+use lib.Dec.{eqb, ltb}
+use borrow.Author.Tests.{lt-ltb, le-ltb, ltb-true, eq-eqb, ne-eqb}
+use Rattle.prelude.proofs.Searches.{first-is, first-none, first-same, any-same}
+use Rattle.lattice.specs.Order.{Relation, missed, isLeastUpper, leastUpper}
 use Rattle.lattice.specs.LevelBook.{mostLevels}
 use Rattle.lattice.specs.Refusals.{lacksUpper}
 use Rattle.lattice.specs.Bounds.{kept, Square, Swept}
@@ -163,3 +164,39 @@ pair-next R n small t i j k h l e f d =
                 subst (λ m. PairKept R n (put u j i k) m b) (sym ea) (subst (λ m. PairKept R n (put u j i k) i m) (sym eb) near)
           ];
     }
+
+-- a sweep is the same for two relations that agree on the levels
+module _ (R S : Relation) (n : ℕ) (same : (i j : ℕ) → i < n → j < n → R i j ≡ S i j) where
+  least-same : (i j : ℕ) → i < n → j < n → leastUpper R n i j ≡ leastUpper S n i j
+  unfolding leastUpper
+  least-same i j a b =
+      first-same (isLeastUpper R n i j) (isLeastUpper S n i j) n (λ k l.
+      rw (
+        same i k a l,
+        same j k b l,
+        any-same (missed R i j k) (missed S i j k) n (λ m u. rw (same i m a u, same j m b u, same k m l u)),
+      ))
+
+  lacks-same : (p : ℕ) → lacksUpper R n p ≡ lacksUpper S n p
+  lacks-same p =
+      guarded (ltb (p / mostLevels) (p % mostLevels)) (ltb (p % mostLevels) n) (λ u v.
+      let h = ltb-true (p / mostLevels) (p % mostLevels) u in
+      let k = ltb-true (p % mostLevels) n v in
+      ap (λ m. eqb m n) (least-same (p / mostLevels) (p % mostLevels) (omega (arith, h, k)) k))
+    where
+      guarded : (x y : Bool) {u v : Bool} → (x ≡ true → y ≡ true → u ≡ v) → (x && (y && u)) ≡ (x && (y && v))
+      guarded true true h = h refl refl
+      guarded true false h = refl
+      guarded false y h = refl
+
+  pub swept-same : (t : List (List ℕ)) (place : ℕ) → Swept R n t place → Swept S n t place
+  swept-same t place w =
+      record {
+        first-place =
+            w .first-place
+            ∙ first-same (lacksUpper R n) (lacksUpper S n) (mostLevels * mostLevels) (λ p l. lacks-same p);
+        own = w .own;
+        pairs =
+            λ e i j a b.
+            let q = least-same i j (omega arith) b in (w .pairs e i j a b .0 ∙ q, w .pairs e i j a b .1 ∙ q);
+      }

@@ -1,11 +1,12 @@
 -- 01, 'Level book': what the bytes of a book say.
 use mathlib.Core.Bool.{Bool, true, false, _&&_}
 use mathlib.Core.List.{List}
-use Prim.Native.Nat.{ℕ, _+_, _*_, _/_, _%_, _^_}
+use Prim.Native.Nat.{ℕ, _+_, _*_}
 use lib.Dec.{eqb, leb}
 use lib.ListN.{getD, length}
 use Rattle.prelude.specs.Table.{table}
 use Rattle.prelude.specs.Numbers.{word}
+use Rattle.prelude.specs.Sets.{has, setOf}
 
 -- the most levels that a book has; a later request widens it
 abbrev pub mostLevels : ℕ
@@ -27,7 +28,11 @@ rows s = table (row s) mostLevels
 
 -- "Bit j of row i (bit 0 lowest) says that level i is at or below level j."
 abbrev pub atOrBelow : List ℕ → ℕ → ℕ → Bool
-atOrBelow rs i j = eqb (getD rs i 0 / 2 ^ j % 2) 1
+atOrBelow rs i j = has (getD rs i 0) j
+
+-- the rows of the order upside down: row j is the set of the levels that are at or below level j
+unfoldable pub converseRows : List ℕ → List ℕ
+converseRows rs = table (λ j. setOf (λ i. atOrBelow rs i j) mostLevels) mostLevels
 
 -- the order of a book, or the same upside down
 abbrev pub facing : List ℕ → Bool → ℕ → ℕ → Bool

@@ -1,4 +1,5 @@
 // A level book by value, and a table of levels for its pairs.
+use crate::sets;
 ghost use mathlib.Core.Path.{_≡_};
 ghost use Prim.Native.Nat.{_<_};
 ghost use Rattle.lattice.specs.LevelBook.{mostLevels, atOrBelow};
@@ -26,7 +27,7 @@ pub fn at_or_below(b: Book, i: usize, j: usize) -> bool
     requires { ⌜ (i < mostLevels) × (j < mostLevels) ⌝ }
     ensures { λ r. ⌜ r ≡ atOrBelow (b .rows) i j ⌝ }
 {
-    (b.rows[i] >> j) % 2 == 1
+    sets::has(b.rows[i], j)
 }
 
 // The level that a table keeps for the pair of i and j.

@@ -1,73 +1,35 @@
-// Common upper and lower levels, and the greatest and the least level of all.
-// A function that takes `dual` works on the order upside down where it is set, so that one search serves both:
-// the greatest common lower level is the least common upper one upside down.
+// Common upper levels, and the greatest and the least level of all. The greatest common lower level of a pair is its
+// least common upper one in the order upside down, so that one search over the pairs serves both.
 use crate::book::Book;
 use crate::book::PairTable;
-use crate::book::at_or_below;
+use crate::sets;
 ghost use mathlib.Core.Path.{_≡_};
 ghost use Prim.Native.Nat.{_<_, _≤_};
-ghost use Rattle.prelude.specs.Search.{any, all};
-ghost use Rattle.lattice.specs.Order.{missed, isLeastUpper, top};
-ghost use Rattle.lattice.specs.LevelBook.{mostLevels, facing};
+ghost use Rattle.prelude.specs.Search.{all};
+ghost use Rattle.lattice.specs.Order.{isLeastUpper, top};
+ghost use Rattle.lattice.specs.LevelBook.{mostLevels, atOrBelow, facing};
 ghost use Rattle.lattice.specs.Bounds.{Square, Swept};
 
-fn below(b: Book, dual: bool, i: usize, j: usize) -> bool
-    requires { ⌜ (i < mostLevels) × (j < mostLevels) ⌝ }
-    ensures { λ r. ⌜ r ≡ facing (b .rows) dual i j ⌝ }
+// Level k is the least of the levels that both i and j are at or below.
+fn is_least_upper(rows: &[u16; Book::MAX_LEVELS], n: usize, i: usize, j: usize, k: usize) -> bool
+    requires { ⌜ (i < mostLevels) × ((j < mostLevels) × ((k < mostLevels) × (n ≤ mostLevels))) ⌝ }
+    ensures { λ r. ⌜ r ≡ isLeastUpper (atOrBelow (now (rows .entry))) n i j k ⌝ }
 {
-    if dual {
-        return at_or_below(b, j, i);
-    }
-    at_or_below(b, i, j)
-}
-
-// Level m is a common upper level of i and j that k is not at or below.
-fn is_missed(b: Book, dual: bool, i: usize, j: usize, k: usize, m: usize) -> bool
-    requires { ⌜ (i < mostLevels) × ((j < mostLevels) × ((k < mostLevels) × (m < mostLevels))) ⌝ }
-    ensures { λ r. ⌜ r ≡ missed (facing (b .rows) dual) i j k m ⌝ }
-{
-    if below(b, dual, i, m) {
-        if below(b, dual, j, m) {
-            return !below(b, dual, k, m);
-        }
-    }
-    false
-}
-
-fn any_missed(b: Book, dual: bool, i: usize, j: usize, k: usize) -> bool
-    requires { ⌜ (i < mostLevels) × ((j < mostLevels) × ((k < mostLevels) × (b .count ≤ mostLevels))) ⌝ }
-    ensures { λ r. ⌜ r ≡ any (missed (facing (b .rows) dual) i j k) (b .count) ⌝ }
-{
-    let n = b.count;
-    let mut m = 0;
-    while m < n {
-        if is_missed(b, dual, i, j, k, m) {
-            return true;
-        }
-        m += 1;
-    }
-    false
-}
-
-fn is_least_upper(b: Book, dual: bool, i: usize, j: usize, k: usize) -> bool
-    requires { ⌜ (i < mostLevels) × ((j < mostLevels) × ((k < mostLevels) × (b .count ≤ mostLevels))) ⌝ }
-    ensures { λ r. ⌜ r ≡ isLeastUpper (facing (b .rows) dual) (b .count) i j k ⌝ }
-{
-    if below(b, dual, i, k) {
-        if below(b, dual, j, k) {
-            return !any_missed(b, dual, i, j, k);
-        }
+    let uppers = rows[i] & rows[j];
+    if sets::has(uppers, k) {
+        return !sets::any_outside(uppers, rows[k], n);
     }
     false
 }
 
 // Finds the least common upper level of each pair and keeps it at both entries of the pair, and each level at its own.
 // The place of the first pair that lacks one, or PLACES; the table is then filled up to that pair.
-pub fn sweep(b: Book, dual: bool, t: &mut PairTable) -> usize
+pub fn sweep(b: Book, t: &mut PairTable) -> usize
     requires { ⌜ (b .count ≤ mostLevels) × Square mostLevels (now t) ⌝ }
-    ensures { λ r. ⌜ Swept (facing (b .rows) dual) (b .count) (now (t .exit)) r ⌝ }
+    ensures { λ r. ⌜ Swept (atOrBelow (b .rows)) (b .count) (now (t .exit)) r ⌝ }
 {
     let n = b.count;
+    let rows = b.rows;
     let mut place = Book::PLACES;
     let mut i: usize = 0;
     'pairs: while i < n {
@@ -76,7 +38,7 @@ pub fn sweep(b: Book, dual: bool, t: &mut PairTable) -> usize
         'others: while j < n {
             let mut k: usize = 0;
             'levels: while k < n {
-                if is_least_upper(b, dual, i, j, k) {
+                if is_least_upper(&rows, n, i, j, k) {
                     break;
                 }
                 k += 1;
@@ -94,15 +56,25 @@ pub fn sweep(b: Book, dual: bool, t: &mut PairTable) -> usize
     place
 }
 
-// Every level is at or below t.
-fn is_greatest(b: Book, dual: bool, t: usize) -> bool
-    requires { ⌜ (t < mostLevels) × (b .count ≤ mostLevels) ⌝ }
-    ensures { λ r. ⌜ r ≡ all (λ i. facing (b .rows) dual i t) (b .count) ⌝ }
+// Level i is at or below level j, or the other way round where `dual` is set.
+fn below(rows: &[u16; Book::MAX_LEVELS], dual: bool, i: usize, j: usize) -> bool
+    requires { ⌜ (i < mostLevels) × (j < mostLevels) ⌝ }
+    ensures { λ r. ⌜ r ≡ facing (now (rows .entry)) dual i j ⌝ }
 {
-    let n = b.count;
+    if dual {
+        return sets::relates(rows, j, i);
+    }
+    sets::relates(rows, i, j)
+}
+
+// Each of n levels is at or below t.
+fn is_greatest(rows: &[u16; Book::MAX_LEVELS], n: usize, dual: bool, t: usize) -> bool
+    requires { ⌜ (t < mostLevels) × (n ≤ mostLevels) ⌝ }
+    ensures { λ r. ⌜ r ≡ all (λ i. facing (now (rows .entry)) dual i t) n ⌝ }
+{
     let mut i = 0;
     while i < n {
-        if !below(b, dual, i, t) {
+        if !below(rows, dual, i, t) {
             return false;
         }
         i += 1;
@@ -116,9 +88,10 @@ pub fn greatest(b: Book, dual: bool) -> usize
     ensures { λ r. ⌜ r ≡ top (facing (b .rows) dual) (b .count) ⌝ }
 {
     let n = b.count;
+    let rows = b.rows;
     let mut t = 0;
     while t < n {
-        if is_greatest(b, dual, t) {
+        if is_greatest(&rows, n, dual, t) {
             return t;
         }
         t += 1;

@@ -1,5 +1,6 @@
 // The level book: any bytes in; out comes a checked book with the join and meet of every pair, or a refusal.
 pub mod book; // book.rt: the book by value, and the table of levels for its pairs
+mod sets; // sets.rt: sets of levels as numbers, and the book upside down
 mod read; // read.rt: the book from its bytes, refusal 1
 mod order; // order.rt: the faults of refusal 2
 mod bounds; // bounds.rt: common upper and lower levels, refusal 3, the greatest and the least level
@@ -64,8 +65,9 @@ pub fn load(s: &[u8], join: &mut PairTable, meet: &mut PairTable) -> Loaded
     if faulty < n {
         return refused(2, faulty);
     }
-    let upper = bounds::sweep(b, false, join);
-    let lower = bounds::sweep(b, true, meet);
+    let upper = bounds::sweep(b, join);
+    let upside_down = sets::converse_of(b);
+    let lower = bounds::sweep(upside_down, meet);
     // The lesser of two places is the first: by i, then by j.
     let place = prelude::lesser(upper, lower);
     if place < Book::PLACES {

@@ -1,6 +1,6 @@
 // The order of a book: the faults of refusal 2.
 use crate::book::Book;
-use crate::book::at_or_below;
+use crate::sets;
 ghost use mathlib.Core.Path.{_≡_};
 ghost use Prim.Native.Nat.{_<_, _≤_};
 ghost use Rattle.prelude.specs.Search.{any};
@@ -9,66 +9,48 @@ ghost use Rattle.lattice.specs.LevelBook.{mostLevels, atOrBelow};
 ghost use Rattle.lattice.specs.Refusals.{isFaulty, firstFaulty};
 
 // i and j are two levels, each at or below the other.
-fn both_ways(b: Book, i: usize, j: usize) -> bool
+fn both_ways(rows: &[u16; Book::MAX_LEVELS], i: usize, j: usize) -> bool
     requires { ⌜ (i < mostLevels) × (j < mostLevels) ⌝ }
-    ensures { λ r. ⌜ r ≡ bothWays (atOrBelow (b .rows)) i j ⌝ }
+    ensures { λ r. ⌜ r ≡ bothWays (atOrBelow (now (rows .entry))) i j ⌝ }
 {
     if i == j {
         return false;
     }
-    if at_or_below(b, i, j) {
-        return at_or_below(b, j, i);
+    if sets::relates(rows, i, j) {
+        return sets::relates(rows, j, i);
     }
     false
 }
 
-// i is at or below j, and j at or below k, but i is not at or below k.
-fn is_gap(b: Book, i: usize, j: usize, k: usize) -> bool
-    requires { ⌜ (i < mostLevels) × ((j < mostLevels) × (k < mostLevels)) ⌝ }
-    ensures { λ r. ⌜ r ≡ gap (atOrBelow (b .rows)) i j k ⌝ }
+// i is at or below j, and j at or below one of n levels that i is not at or below.
+fn any_gap(rows: &[u16; Book::MAX_LEVELS], n: usize, i: usize, j: usize) -> bool
+    requires { ⌜ (i < mostLevels) × ((j < mostLevels) × (n ≤ mostLevels)) ⌝ }
+    ensures { λ r. ⌜ r ≡ any (gap (atOrBelow (now (rows .entry))) i j) n ⌝ }
 {
-    if at_or_below(b, i, j) {
-        if at_or_below(b, j, k) {
-            return !at_or_below(b, i, k);
-        }
-    }
-    false
-}
-
-fn any_gap(b: Book, i: usize, j: usize) -> bool
-    requires { ⌜ (i < mostLevels) × ((j < mostLevels) × (b .count ≤ mostLevels)) ⌝ }
-    ensures { λ r. ⌜ r ≡ any (gap (atOrBelow (b .rows)) i j) (b .count) ⌝ }
-{
-    let n = b.count;
-    let mut k = 0;
-    while k < n {
-        if is_gap(b, i, j, k) {
-            return true;
-        }
-        k += 1;
+    if sets::relates(rows, i, j) {
+        return sets::any_outside(rows[j], rows[i], n);
     }
     false
 }
 
 // A fault of level i that level j shows.
-fn shows_fault(b: Book, i: usize, j: usize) -> bool
-    requires { ⌜ (i < mostLevels) × ((j < mostLevels) × (b .count ≤ mostLevels)) ⌝ }
-    ensures { λ r. ⌜ r ≡ showsFault (atOrBelow (b .rows)) (b .count) i j ⌝ }
+fn shows_fault(rows: &[u16; Book::MAX_LEVELS], n: usize, i: usize, j: usize) -> bool
+    requires { ⌜ (i < mostLevels) × ((j < mostLevels) × (n ≤ mostLevels)) ⌝ }
+    ensures { λ r. ⌜ r ≡ showsFault (atOrBelow (now (rows .entry))) n i j ⌝ }
 {
-    if both_ways(b, i, j) {
+    if both_ways(rows, i, j) {
         return true;
     }
-    any_gap(b, i, j)
+    any_gap(rows, n, i, j)
 }
 
-fn any_fault(b: Book, i: usize) -> bool
-    requires { ⌜ (i < mostLevels) × (b .count ≤ mostLevels) ⌝ }
-    ensures { λ r. ⌜ r ≡ any (showsFault (atOrBelow (b .rows)) (b .count) i) (b .count) ⌝ }
+fn any_fault(rows: &[u16; Book::MAX_LEVELS], n: usize, i: usize) -> bool
+    requires { ⌜ (i < mostLevels) × (n ≤ mostLevels) ⌝ }
+    ensures { λ r. ⌜ r ≡ any (showsFault (atOrBelow (now (rows .entry))) n i) n ⌝ }
 {
-    let n = b.count;
     let mut j = 0;
     while j < n {
-        if shows_fault(b, i, j) {
+        if shows_fault(rows, n, i, j) {
             return true;
         }
         j += 1;
@@ -76,19 +58,17 @@ fn any_fault(b: Book, i: usize) -> bool
     false
 }
 
-fn is_faulty(b: Book, i: usize) -> bool
-    requires { ⌜ (i < mostLevels) × (b .count ≤ mostLevels) ⌝ }
-    ensures { λ r. ⌜ r ≡ isFaulty (b .rows) (b .count) i ⌝ }
+fn is_faulty(rows: &[u16; Book::MAX_LEVELS], n: usize, i: usize) -> bool
+    requires { ⌜ (i < mostLevels) × (n ≤ mostLevels) ⌝ }
+    ensures { λ r. ⌜ r ≡ isFaulty (now (rows .entry)) n i ⌝ }
 {
-    if !at_or_below(b, i, i) {
+    if !sets::relates(rows, i, i) {
         return true;
     }
-    let n = b.count;
-    let row = b.rows[i] as u32;
-    if 0 < row >> n {
+    if sets::any_beyond(rows[i], n) {
         return true;
     }
-    any_fault(b, i)
+    any_fault(rows, n, i)
 }
 
 // The smallest level at fault, or the number of levels.
@@ -97,9 +77,10 @@ pub fn first_faulty(b: Book) -> usize
     ensures { λ r. ⌜ r ≡ firstFaulty (b .rows) (b .count) ⌝ }
 {
     let n = b.count;
+    let rows = b.rows;
     let mut i = 0;
     while i < n {
-        if is_faulty(b, i) {
+        if is_faulty(&rows, n, i) {
             return i;
         }
         i += 1;

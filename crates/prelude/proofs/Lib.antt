@@ -3,6 +3,7 @@ pub mod Bools
 pub mod Searches
 pub mod Counts
 pub mod Tables
+pub mod Sets
 pub mod Courses
 pub mod Each
 pub mod Sums

@@ -3,4 +3,5 @@ pub mod Search
 pub mod Table
 pub mod Course
 pub mod Numbers
+pub mod Sets
 pub mod Refusals

@@ -12,7 +12,8 @@ use lib.Seq.{getD-set-same, getD-set-other}
 use Rattle.script.specs.Layout.{mostParts, nameCount, partCount}
 use Rattle.script.specs.Entries.{fieldCount, isSession}
 use Rattle.script.specs.Uses.{used, allFields}
-use Rattle.script.specs.Reach.{inReach, opens, has, IsSet, KeepsReach}
+use Rattle.prelude.specs.Sets.{has, IsSet}
+use Rattle.script.specs.Reach.{inReach, opens, KeepsReach}
 use Rattle.script.specs.Refusals.{Joined}
 use Rattle.script.proofs.Reaching.{used-earlier, user, used-once, reach-used, reach-last}
 

@@ -10,7 +10,7 @@ use lib.Dec.{eqb, ltb}
 use lib.Pow.{pow-pos, pow-lt, pow-add, shl-shr}
 use lib.Bits.{bitOr, or-shr, or-step}
 use borrow.Author.Tests.{eq-eqb, ne-eqb, lt-ltb, le-ltb}
-use Rattle.script.specs.Reach.{has, IsSet}
+use Rattle.prelude.specs.Sets.{has, IsSet}
 
 two-pos : 0 < 2
 two-pos = zero-lt-suc 1

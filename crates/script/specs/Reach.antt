@@ -3,11 +3,12 @@
 use mathlib.Core.Path.{_≡_}
 use mathlib.Core.Bool.{Bool, false, not, _&&_, _||_}
 use mathlib.Core.List.{List}
-use Prim.Native.Nat.{ℕ, _+_, _*_, _/_, _%_, _^_, _<_}
+use Prim.Native.Nat.{ℕ, _+_, _*_, _/_, _%_, _<_}
 use lib.Dec.{eqb}
 use lib.ListN.{getD}
 use Rattle.prelude.specs.Search.{any}
 use Rattle.prelude.specs.Course.{entry}
+use Rattle.prelude.specs.Sets.{IsSet}
 use Rattle.script.specs.Layout.{nameCount, partCount}
 use Rattle.script.specs.Roles.{register, signal, newRegister, newSignal, child}
 use Rattle.script.specs.Entries.{nameOf, isSession, node, fieldCount, fieldOf}
@@ -49,14 +50,6 @@ opens s i x =
     eqb (fieldAt s i .role) child
     && (isNew (fieldOf s (i / fieldCount) 0 .role) && eqb (fieldOf s (i / fieldCount) 0 .value) x)
 
--- a set of names as a number: bit x says that x is in it
-abbrev pub has : ℕ → ℕ → Bool
-has set x = eqb (set / 2 ^ x % 2) 1
-
--- of the names below n, those of which f holds
-abbrev pub IsSet : ℕ → (ℕ → Bool) → ℕ → Type 0
-IsSet n f set = (x : ℕ) → x < n → has set x ≡ f x
-
--- a table that keeps for each part the names in reach
+-- a table that keeps for each part the names in reach, as a set
 abbrev pub KeepsReach : List ℕ → List ℕ → Type 0
 KeepsReach s sets = (q : ℕ) → q < partCount s → IsSet (nameCount s) (λ x. inReach s x q) (getD sets q 0)

@@ -14,7 +14,8 @@ ghost use Prim.Native.Nat.{_+_, _*_, _<_, _≤_};
 ghost use Rattle.prelude.specs.Search.{first};
 ghost use Rattle.script.specs.Layout.{Laid, mostNames};
 ghost use Rattle.script.specs.Entries.{isSession, fieldCount};
-ghost use Rattle.script.specs.Reach.{isUse, missesName, isOutOfReach, opens, has, IsSet, KeepsReach};
+ghost use Rattle.prelude.specs.Sets.{has, IsSet};
+ghost use Rattle.script.specs.Reach.{isUse, missesName, isOutOfReach, opens, KeepsReach};
 ghost use Rattle.script.specs.Refusals.{Sound, Joined};
 
 // Name x is in the set: bit x.

@@ -49,8 +49,11 @@ returns-2 c =
 sweep-requires : tie.Need-sweep-requires
 sweep-requires c κs = (small (c .before .before .before), c .before .before .before .before .before .before .before .pre .0)
 
+converse-of-requires : tie.Need-converse-of-requires
+converse-of-requires c κs = search needs
+
 sweep-requires-2 : tie.Need-sweep-requires-2
-sweep-requires-2 c κs = (small (c .before .before .before .before .before), c .before .before .before .before .before .before .before .before .before .pre .1)
+sweep-requires-2 c κs = (omega (arith, small ((c .before .before .before .before .before .before)), c .before .converse-of .ensures .0), c .before .before .before .before .before .before .before .before .before .before .pre .1)
 
 lesser-requires : tie.Need-lesser-requires
 lesser-requires c κs = search needs
@@ -60,12 +63,13 @@ refused-requires-3 c κs = search needs
 
 returns-3 : tie.Need-returns-3
 returns-3 c =
-    let b = c .before .before .before .before .before .before .before .before .before in
-    let f = c .before .before .before .before .before .before .before .before in
-    pair-way _ _ _ (sized (b .before)) _ (b .read-book .ensures) _ (f .first-faulty .ensures)
-    (c .before .before .before .before .before .before .before .if2 .left)
+    let b = (c .before .before .before .before .before .before .before .before .before .before) in
+    pair-way _ _ _ (sized (b .before)) _ (b .read-book .ensures) _ (c .before .before .before .before .before .before .before .before .before .first-faulty .ensures)
+    (c .before .before .before .before .before .before .before .before .if2 .left)
     _ _ _
-    (c .before .before .before .before .before .sweep .ensures)
+    (c .before .before .before .before .before .before .sweep .ensures)
+    _
+    (c .before .before .before .before .before .converse-of .ensures)
     (c .before .before .before .sweep2 .ensures)
     (c .before .before .lesser .ensures)
     _
@@ -77,12 +81,13 @@ accepted-requires c κs = search needs
 
 returns-4 : tie.Need-returns-4
 returns-4 c =
-    let b = c .before .before .before .before .before .before .before .before .before in
-    let f = c .before .before .before .before .before .before .before .before in
-    no-way _ _ _ (sized (b .before)) _ (b .read-book .ensures) _ (f .first-faulty .ensures)
-    (c .before .before .before .before .before .before .before .if2 .left)
+    let b = (c .before .before .before .before .before .before .before .before .before .before) in
+    no-way _ _ _ (sized (b .before)) _ (b .read-book .ensures) _ (c .before .before .before .before .before .before .before .before .before .first-faulty .ensures)
+    (c .before .before .before .before .before .before .before .before .if2 .left)
     _ _ _
-    (c .before .before .before .before .before .sweep .ensures)
+    (c .before .before .before .before .before .before .sweep .ensures)
+    _
+    (c .before .before .before .before .before .converse-of .ensures)
     (c .before .before .before .sweep2 .ensures)
     (c .before .before .lesser .ensures)
     _
@@ -101,6 +106,7 @@ load-spec =
     refused-requires-2
     returns-2
     sweep-requires
+    converse-of-requires
     sweep-requires-2
     lesser-requires
     refused-requires-3

@@ -12,10 +12,10 @@ use Rattle.lattice.proofs.bounds.greatest.Statement.{statement}
 use Rattle.lattice.proofs.bounds.greatest.Tie as tie
 
 abbrev Inv-loop : tie.InvT-loop
-Inv-loop b dual n t₀ t = (t ≤ n) × NoneBelow (λ x. all (λ i. facing (b .rows) dual i x) n) t
+Inv-loop dual n rows t₀ t = (t ≤ n) × NoneBelow (λ x. all (λ i. facing rows dual i x) n) t
 
 abbrev μ-loop : tie.MeasureT-loop
-μ-loop b dual n t₀ t = n - t
+μ-loop dual n rows t₀ t = n - t
 
 loop-holds : tie.Need-loop-holds Inv-loop μ-loop
 loop-holds c = (search needs, below-none _)
@@ -27,9 +27,9 @@ returns : tie.Need-returns Inv-loop μ-loop
 unfolding top
 returns c =
     sym
-    (first-is _ _ _ (c .before .before .loop-test .taken)
+    (first-is _ _ _ (c .before .before .before .loop-test .taken)
     (sym (c .before .is-greatest .ensures) ∙ c .if1 .taken)
-    (c .before .before .before .loop .inv .1))
+    (c .before .before .before .before .loop .inv .1))
 
 add-t : tie.Need-add-t Inv-loop μ-loop
 add-t c = search needs
@@ -40,7 +40,7 @@ loop-less c = search needs
 loop-again : tie.Need-loop-again Inv-loop μ-loop
 loop-again c = (
   search needs,
-  below-more _ _ (c .before .before .before .loop .inv .1) (sym (c .before .is-greatest .ensures) ∙ c .if1 .left),
+  below-more _ _ (c .before .before .before .before .loop .inv .1) (sym (c .before .is-greatest .ensures) ∙ c .if1 .left),
 )
 
 returns-2 : tie.Need-returns-2 Inv-loop μ-loop

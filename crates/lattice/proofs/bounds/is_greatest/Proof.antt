@@ -11,10 +11,10 @@ use Rattle.lattice.proofs.bounds.is_greatest.Statement.{statement}
 use Rattle.lattice.proofs.bounds.is_greatest.Tie as tie
 
 abbrev Inv-loop : tie.InvT-loop
-Inv-loop b dual t n i₀ i = (i ≤ n) × AllBelow (λ x. facing (b .rows) dual x t) i
+Inv-loop rows n dual t i₀ i = (i ≤ n) × AllBelow (λ x. facing rows dual x t) i
 
 abbrev μ-loop : tie.MeasureT-loop
-μ-loop b dual t n i₀ i = n - i
+μ-loop rows n dual t i₀ i = n - i
 
 loop-holds : tie.Need-loop-holds Inv-loop μ-loop
 loop-holds c = (search needs, below-none _)

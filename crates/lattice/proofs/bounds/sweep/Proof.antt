@@ -6,7 +6,7 @@ use native.Mathlib.Nat.{le-antisymm}
 use borrow.Author.Count.{below-none, below-more}
 use Rattle.prelude.proofs.Searches.{NoneBelow, past, first-is, first-none}
 use Rattle.lattice.specs.Order.{isLeastUpper, leastUpper}
-use Rattle.lattice.specs.LevelBook.{mostLevels, facing}
+use Rattle.lattice.specs.LevelBook.{mostLevels, atOrBelow}
 use Rattle.lattice.specs.Bounds.{Swept}
 use Rattle.lattice.proofs.Sweeps.{Done, start, own-next, pair-next, row-next, finish, stop}
 use borrow.Author.Needs.{needs}
@@ -14,34 +14,32 @@ use Rattle.lattice.proofs.bounds.sweep.Statement.{statement}
 use Rattle.lattice.proofs.bounds.sweep.Tie as tie
 
 abbrev Inv-levels : tie.InvT-levels
-Inv-levels b dual t n place i j k₀ k = (k ≤ n) × NoneBelow (isLeastUpper (facing (b .rows) dual) n i j) k
+Inv-levels t n rows place i j k₀ k = (k ≤ n) × NoneBelow (isLeastUpper (atOrBelow rows) n i j) k
 
 abbrev μ-levels : tie.MeasureT-levels
-μ-levels b dual t n place i j k₀ k = n - k
+μ-levels t n rows place i j k₀ k = n - k
 
 abbrev Inv-others : tie.InvT-others
-Inv-others b dual t₀ n place₀ i j₀ t place j =
+Inv-others t₀ n rows place₀ i j₀ t place j =
     (i < j)
-    × ((j ≤ n) × ((place ≡ mostLevels * mostLevels) × Done (facing (b .rows) dual) n (i + 1) (mostLevels * i + j) t))
+    × ((j ≤ n) × ((place ≡ mostLevels * mostLevels) × Done (atOrBelow rows) n (i + 1) (mostLevels * i + j) t))
 
 abbrev μ-others : tie.MeasureT-others
-μ-others b dual t₀ n place₀ i j₀ t place j = n - j
+μ-others t₀ n rows place₀ i j₀ t place j = n - j
 
 abbrev Inv-pairs : tie.InvT-pairs
-Inv-pairs b dual t₀ n place₀ i₀ t place i =
-    (i ≤ n) × ((place ≡ mostLevels * mostLevels) × Done (facing (b .rows) dual) n i (mostLevels * i) t)
+Inv-pairs t₀ n rows place₀ i₀ t place i =
+    (i ≤ n) × ((place ≡ mostLevels * mostLevels) × Done (atOrBelow rows) n i (mostLevels * i) t)
 
 abbrev μ-pairs : tie.MeasureT-pairs
-μ-pairs b dual t₀ n place₀ i₀ t place i = n - i
+μ-pairs t₀ n rows place₀ i₀ t place i = n - i
 
 -- where the search over the levels has ended, k is what it finds
 least-is :
     (l : tie.Left-levels Inv-levels μ-levels Inv-others μ-others Inv-pairs μ-pairs) →
     leastUpper
-    (facing
-    (l .before .before .before .before .before .before .args .b .rows)
-    (l .before .before .before .before .before .before .args .dual))
-    (l .before .before .before .before .before .before .args .b .count)
+    (atOrBelow (l .before .before .before .before .before .before .before .args .b .rows))
+    (l .before .before .before .before .before .before .before .args .b .count)
     (l .before .before .before .before .before .pairs .i)
     (l .before .before .before .others .j)
     ≡ l .before .levels .k
@@ -50,11 +48,11 @@ least-is l =
     ⊎-elim
     (λ w. first-none _ _ (past (w .left) (l .before .levels .inv .1))
     ∙ le-antisymm (w .left) (l .before .levels .inv .0))
-    (λ w. first-is _ _ _ (w .0 .taken) (sym (w .1 .ensures) ∙ w .2 .taken) (l .before .levels .inv .1))
+    (λ w. first-is _ _ _ (w .0 .taken) (sym (w .2 .ensures) ∙ w .3 .taken) (l .before .levels .inv .1))
     (l .levels-test .came)
 
 pairs-holds : tie.Need-pairs-holds Inv-levels μ-levels Inv-others μ-others Inv-pairs μ-pairs
-pairs-holds c = (search needs, (search needs, start _ _ (search needs) _ (c .pre .1)))
+pairs-holds c = (search needs, (search needs, start _ _ (search needs) _ (c .before .pre .1)))
 
 cast-t : tie.Need-cast-t Inv-levels μ-levels Inv-others μ-others Inv-pairs μ-pairs
 cast-t c = search needs
@@ -96,7 +94,7 @@ levels-less c = search needs
 levels-again : tie.Need-levels-again Inv-levels μ-levels Inv-others μ-others Inv-pairs μ-pairs
 levels-again c = (
   search needs,
-  below-more _ _ (c .before .before .before .levels .inv .1)
+  below-more _ _ (c .before .before .before .before .levels .inv .1)
       (sym (c .before .is-least-upper .ensures) ∙ c .if1 .left),
 )
 

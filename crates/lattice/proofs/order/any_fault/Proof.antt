@@ -10,10 +10,10 @@ use Rattle.lattice.proofs.order.any_fault.Statement.{statement}
 use Rattle.lattice.proofs.order.any_fault.Tie as tie
 
 abbrev Inv-loop : tie.InvT-loop
-Inv-loop b i n j₀ j = (j ≤ n) × NoneBelow (showsFault (atOrBelow (b .rows)) n i) j
+Inv-loop rows n i j₀ j = (j ≤ n) × NoneBelow (showsFault (atOrBelow rows) n i) j
 
 abbrev μ-loop : tie.MeasureT-loop
-μ-loop b i n j₀ j = n - j
+μ-loop rows n i j₀ j = n - j
 
 loop-holds : tie.Need-loop-holds Inv-loop μ-loop
 loop-holds c = (search needs, below-none _)

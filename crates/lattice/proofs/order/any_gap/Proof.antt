@@ -1,55 +1,47 @@
--- `any_gap`: the levels below k show no gap.
-use borrow.Author.Needs.{needs}
+-- `any_gap`: the levels that j is at or below and i is not (`Rows`).
 use mathlib.Core.Path.{sym, _∙_}
-use Prim.Native.Nat.{_-_, _≤_}
-use borrow.Author.Count.{below-none, below-more}
-use Rattle.prelude.proofs.Searches.{NoneBelow, past, any-some, any-none}
-use Rattle.lattice.specs.Order.{gap}
-use Rattle.lattice.specs.LevelBook.{atOrBelow}
+use Rattle.lattice.proofs.Rows.{gap-by-sets, no-gap}
+use borrow.Author.Needs.{needs}
 use Rattle.lattice.proofs.order.any_gap.Statement.{statement}
 use Rattle.lattice.proofs.order.any_gap.Tie as tie
 
-abbrev Inv-loop : tie.InvT-loop
-Inv-loop b i j n k₀ k = (k ≤ n) × NoneBelow (gap (atOrBelow (b .rows)) i j) k
+relates-requires : tie.Need-relates-requires
+relates-requires c κs = search needs
 
-abbrev μ-loop : tie.MeasureT-loop
-μ-loop b i j n k₀ k = n - k
+mul-any-outside : tie.Need-mul-any-outside
+mul-any-outside c = search needs
 
-loop-holds : tie.Need-loop-holds Inv-loop μ-loop
-loop-holds c = (search needs, below-none _)
+element-copy-out-any-outside : tie.Need-element-copy-out-any-outside
+element-copy-out-any-outside c = search needs
 
-is-gap-requires : tie.Need-is-gap-requires Inv-loop μ-loop
-is-gap-requires c κs = search needs
+mul-any-outside-2 : tie.Need-mul-any-outside-2
+mul-any-outside-2 c = search needs
 
-returns : tie.Need-returns Inv-loop μ-loop
+element-copy-out-any-outside-2 : tie.Need-element-copy-out-any-outside-2
+element-copy-out-any-outside-2 c = search needs
+
+any-outside-requires : tie.Need-any-outside-requires
+any-outside-requires c κs = search needs
+
+returns : tie.Need-returns
 returns c =
-    sym (any-some _ _ _ (c .before .before .loop-test .taken) (sym (c .before .is-gap .ensures) ∙ c .if1 .taken))
+    let a = c .before .before .before .before .before .args in
+    c .any-outside .ensures
+    ∙ sym (gap-by-sets (a .rows .now) (a .n) (a .i) (a .j) (sym (c .before .before .before .before .relates .ensures) ∙ c .before .before .before .if1 .taken))
 
-add-k : tie.Need-add-k Inv-loop μ-loop
-add-k c = search needs
-
-loop-less : tie.Need-loop-less Inv-loop μ-loop
-loop-less c = search needs
-
-loop-again : tie.Need-loop-again Inv-loop μ-loop
-loop-again c = (
-  search needs,
-  below-more _ _ (c .before .before .before .loop .inv .1) (sym (c .before .is-gap .ensures) ∙ c .if1 .left),
-)
-
-returns-2 : tie.Need-returns-2 Inv-loop μ-loop
-returns-2 c = sym (any-none _ _ (past (c .loop-test .left) (c .before .loop .inv .1)))
+returns-2 : tie.Need-returns-2
+returns-2 c =
+    let a = c .before .before .args in sym (no-gap (a .rows .now) (a .n) (a .i) (a .j) (sym (c .before .relates .ensures) ∙ c .if1 .left))
 
 pub any-gap-spec : {M : Type 1} → statement M
 any-gap-spec =
     tie.close
     (tie.spec
-    Inv-loop
-    μ-loop
-    loop-holds
-    is-gap-requires
+    relates-requires
+    mul-any-outside
+    element-copy-out-any-outside
+    mul-any-outside-2
+    element-copy-out-any-outside-2
+    any-outside-requires
     returns
-    add-k
-    loop-less
-    loop-again
     returns-2)

@@ -8,23 +8,23 @@ use Rattle.lattice.proofs.order.both_ways.Tie as tie
 returns : tie.Need-returns
 returns c = simp (eq-eqb _ _ (c .if1 .taken))
 
-at-or-below-requires : tie.Need-at-or-below-requires
-at-or-below-requires c κs = search needs
+relates-requires : tie.Need-relates-requires
+relates-requires c κs = search needs
 
-at-or-below-requires-2 : tie.Need-at-or-below-requires-2
-at-or-below-requires-2 c κs = search needs
+relates-requires-2 : tie.Need-relates-requires-2
+relates-requires-2 c κs = search needs
 
 returns-2 : tie.Need-returns-2
 returns-2 c =
     simp (
       ne-eqb _ _ (c .before .before .before .if1 .left),
-      sym (c .before .before .at-or-below .ensures) ∙ c .before .if2 .taken,
+      sym (c .before .before .relates .ensures) ∙ c .before .if2 .taken,
     )
-    (c .at-or-below2 .ensures)
+    (c .relates2 .ensures)
 
 returns-3 : tie.Need-returns-3
-returns-3 c = simp (ne-eqb _ _ (c .before .before .if1 .left), sym (c .before .at-or-below .ensures) ∙ c .if2 .left)
+returns-3 c = simp (ne-eqb _ _ (c .before .before .if1 .left), sym (c .before .relates .ensures) ∙ c .if2 .left)
 
 pub both-ways-spec : {M : Type 1} → statement M
 both-ways-spec =
-    tie.close (tie.spec returns at-or-below-requires at-or-below-requires-2 returns-2 returns-3)
+    tie.close (tie.spec returns relates-requires relates-requires-2 returns-2 returns-3)

@@ -10,10 +10,10 @@ use Rattle.lattice.proofs.order.first_faulty.Statement.{statement}
 use Rattle.lattice.proofs.order.first_faulty.Tie as tie
 
 abbrev Inv-loop : tie.InvT-loop
-Inv-loop b n i₀ i = (i ≤ n) × NoneBelow (isFaulty (b .rows) n) i
+Inv-loop n rows i₀ i = (i ≤ n) × NoneBelow (isFaulty rows n) i
 
 abbrev μ-loop : tie.MeasureT-loop
-μ-loop b n i₀ i = n - i
+μ-loop n rows i₀ i = n - i
 
 loop-holds : tie.Need-loop-holds Inv-loop μ-loop
 loop-holds c = (search needs, below-none _)
@@ -25,9 +25,9 @@ returns : tie.Need-returns Inv-loop μ-loop
 unfolding firstFaulty
 returns c =
     sym
-    (first-is _ _ _ (c .before .before .loop-test .taken)
+    (first-is _ _ _ (c .before .before .before .loop-test .taken)
     (sym (c .before .is-faulty .ensures) ∙ c .if1 .taken)
-    (c .before .before .before .loop .inv .1))
+    (c .before .before .before .before .loop .inv .1))
 
 add-i : tie.Need-add-i Inv-loop μ-loop
 add-i c = search needs
@@ -38,7 +38,7 @@ loop-less c = search needs
 loop-again : tie.Need-loop-again Inv-loop μ-loop
 loop-again c = (
   search needs,
-  below-more _ _ (c .before .before .before .loop .inv .1) (sym (c .before .is-faulty .ensures) ∙ c .if1 .left),
+  below-more _ _ (c .before .before .before .before .loop .inv .1) (sym (c .before .is-faulty .ensures) ∙ c .if1 .left),
 )
 
 returns-2 : tie.Need-returns-2 Inv-loop μ-loop

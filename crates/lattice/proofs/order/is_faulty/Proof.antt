@@ -1,39 +1,33 @@
 -- `is_faulty`: each way out decides one test of the definition.
 use mathlib.Core.Path.{sym, _∙_}
-use borrow.Author.Tests.{not-true, not-false, lt-ltb, le-ltb}
+use borrow.Author.Tests.{not-true, not-false}
 use Rattle.lattice.specs.Refusals.{isFaulty}
 use borrow.Author.Needs.{needs}
 use Rattle.lattice.proofs.order.is_faulty.Statement.{statement}
 use Rattle.lattice.proofs.order.is_faulty.Tie as tie
 
-at-or-below-requires : tie.Need-at-or-below-requires
-at-or-below-requires c κs = search needs
+relates-requires : tie.Need-relates-requires
+relates-requires c κs = search needs
 
 returns : tie.Need-returns
 unfolding isFaulty
-returns c = simp (sym (c .before .at-or-below .ensures) ∙ not-true _ (c .if1 .taken))
+returns c = simp (sym (c .before .relates .ensures) ∙ not-true _ (c .if1 .taken))
 
-mul-row : tie.Need-mul-row
-mul-row c = search needs
+mul-any-beyond : tie.Need-mul-any-beyond
+mul-any-beyond c = search needs
 
-element-copy-out-row : tie.Need-element-copy-out-row
-element-copy-out-row c = search needs
+element-copy-out-any-beyond : tie.Need-element-copy-out-any-beyond
+element-copy-out-any-beyond c = search needs
 
-cast-row : tie.Need-cast-row
-cast-row c = search needs
-
-cast-if2 : tie.Need-cast-if2
-cast-if2 c = search needs
-
-shr-if2 : tie.Need-shr-if2
-shr-if2 c = search needs
+any-beyond-requires : tie.Need-any-beyond-requires
+any-beyond-requires c κs = search needs
 
 returns-2 : tie.Need-returns-2
 unfolding isFaulty
 returns-2 c =
     simp (
-      sym (c .before .before .before .at-or-below .ensures) ∙ not-false _ (c .before .before .if1 .left),
-      lt-ltb _ _ (c .if2 .taken),
+      sym (c .before .before .before .before .relates .ensures) ∙ not-false _ (c .before .before .before .if1 .left),
+      sym (c .before .any-beyond .ensures) ∙ c .if2 .taken,
     )
 
 any-fault-requires : tie.Need-any-fault-requires
@@ -43,9 +37,9 @@ returns-3 : tie.Need-returns-3
 unfolding isFaulty
 returns-3 c =
     simp (
-      sym (c .before .before .before .before .at-or-below .ensures)
-          ∙ not-false _ (c .before .before .before .if1 .left),
-      le-ltb _ _ (c .before .if2 .left),
+      sym (c .before .before .before .before .before .relates .ensures)
+          ∙ not-false _ (c .before .before .before .before .if1 .left),
+      sym (c .before .before .any-beyond .ensures) ∙ c .before .if2 .left,
     )
     (c .any-fault .ensures)
 
@@ -53,13 +47,11 @@ pub is-faulty-spec : {M : Type 1} → statement M
 is-faulty-spec =
     tie.close
     (tie.spec
-    at-or-below-requires
+    relates-requires
     returns
-    mul-row
-    element-copy-out-row
-    cast-row
-    cast-if2
-    shr-if2
+    mul-any-beyond
+    element-copy-out-any-beyond
+    any-beyond-requires
     returns-2
     any-fault-requires
     returns-3)

@@ -6,7 +6,8 @@ use native.Mathlib.Omega.{arith}
 use lib.ListN.{getD, replicate}
 use Rattle.script.specs.Layout.{mostParts}
 use Rattle.script.specs.Entries.{fieldCount, isSession}
-use Rattle.script.specs.Reach.{opens, has, IsSet}
+use Rattle.prelude.specs.Sets.{has, IsSet}
+use Rattle.script.specs.Reach.{opens}
 use Rattle.script.proofs.Layouts.{few-bounds, names-are, parts-are, few-parts}
 use Rattle.script.proofs.ReachTables.{Filled, right-all, fill-last, fill-skip, fill-more}
 use borrow.Author.Needs.{needs}

@@ -7,7 +7,7 @@ use borrow.Author.Tests.{eq-eqb, ne-eqb}
 use lib.Dec.{eqb}
 use Rattle.script.specs.Layout.{mostNames}
 use Rattle.script.specs.Entries.{session, isSession}
-use Rattle.script.specs.Reach.{IsSet}
+use Rattle.prelude.specs.Sets.{IsSet}
 use Rattle.script.proofs.Layouts.{few-bounds}
 use Rattle.script.proofs.Sets.{upTo, collect-none, collect-with, collect-without, collect-all}
 use borrow.Author.Needs.{needs}

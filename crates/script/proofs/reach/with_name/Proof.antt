@@ -4,7 +4,7 @@ use native.Mathlib.Nat.{one-mul, le-refl}
 use native.Mathlib.Omega.{arith}
 use lib.Bits.{bitOr}
 use lib.Pow.{shl-exact}
-use Rattle.script.specs.Reach.{has}
+use Rattle.prelude.specs.Sets.{has}
 use Rattle.script.proofs.Sets.{has-more}
 use borrow.Author.Needs.{needs}
 use Rattle.script.proofs.reach.with_name.Statement.{statement}
