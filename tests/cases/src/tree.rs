@@ -10,6 +10,7 @@ pub struct Name {
 
 /// The operators of two operands, by their kinds in the file.
 pub const OPERATORS: [u8; 6] = [2, 3, 4, 5, 6, 7];
+pub const ADD: u8 = 2;
 pub const SUBTRACT: u8 = 3;
 pub const LESS: u8 = 6;
 

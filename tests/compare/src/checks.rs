@@ -1,9 +1,10 @@
 //! The checks that the command runs, each with its line in the report.
 
 use crate::coverage::Coverage;
-use crate::demand_three::{self, Tally};
+use crate::demand_three;
 use crate::engine::{Raw, Reference, Wrapper};
 use crate::report::Report;
+use crate::tally::Tally;
 use crate::{examples, faults, long_runs, sweep};
 use reference::{Fault, Rules};
 
@@ -36,7 +37,7 @@ pub fn comparison(report: &mut Report, count: u64, seed: u64) {
         Ok(coverage) => coverage,
         Err(difference) => return report.line("comparison", Err(difference.to_string())),
     };
-    print!("{coverage}");
+    report.table(&coverage);
     report.line("comparison", Ok(format!("of {count} cases, 0 differences")));
     report.line(
         "coverage",
@@ -56,7 +57,7 @@ pub fn demand_three(report: &mut Report, count: u64, seed: u64) {
         .and_then(|tally| demand_three::sweep(&Wrapper, count / 4, seed + 1).map(|_| tally));
     match both {
         Ok(tally) => {
-            print!("{tally}");
+            report.table(&tally);
             report.line(
                 "demand three",
                 Ok(format!("holds of {} pairs", tally.pairs)),

@@ -3,73 +3,12 @@
 //! stamped n or less; with n = m the session registers at or below the reader's level end equal.
 
 use crate::engine::{Engine, RunArguments};
-use crate::floors;
 use crate::outcome::fresh_log;
 use crate::sweep::case_seed;
+use crate::tally::Tally;
 use cases::file::{File, NameEntry, SESSION};
 use cases::{Case, Rng};
 use std::fmt;
-
-/// How much the tried pairs were able to show.
-#[derive(Default)]
-pub struct Tally {
-    pub pairs: u64,
-    pub with_lines: u64,
-    pub starts_differ: u64,
-    pub paths_differ: u64,
-    pub values_differ: u64,
-    pub limits_differ: u64,
-    pub log_full: u64,
-    pub several_instants: u64,
-}
-
-/// The number of pairs that the floors are stated for; others in proportion.
-const USUAL: u64 = 20_000;
-
-impl Tally {
-    /// How many counts have a floor.
-    pub const FLOORS: usize = 7;
-
-    /// Each count with its name and its floor.
-    fn rows(&self) -> [(&'static str, u64, u64); Tally::FLOORS] {
-        [
-            ("pairs with lines in the record", self.with_lines, 4000),
-            ("pairs that start differently", self.starts_differ, 8000),
-            (
-                "pairs that differ in ending, steps or instants",
-                self.paths_differ,
-                400,
-            ),
-            (
-                "pairs that end with different values",
-                self.values_differ,
-                4000,
-            ),
-            ("pairs with n < m", self.limits_differ, 4000),
-            ("pairs that fill the log", self.log_full, 400),
-            ("pairs over several instants", self.several_instants, 4000),
-        ]
-    }
-
-    /// What was reached too seldom.
-    pub fn missing(&self) -> Vec<String> {
-        let too_few = |(what, seen, floor): (&str, u64, u64)| {
-            let floor = floors::floor(floor, self.pairs, USUAL);
-            (seen < floor).then(|| format!("{what}: {seen} of at least {floor}"))
-        };
-        self.rows().into_iter().filter_map(too_few).collect()
-    }
-}
-
-impl fmt::Display for Tally {
-    fn fmt(&self, out: &mut fmt::Formatter) -> fmt::Result {
-        writeln!(out, "  {:<72} {:>8}", "pairs of runs", self.pairs)?;
-        for (what, count, _) in self.rows() {
-            writeln!(out, "  {what:<72} {count:>8}")?;
-        }
-        Ok(())
-    }
-}
 
 /// Two runs that show a reader what is sealed.
 pub struct Violation {
@@ -97,7 +36,7 @@ impl fmt::Display for Violation {
 
 /// Tries `count` pairs of runs: accepted scripts, all readers.
 pub fn sweep(engine: &dyn Engine, count: u64, seed: u64) -> Result<Tally, Violation> {
-    let mut tally = Tally::default();
+    let mut tally = Tally::new(count);
     // Not every case is accepted; the bound ends the loop for an engine that accepts none.
     for number in 0..count {
         let seed = case_seed(seed, number);
@@ -132,10 +71,11 @@ fn accepted(engine: &dyn Engine, case: &Case) -> bool {
 }
 
 /// One run and what it leaves.
-struct Ran {
-    out: [u32; 6],
-    values: Vec<i32>,
-    log: Vec<u32>,
+pub struct Ran {
+    /// Number, place, ending, steps, instants, lines.
+    pub out: [u32; 6],
+    pub values: Vec<i32>,
+    pub log: Vec<u32>,
 }
 
 impl Ran {
@@ -168,6 +108,19 @@ fn low(case: &Case, name: &NameEntry, reader: u32) -> bool {
     u16::from_be_bytes([case.book[place], case.book[place + 1]]) >> reader & 1 == 1
 }
 
+/// Two value lists that agree on what the reader may see.
+fn starts(case: &Case, file: &File, reader: u32, rng: &mut Rng) -> (Vec<i32>, Vec<i32>) {
+    let first = cases::values(rng, file);
+    let other = cases::values(rng, file);
+    let mut second = first.clone();
+    for (place, name) in file.names.iter().enumerate() {
+        if !low(case, name, reader) && rng.chance(3, 4) {
+            second[place] = other[place];
+        }
+    }
+    (first, second)
+}
+
 /// Runs a pair; an error says how the reader can tell the runs apart.
 fn pair(
     engine: &dyn Engine,
@@ -179,33 +132,18 @@ fn pair(
     let Some(file) = File::read(&case.script) else {
         return Ok(());
     };
-    let first_values = cases::values(rng, &file);
-    let other_values = cases::values(rng, &file);
-    let mut second_values = first_values.clone();
-    for (place, name) in file.names.iter().enumerate() {
-        if !low(case, name, reader) && rng.chance(3, 4) {
-            second_values[place] = other_values[place];
-        }
-    }
-    let n = if rng.chance(1, 2) {
-        case.limit
-    } else {
-        rng.below(case.limit as usize + 1) as u32
+    let (m, starts) = (case.limit, starts(case, &file, reader, rng));
+    let n = match rng.chance(1, 2) {
+        true => m,
+        false => rng.below(m as usize + 1) as u32,
     };
-    let first = Ran::new(engine, case, reader, &first_values, n);
-    let second = Ran::new(engine, case, reader, &second_values, case.limit);
+    let first = Ran::new(engine, case, reader, &starts.0, n);
+    let second = Ran::new(engine, case, reader, &starts.1, m);
     if first.out[0] != 0 || second.out[0] != 0 {
         return Ok(());
     }
-    tally.pairs += 1;
-    tally.with_lines += u64::from(first.out[5] > 0);
-    tally.starts_differ += u64::from(first_values != second_values);
-    tally.limits_differ += u64::from(n < case.limit);
-    tally.paths_differ += u64::from(n == case.limit && first.out[2..5] != second.out[2..5]);
-    tally.values_differ += u64::from(first.values != second.values);
-    tally.log_full += u64::from(first.out[2] == 2);
-    tally.several_instants += u64::from(first.out[4] > 1);
-    if first.record(n) != second.record(n) || first.record(n).len() != first.out[5] as usize {
+    tally.record(&first, &second, (n, m), starts.0 != starts.1);
+    if first.record(u32::MAX) != second.record(n) {
         return Err("the records differ".into());
     }
     let seen =
@@ -213,7 +151,7 @@ fn pair(
     let unequal = |place: usize| first.values[place] != second.values[place];
     let differs = (0..file.names.len()).find(|&place| seen(&file.names[place]) && unequal(place));
     match differs {
-        Some(name) if n == case.limit => Err(format!("register {name} ends differently")),
+        Some(name) if n == m => Err(format!("register {name} ends differently")),
         _ => Ok(()),
     }
 }

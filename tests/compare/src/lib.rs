@@ -17,4 +17,5 @@ mod raw;
 pub mod report;
 pub mod shrink;
 pub mod sweep;
+pub mod tally;
 pub mod tightest;

@@ -12,16 +12,35 @@ const REGISTER: usize = 0;
 const SIGNAL: usize = 1;
 const ABSENT: usize = 2;
 
-/// The runs by name: script, step limit, words of the log.
-fn runs() -> Vec<(&'static str, Process, u32, usize)> {
-    let one = || Expression::Constant(1);
-    let count = || Process::Assign(REGISTER, binary(2, Expression::Register(REGISTER), one()));
-    let emit = || Process::Emit(SIGNAL);
-    let paused = || sequence(emit(), watching(SIGNAL, when(ABSENT, Process::Nil)));
-    vec![
+/// A run by name: script, step limit, words of the log.
+type LongRun = (&'static str, Process, u32, usize);
+
+fn one() -> Expression {
+    Expression::Constant(1)
+}
+
+fn forever(body: Process) -> Process {
+    while_do(one(), body)
+}
+
+fn count() -> Process {
+    Process::Assign(REGISTER, binary(ADD, Expression::Register(REGISTER), one()))
+}
+
+/// Emits the signal and waits for the next instant.
+fn next_instant() -> Process {
+    sequence(
+        Process::Emit(SIGNAL),
+        watching(SIGNAL, when(ABSENT, Process::Nil)),
+    )
+}
+
+fn runs() -> [LongRun; 6] {
+    let threads = parallel(next_instant(), sequence(count(), Process::Emit(SIGNAL)));
+    [
         (
             "a loop that does nothing",
-            while_do(one(), Process::Nil),
+            forever(Process::Nil),
             MOST_STEPS,
             8,
         ),
@@ -31,27 +50,22 @@ fn runs() -> Vec<(&'static str, Process, u32, usize)> {
             MOST_STEPS,
             8,
         ),
-        (
-            "a counter",
-            while_do(one(), count()),
-            MOST_STEPS - 1,
-            4 * 400_000,
-        ),
+        ("a counter", forever(count()), MOST_STEPS - 1, 4 * 400_000),
         (
             "a counter that fills the log",
-            while_do(one(), count()),
+            forever(count()),
             MOST_STEPS,
             4 * 50_000 + 3,
         ),
         (
             "an instant in each round",
-            while_do(one(), paused()),
+            forever(next_instant()),
             200_000,
             4 * 100_000,
         ),
         (
             "two threads in each round",
-            while_do(one(), parallel(paused(), sequence(count(), emit()))),
+            forever(threads),
             200_000,
             4 * 100_000,
         ),
@@ -65,7 +79,7 @@ pub fn compare_all() -> Vec<(&'static str, Result<(), String>)> {
         level: 0,
         owned: false,
     };
-    let compared = |(title, root, limit, log)| {
+    let compared = |(title, root, limit, log): LongRun| {
         let names = vec![name(false), name(true), name(true)];
         let file = file::write(&Script { names, root }, &mut Rng::new(1));
         let case = Case {

@@ -1,17 +1,18 @@
-//! Compares the library with the second interpreter.
-//!
-//!     compare [cases] [seed]                 the comparison, with a table of what it reached
-//!     compare demand-three [pairs] [seed]    two runs from starts that agree below a reader
-//!     compare faults [seed]                  every planted fault must be found
-//!     compare examples                       the papers' examples
-//!     compare case SEED                      one case again, by the seed that a difference names
-//!     compare all                            all of these, as the gate runs them
+//! Compares the library with the second interpreter; `USAGE` has the commands.
 
 use compare::checks;
 use compare::coverage::Coverage;
 use compare::report::Report;
 use compare::sweep;
 use std::process::ExitCode;
+
+const USAGE: &str = "\
+compare [cases] [seed]                 the comparison, with a table of what it reached
+compare demand-three [pairs] [seed]    two runs from starts that agree below a reader
+compare faults [seed]                  every planted fault must be found
+compare examples                       the papers' examples
+compare case SEED                      one case again, by the seed that a difference names
+compare all                            all of these, as the gate runs them";
 
 const CASES: u64 = 60_000;
 const PAIRS: u64 = 20_000;
@@ -38,7 +39,7 @@ fn main() -> ExitCode {
         Ok(true) => ExitCode::SUCCESS,
         Ok(false) => ExitCode::FAILURE,
         Err(says) => {
-            eprintln!("{says}");
+            eprintln!("{says}\n{USAGE}");
             ExitCode::FAILURE
         }
     }
@@ -71,6 +72,7 @@ fn compare(cases: u64, seed: u64) -> bool {
 
 fn demand_three(pairs: u64, seed: u64) -> bool {
     reported(|report| {
+        report.tables = true;
         checks::demand_three(report, pairs, seed);
         checks::leaks(report, seed);
     })

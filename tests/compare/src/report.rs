@@ -2,11 +2,20 @@
 
 #[derive(Default)]
 pub struct Report {
+    /// Whether tables are printed too.
+    pub tables: bool,
     passed: usize,
     failed: usize,
 }
 
 impl Report {
+    /// Prints a table of what a check reached.
+    pub fn table(&self, table: &impl std::fmt::Display) {
+        if self.tables {
+            print!("{table}");
+        }
+    }
+
     /// Prints the line of a check.
     pub fn line(&mut self, name: &str, result: Result<String, String>) {
         match result {

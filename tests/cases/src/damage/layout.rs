@@ -97,6 +97,14 @@ pub const SORTS: &[Sort] = &[
     Sort::new(5, "many nodes", |draft, rng| {
         fill_nodes(draft, rng.between(258, 600))
     }),
+    Sort::new(5, "as many nodes as the offsets allow", |draft, rng| {
+        // Rarely, since such a file is long.
+        if !rng.chance(1, 3) {
+            return None;
+        }
+        let first = 4 * draft.file.names.len() + 8 * draft.file.expressions.len();
+        fill_nodes(draft, (65_535 - first.min(65_535)) / 8)
+    }),
     Sort::new(5, "no node", |draft, _| {
         draft.file.nodes.clear();
         Some(())

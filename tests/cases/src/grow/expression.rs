@@ -25,7 +25,10 @@ impl Grower<'_> {
             _ => self.rng.between(2, 9),
         };
         self.take(size);
-        self.expression_of(level, size)
+        match size == 3 && self.rng.chance(1, 6) {
+            true => edge(self.rng),
+            false => self.expression_of(level, size),
+        }
     }
 
     /// An expression to be tested: mostly one that reads a register.
@@ -78,6 +81,18 @@ impl Grower<'_> {
             None => Expression::Constant(value(self.rng)),
         }
     }
+}
+
+/// An operation at an end of the 32-bit range, or a division that needs its rule.
+fn edge(rng: &mut Rng) -> Expression {
+    let end = [i32::MIN, i32::MIN + 1, i32::MAX - 1, i32::MAX, -7, 7][rng.below(6)];
+    let small = [-2, -1, 0, 1, 2, i32::MIN, i32::MAX][rng.below(7)];
+    let operator = OPERATORS[rng.below(OPERATORS.len())];
+    binary(
+        operator,
+        Expression::Constant(end),
+        Expression::Constant(small),
+    )
 }
 
 /// A 32-bit value: small numbers, the ends of the range, powers of two and their neighbours, any.
