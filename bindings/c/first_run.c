@@ -1,6 +1,6 @@
 /* Checks and runs the script `x := 7` and prints what the program `station` prints. Exit status 1 if refused.
  *
- *     cc -I include bindings/c/first_run.c target/staticlib/libengine.a -o first_run
+ *     cc -I include bindings/c/first_run.c target/staticlib/libengine.a -o target/first_run
  */
 #include <inttypes.h>
 #include <stdio.h>
