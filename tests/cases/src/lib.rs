@@ -185,15 +185,28 @@ fn log(rng: &mut Rng) -> usize {
 /// Puts up to `count` faults into a draft, at least one if any of eight tries applies. Faults below the
 /// level of entries come last.
 fn damaged(draft: &mut Draft, rng: &mut Rng, count: usize) -> Vec<&'static Sort> {
-    let sorts: Vec<&'static Sort> = damage::sorts().collect();
     let mut chosen = vec![];
     for _ in 0..8 {
-        chosen = (0..count).map(|_| sorts[rng.below(sorts.len())]).collect();
+        chosen = some_sorts(rng, count);
         chosen.sort_by_key(|sort| sort.refusal == 4);
         chosen.retain(|sort| sort.apply(draft, rng).is_some());
         if !chosen.is_empty() {
             break;
         }
+    }
+    chosen
+}
+
+/// Sorts of faults, after the first often of neighbouring refusals, so that their order is tested.
+fn some_sorts(rng: &mut Rng, count: usize) -> Vec<&'static Sort> {
+    let all: Vec<&'static Sort> = damage::sorts().collect();
+    let first = all[rng.below(all.len())];
+    let near = |sort: &&'static Sort| sort.refusal.abs_diff(first.refusal) == 1;
+    let neighbours: Vec<&'static Sort> = all.iter().copied().filter(near).collect();
+    let mut chosen = vec![first];
+    for _ in 1..count {
+        let from = if rng.chance(2, 3) { &neighbours } else { &all };
+        chosen.push(from[rng.below(from.len())]);
     }
     chosen
 }

@@ -21,7 +21,6 @@ fn three_names(rng: &mut Rng, lattice: &Lattice) -> Vec<Name> {
         } else {
             rng.below(lattice.count())
         },
-        owned: false,
     };
     vec![name(false), name(true), name(true)]
 }
@@ -95,7 +94,6 @@ fn declare(names: &mut Vec<Name>, signal: bool) -> usize {
     names.push(Name {
         signal,
         level: names[REGISTER].level,
-        owned: true,
     });
     names.len() - 1
 }
@@ -152,7 +150,6 @@ pub fn largest(rng: &mut Rng, lattice: &Lattice, careless: Option<Careless>) -> 
     let spare = Name {
         signal: rng.chance(1, 2),
         level,
-        owned: false,
     };
     let names = MOST_NAMES - usize::from(short == 3);
     script.names.resize(names.max(script.names.len()), spare);
@@ -169,12 +166,7 @@ fn fill_expressions(rng: &mut Rng, script: &mut Script, most: usize) {
     let register = script.names.len();
     script.names.push(Name {
         signal: false,
-        level: script
-            .names
-            .iter()
-            .find(|name| !name.owned)
-            .map_or(0, |name| name.level),
-        owned: true,
+        level: script.names.first().map_or(0, |name| name.level),
     });
     let mut value = Expression::Constant(grow::value(rng));
     for _ in 0..(missing - 1) / 2 {
@@ -196,7 +188,6 @@ fn fill_nodes(script: &mut Script, most: usize) {
         script.names.push(Name {
             signal: true,
             level: 0,
-            owned: true,
         });
         let inner = std::mem::replace(&mut script.root, Process::Nil);
         script.root = local(signal, inner);

@@ -1,11 +1,10 @@
 //! Scripts as trees. Names are numbers into the script's list of names.
 
-/// What a name is: its kind, its level, and whether a node of the script declares it.
+/// What a name is. It is owned if a node of the script declares it, and a session name otherwise.
 #[derive(Clone, Copy, Debug, PartialEq, Eq)]
 pub struct Name {
     pub signal: bool,
     pub level: usize,
-    pub owned: bool,
 }
 
 /// The operators of two operands, by their kinds in the file.

@@ -23,6 +23,7 @@ enum Topic {
     Ending,
     Run,
     Fault,
+    Before,
 }
 
 /// The number of cases that the floors are stated for; others in proportion.
@@ -37,6 +38,9 @@ const LARGE_FLOOR: u64 = 100;
 
 /// Each single sort of fault, answered by its own refusal: some need a part that few scripts have.
 const SORT_FLOOR: u64 = 40;
+
+/// Faults of two neighbouring refusals in one case, answered by the lower number.
+const ORDER_FLOOR: u64 = 20;
 
 const KINDS: [&str; 11] = [
     "nil", "assign", "let", "if", "while", "sequence", "emit", "local", "watching", "when",
@@ -84,11 +88,7 @@ impl Coverage {
         if made.faults.len() > 1 {
             self.count(Topic::Cases, SEVERAL_FAULTS);
         }
-        for fault in &made.faults {
-            if fault.refusal == outcome.refusal() {
-                self.count(Topic::Fault, sort_name(fault));
-            }
-        }
+        self.record_faults(&made.faults, outcome.refusal());
         if outcome.accepted() {
             self.count(Topic::Cases, ACCEPTED);
         }
@@ -105,6 +105,16 @@ impl Coverage {
                 Topic::FlowAt,
                 KINDS.get(usize::from(kind)).copied().unwrap_or("?"),
             );
+        }
+    }
+
+    /// Counts the faults that were answered by their own refusal, and those that hid one of the next.
+    fn record_faults(&mut self, faults: &[&Sort], refusal: u32) {
+        for fault in faults.iter().filter(|fault| fault.refusal == refusal) {
+            self.count(Topic::Fault, sort_name(fault));
+            if faults.iter().any(|other| other.refusal == refusal + 1) {
+                self.count(Topic::Before, before(refusal));
+            }
         }
     }
 
@@ -165,6 +175,7 @@ impl Coverage {
         all.extend(ENDINGS.map(|ending| (Topic::Ending, ending.to_string(), FLOOR)));
         all.extend(NOTES.map(|(note, floor)| (Topic::Run, note.to_string(), floor)));
         all.extend(damage::sorts().map(|sort| (Topic::Fault, sort_name(sort), SORT_FLOOR)));
+        all.extend((1..14).map(|refusal| (Topic::Before, before(refusal), ORDER_FLOOR)));
         all
     }
 
@@ -190,6 +201,10 @@ impl Coverage {
 
 fn sort_name(sort: &Sort) -> String {
     format!("{:2} {}", sort.refusal, sort.says)
+}
+
+fn before(refusal: u32) -> String {
+    format!("{refusal:2} before {}", refusal + 1)
 }
 
 /// Whether a declaration lies in the body of a loop; the file is a checked one.
@@ -218,6 +233,7 @@ fn title(topic: Topic) -> &'static str {
         Topic::Ending => "ending",
         Topic::Run => "run",
         Topic::Fault => "fault answered by its refusal",
+        Topic::Before => "faults of two refusals at once",
     }
 }
 

@@ -74,11 +74,7 @@ fn runs() -> [LongRun; 6] {
 
 /// Compares each run; gives its name, and how library and reference differ.
 pub fn compare_all() -> Vec<(&'static str, Result<(), String>)> {
-    let name = |signal| Name {
-        signal,
-        level: 0,
-        owned: false,
-    };
+    let name = |signal| Name { signal, level: 0 };
     let compared = |(title, root, limit, log): LongRun| {
         let names = vec![name(false), name(true), name(true)];
         let file = file::write(&Script { names, root }, &mut Rng::new(1));

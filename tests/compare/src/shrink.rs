@@ -21,6 +21,7 @@ fn simpler(case: &Case) -> Vec<Case> {
             ..case.clone()
         }));
     }
+    all.extend((0..case.values.len()).filter_map(|name| without_name(case, name)));
     for limit in [case.limit / 2, case.limit.saturating_sub(1)] {
         if limit < case.limit {
             all.push(Case {
@@ -44,6 +45,27 @@ fn simpler(case: &Case) -> Vec<Case> {
         }
     }
     all
+}
+
+/// The case without a name that nothing uses, and without its value.
+fn without_name(case: &Case, name: usize) -> Option<Case> {
+    let mut file = File::read(&case.script)?;
+    let names_one = |node: &Entry| matches!(node.kind, 1 | 2 | 6..=9);
+    let nodes = file.nodes.iter_mut().filter(|node| names_one(node));
+    let registers = file.expressions.iter_mut().filter(|e| e.kind == 1);
+    for entry in nodes.chain(registers) {
+        match usize::from(entry.a) {
+            used if used == name => return None,
+            other => entry.a -= u16::from(other > name),
+        }
+    }
+    let mut smaller = case.clone();
+    smaller.values.remove(name);
+    if name < file.names.len() {
+        file.names.remove(name);
+    }
+    smaller.script = file.bytes();
+    Some(smaller)
 }
 
 /// Files in which one node is nil or gives way to a child of its own. Each has fewer nodes, or fewer that

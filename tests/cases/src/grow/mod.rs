@@ -96,7 +96,6 @@ impl Grower<'_> {
         self.names.push(Name {
             signal: self.rng.chance(1, 2),
             level,
-            owned: false,
         });
     }
 
@@ -106,11 +105,7 @@ impl Grower<'_> {
             return None;
         }
         self.scope.push(self.names.len());
-        self.names.push(Name {
-            signal,
-            level,
-            owned: true,
-        });
+        self.names.push(Name { signal, level });
         self.scope.last().copied()
     }
 
