@@ -16,4 +16,5 @@ pub mod Resting
 pub mod Turning
 pub mod Evaluating
 pub mod Entries
+pub mod Idling
 pub mod Whole

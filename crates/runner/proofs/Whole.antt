@@ -3,7 +3,7 @@
 use mathlib.Core.Path.{_≡_, refl, sym, _∙_, subst}
 use mathlib.Core.Bool.{Bool, true}
 use mathlib.Core.List.{List}
-use Prim.Native.Nat.{ℕ, suc, _-_, _/_, _≤_, _<_}
+use Prim.Native.Nat.{ℕ, suc, _+_, _-_, _/_, _≤_, _<_}
 use native.Mathlib.Omega.{arith}
 use lib.IntN.{ℤ}
 use lib.ListN.{length, replicate}
@@ -22,6 +22,7 @@ use Rattle.runner.specs.Outcome.{outcome, stopped}
 use Rattle.runner.specs.Contracts.{mostSteps, Valued, Counted, left, Advances, endingNumber, endingOf, Gives}
 use Rattle.runner.proofs.Framing.{waits-some}
 use Rattle.runner.proofs.Residuals.{zeros}
+use Rattle.runner.proofs.Idling.{outcome-idle}
 use Rattle.runner.proofs.Outcomes.{outcome-moves, outcome-finished, outcome-spent, outcome-full, outcome-changes}
 
 module _ (names : Names ℕ) (seen : ℕ → Bool) (limit : ℕ) where
@@ -85,6 +86,27 @@ module _ (names : Names ℕ) (seen : ℕ → Bool) (limit : ℕ) where
           logged = u .logged;
           bytes = l ∙ u .bytes;
         }
+
+    -- suspended to the end, where nothing changes
+    pub comes-idle :
+        {instants : ℕ} → suspended (at .process) (at .values) ≡ true →
+        change (at .process) (at .values) ≡ at .process → instantStart names (at .values) ≡ at .values →
+        instants ≡ at .instants + (limit - at .steps) →
+        outcome names seen limit (length (begun .log) / 4)
+        (record {
+          process = at .process;
+          values = at .values;
+          log = at .log;
+          steps = limit;
+          instants = instants;
+          lines = at .lines;
+        })
+        ≡ outcome names seen limit (length (begun .log) / 4) begun
+    comes-idle {instants} w p v i =
+        sym
+        (outcome-idle names seen limit (length (begun .log) / 4) (limit - at .steps) at instants w p v
+        (omega (arith, u .time)) (sym i))
+        ∙ u .same
 
   -- where and how it stops
   pub record Stops (at : Running ℕ) (room why : ℕ) : Type 0 where

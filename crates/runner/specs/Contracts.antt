@@ -1,6 +1,6 @@
 -- What the functions of the runner ask for and promise.
 use mathlib.Core.Path.{_≡_}
-use mathlib.Core.Bool.{Bool, true, false, cond, _||_}
+use mathlib.Core.Bool.{Bool, true, false, cond, _&&_, _||_}
 use mathlib.Core.Logic.{_⊎_}
 use mathlib.Core.Option.{Option, none, some}
 use mathlib.Core.List.{List, [], _∷_}
@@ -8,7 +8,8 @@ use Prim.Native.Nat.{ℕ, suc, _-_, _*_, _≤_, _<_}
 use lib.Dec.{eqb}
 use lib.IntN.{ℤ}
 use lib.ListN.{getD, set, length}
-use Rattle.language.specs.Syntax.{Operator, add, subtract, multiply, divide, less, equal, Proc, nil, isNil}
+use Rattle.prelude.specs.Search.{any}
+use Rattle.language.specs.Syntax.{Names, Operator, add, subtract, multiply, divide, less, equal, Proc, nil, isNil}
 use Rattle.language.specs.Steps.{present, apply, suspended, move}
 use Rattle.language.specs.Calls.{Line, System, Ending, finished, spent, logFull, lineFor, calledFor}
 use Rattle.script.specs.declared.layout.Script.{Script}
@@ -160,6 +161,13 @@ pub data Settles
   makesMove :
       how ≡ 0 → steps′ ≡ suc steps → lines′ ≡ lines → steps < limit → Silent p s p′ s →
       Settles limit p s p′ steps lines why how steps′ lines′
+
+-- a signal that is present, and whether there is one
+abbrev pub isPresentSignal : Names ℕ → List ℤ → ℕ → Bool
+isPresentSignal names values x = names .isSignal x && present values x
+
+abbrev pub someSignalPresent : Names ℕ → List ℤ → Bool
+someSignalPresent names values = any (isPresentSignal names values) (length values)
 
 -- a script at its start, with nothing counted
 abbrev pub starting : List ℕ → List ℤ → List ℕ → Running ℕ

@@ -4,12 +4,14 @@ use crate::forms::find_front;
 use crate::values;
 use script::layout::Script;
 ghost use mathlib.Core.Path.{_≡_};
+ghost use Prim.Native.Nat.{_<_};
+ghost use lib.ListN.{length};
 ghost use Rattle.language.specs.Steps.{change, instantStart};
 ghost use Rattle.language.specs.Calls.{givenBack};
 ghost use Rattle.script.specs.Layout.{nodeCount};
 ghost use Rattle.script.specs.Tree.{namesOf};
 ghost use Rattle.runner.specs.Plan.{KeepsPlan};
-ghost use Rattle.runner.specs.Contracts.{Valued, At, left};
+ghost use Rattle.runner.specs.Contracts.{Valued, At, left, isPresentSignal, someSignalPresent};
 
 // The instant change of node k, which goes into what is in front and reads the signals of the instant that ends.
 pub fn change_instant(
@@ -45,6 +47,33 @@ pub fn change_instant(
         let end = g.to;
         change_instant(s, c, plan, values, &mut state[start..end], g.child);
     }
+}
+
+// Name x is a signal, and present.
+fn is_present_signal(s: &[u8], c: Script, values: &[i32], x: usize) -> bool
+    requires { ⌜ Valued (now s) c (now values) × (x < length (now values)) ⌝ }
+    ensures { λ r. ⌜ r ≡ isPresentSignal (namesOf (now (s .entry))) (now (values .entry)) x ⌝ }
+{
+    let name = script::entries::name_at(s, c, x);
+    if name.kind != 1 {
+        return false;
+    }
+    values::is_present(values, x)
+}
+
+pub fn some_signal_present(s: &[u8], c: Script, values: &[i32]) -> bool
+    requires { ⌜ Valued (now s) c (now values) ⌝ }
+    ensures { λ r. ⌜ r ≡ someSignalPresent (namesOf (now (s .entry))) (now (values .entry)) ⌝ }
+{
+    let n = c.names;
+    let mut x: usize = 0;
+    while x < n {
+        if is_present_signal(s, c, values, x) {
+            return true;
+        }
+        x += 1;
+    }
+    false
 }
 
 // Every signal is absent.

@@ -73,6 +73,16 @@ pub fn run(
                 lines: r.at.lines,
             };
         }
+        if !instants::some_signal_present(s, c, values) {
+            // Nothing can change from here on: each step that is left is an instant change.
+            instants::clear_owned(s, c, values);
+            return Ran {
+                ending: ending_of(r.why),
+                steps: limit,
+                instants: instant + (limit - r.at.steps),
+                lines: r.at.lines,
+            };
+        }
         instants::change_instant(s, c, plan, values, state, k);
         instants::clear_signals(s, c, values);
         at = Counts {

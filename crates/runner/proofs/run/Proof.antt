@@ -1,22 +1,27 @@
 -- `run`: the script is run as far as it goes in an instant, then the instant changes.
-use mathlib.Core.Path.{_≡_, refl, sym, ap, _∙_}
+use mathlib.Core.Path.{_≡_, refl, sym, ap, _∙_, subst}
 use mathlib.Core.Logic.{⊎-elim}
 use Prim.Native.Nat.{ℕ, _-_, _/_, _≤_}
 use native.Mathlib.Nat.{le-antisymm}
 use native.Mathlib.Numerals.{add-one}
 use native.Mathlib.Omega.{arith}
 use borrow.Author.Needs.{fits-under}
-use borrow.Author.Tests.{leb-true, leb-false}
+use borrow.Author.Tests.{leb-true, leb-false, not-true}
 use denote.Ref.{now}
 use lib.ListN.{length, length-replicate}
 use Rattle.language.specs.Syntax.{Proc}
+use Rattle.language.specs.Scope.{Scoped}
 use Rattle.script.specs.Layout.{nodeCount}
+use Rattle.script.specs.Entries.{isSession}
 use Rattle.script.specs.Tree.{namesOf, processOf, size}
 use Rattle.script.proofs.Layouts.{few-bounds, nodes-are}
 use Rattle.script.proofs.NodeSizes.{whole-size}
+use Rattle.script.proofs.Scoping.{tree-scoped}
+use Rattle.runner.specs.Moves.{waits}
 use Rattle.runner.specs.Outcome.{outcome}
 use Rattle.runner.specs.Contracts.{At, seenIn, runningAt, starting}
-use Rattle.runner.proofs.Whole.{Comes, counted, valued, comes-on, comes-ends, comes-changed, stops, gives, fresh}
+use Rattle.runner.proofs.Whole.{Comes, counted, valued, comes-on, comes-ends, comes-changed, comes-idle, stops, gives, fresh}
+use Rattle.runner.proofs.Idling.{residual-stays, values-stay}
 use Rattle.runner.proofs.Turning.{ended-waits}
 use Rattle.runner.proofs.run.Statement.{statement}
 use Rattle.runner.proofs.run.Tie as tie
@@ -125,41 +130,79 @@ returns c =
     (λ e. ⊎-elim (λ t. absurd (t .taken e)) (λ t. le-antisymm (u .time) (leb-true (start .args .limit) _ (t .2 .taken))) (c .before .before .before .before .if1 .came)))
     (u .same) (c .ending-of .ensures) refl refl refl (c .before .before .clear-owned .ensures)
 
+some-signal-present-requires : tie.Need-some-signal-present-requires Inv-loop μ-loop
+some-signal-present-requires c κs = valued _ _ _ (advanced ((c .before .before .before .before .before .before .before .before .before .before))) (c .before .before .before .before .before .before .before .before .before .before .before .before .before .before .before .before .before .before .before .before .pre .0)
+
+clear-owned-requires-2 : tie.Need-clear-owned-requires-2 Inv-loop μ-loop
+clear-owned-requires-2 c κs = valued _ _ _ (advanced ((c .before .before .before .before .before .before .before .before .before .before .before .before .before))) (c .before .before .before .before .before .before .before .before .before .before .before .before .before .before .before .before .before .before .before .before .before .before .before .pre .0)
+
+ending-of-requires-2 : tie.Need-ending-of-requires-2 Inv-loop μ-loop
+ending-of-requires-2 c κs = tt
+
+sub-t34 : tie.Need-sub-t34 Inv-loop μ-loop
+sub-t34 c = advanced ((c .before .before .before .before .before .before .before .before .before .before .before .before .before .before .before .before .before)) .time
+
+add-t35 : tie.Need-add-t35 Inv-loop μ-loop
+add-t35 c =
+    let u = advanced ((c .before .before .before .before .before .before .before .before .before .before .before .before .before .before .before .before .before)) in
+    fits-under _ _ 4000000 (omega (arith, u .instants, u .time, c .before .before .before .before .before .before .before .before .before .before .before .before .before .before .before .before .before .before .before .before .before .before .before .before .before .before .before .pre .1 .1 .1 .1)) tt
+
+same-length-4 : tie.Need-same-length-4 Inv-loop μ-loop
+same-length-4 c = c .before .before .before .clear-owned2 .kept .1 .1 .0 ∙ advanced ((c .before .before .before .before .before .before .before .before .before .before .before .before .before .before .before .before .before)) .named
+
+same-length-5 : tie.Need-same-length-5 Inv-loop μ-loop
+same-length-5 c = advanced ((c .before .before .before .before .before .before .before .before .before .before .before .before .before .before .before .before .before)) .bytes
+
+same-length-6 : tie.Need-same-length-6 Inv-loop μ-loop
+same-length-6 c = advanced ((c .before .before .before .before .before .before .before .before .before .before .before .before .before .before .before .before .before)) .logged
+
+returns-2 : tie.Need-returns-2 Inv-loop μ-loop
+returns-2 c =
+    let start = c .before .before .before .before .before .before .before .before .before .before .before .before .before .before .before .before .before .before .before .before .before .before .before .before .before .before .before in
+    let a = start .args in
+    let s = now (a .s) in
+    let r = c .before .before .before .before .before .before .before .before .before .before .before .before .before .before .before .before .before .advance in
+    let u = advanced ((c .before .before .before .before .before .before .before .before .before .before .before .before .before .before .before .before .before)) in
+    let none = sym (c .before .before .before .before .before .before .some-signal-present .ensures) ∙ not-true _ (c .before .before .before .before .before .if3 .taken) in
+    let scoped =
+    subst (λ k. Scoped (namesOf s) (isSession s) (processOf s k)) (sym (script-node start)) (tree-scoped s (start .pre .0 .checked)) in
+    let w = ended-waits (r .ensures .0 .ends (λ e. omega (arith, e, r .ensures .1))) (c .before .before .before .before .before .before .before .before .before .before .if1 .left) in
+    gives _ _ _ (starting s (now (a .values)) (now (a .log)))
+    (stops _ _ _ (waits (c .before .before .before .before .before .before .before .before .before .before .if1 .left) w) (λ e. refl))
+    (comes-idle _ _ _ u w (residual-stays _ _ none _ _ scoped _) (values-stay _ _ none) refl)
+    (c .before .ending-of2 .ensures) refl refl refl (c .before .before .before .clear-owned2 .ensures)
+
 change-instant-requires : tie.Need-change-instant-requires Inv-loop μ-loop
 change-instant-requires c κs =
-    let start = c .before .before .before .before .before .before .before .before .before .before .before .before .before .before .before .before .before .before .before .before .before in
-    let u = advanced ((c .before .before .before .before .before .before .before .before .before .before .before)) in
+    let start = c .before .before .before .before .before .before .before .before .before .before .before .before .before .before .before .before .before .before .before .before .before .before .before .before in
+    let u = advanced ((c .before .before .before .before .before .before .before .before .before .before .before .before .before .before)) in
     let at = whole-script start in
     (valued _ _ _ u (start .pre .0), (start .pre .1 .0, record { known = at .known; whole = u .bytes ∙ at .whole }))
 
 clear-signals-requires : tie.Need-clear-signals-requires Inv-loop μ-loop
-clear-signals-requires c κs =
-    valued _ _ _ (advanced ((c .before .before .before .before .before .before .before .before .before .before .before .before .before .before .before))) (c .before .before .before .before .before .before .before .before .before .before .before .before .before .before .before .before .before .before .before .before .before .before .before .before .before .pre .0)
+clear-signals-requires c κs = valued _ _ _ (advanced ((c .before .before .before .before .before .before .before .before .before .before .before .before .before .before .before .before .before .before))) (c .before .before .before .before .before .before .before .before .before .before .before .before .before .before .before .before .before .before .before .before .before .before .before .before .before .before .before .before .pre .0)
 
-add-t33 : tie.Need-add-t33 Inv-loop μ-loop
-add-t33 c =
-    let start = c .before .before .before .before .before .before .before .before .before .before .before .before .before .before .before .before .before .before .before .before .before .before .before .before .before .before .before .before in
-    fits-under _ _ 4000000 (omega (arith, advanced ((c .before .before .before .before .before .before .before .before .before .before .before .before .before .before .before .before .before .before)) .time, start .pre .1 .1 .1 .1)) tt
+add-t43 : tie.Need-add-t43 Inv-loop μ-loop
+add-t43 c = fits-under _ _ 4000000 (omega (arith, advanced ((c .before .before .before .before .before .before .before .before .before .before .before .before .before .before .before .before .before .before .before .before .before)) .time, c .before .before .before .before .before .before .before .before .before .before .before .before .before .before .before .before .before .before .before .before .before .before .before .before .before .before .before .before .before .before .before .pre .1 .1 .1 .1)) tt
 
 add-instant : tie.Need-add-instant Inv-loop μ-loop
 add-instant c =
-    let start = c .before .before .before .before .before .before .before .before .before .before .before .before .before .before .before .before .before .before .before .before .before .before .before .before .before .before .before .before in
-    let u = c .before .before .before .before .before .before .before .before .before .before .before .before .before .before .before .before .before .before .before .before .before .before .loop .inv in
-    fits-under _ _ 4000000 (omega (arith, u .instants, u .time, start .pre .1 .1 .1 .1)) tt
+    let u = c .before .before .before .before .before .before .before .before .before .before .before .before .before .before .before .before .before .before .before .before .before .before .before .before .before .loop .inv in
+    fits-under _ _ 4000000 (omega (arith, u .instants, u .time, c .before .before .before .before .before .before .before .before .before .before .before .before .before .before .before .before .before .before .before .before .before .before .before .before .before .before .before .before .before .before .before .pre .1 .1 .1 .1)) tt
 
 loop-less : tie.Need-loop-less Inv-loop μ-loop
 loop-less c =
-    let start = c .before .before .before .before .before .before .before .before .before .before .before .before .before .before .before .before .before .before .before .before .before .before .before .before .before .before .before .before in
-    omega (arith, c .before .before .before .before .before .before .before .before .before .before .before .before .before .before .before .before .before .before .advance .ensures .0 .later, leb-false (start .args .limit) _ (c .before .before .before .before .before .before .before .before .before .if2 .left))
+    let start = c .before .before .before .before .before .before .before .before .before .before .before .before .before .before .before .before .before .before .before .before .before .before .before .before .before .before .before .before .before .before .before in
+    omega (arith, c .before .before .before .before .before .before .before .before .before .before .before .before .before .before .before .before .before .before .before .before .before .advance .ensures .0 .later, leb-false (start .args .limit) _ (c .before .before .before .before .before .before .before .before .before .before .before .before .if2 .left))
 
 loop-again : tie.Need-loop-again Inv-loop μ-loop
 loop-again c =
-    let start = c .before .before .before .before .before .before .before .before .before .before .before .before .before .before .before .before .before .before .before .before .before .before .before .before .before .before .before .before in
-    let r = c .before .before .before .before .before .before .before .before .before .before .before .before .before .before .before .before .before .before .advance in
-    comes-changed _ _ _ (advanced ((c .before .before .before .before .before .before .before .before .before .before .before .before .before .before .before .before .before .before)))
-    (ended-waits (r .ensures .0 .ends (λ e. omega (arith, e, r .ensures .1))) (c .before .before .before .before .before .before .before .before .before .before .before .if1 .left))
-    (leb-false (start .args .limit) _ (c .before .before .before .before .before .before .before .before .before .if2 .left))
-    (c .before .before .before .before .before .before .change-instant .ensures) (c .before .before .clear-signals .ensures) (add-one (r .result .at .steps)) (add-one (c .before .before .before .before .before .before .before .before .before .before .before .before .before .before .before .before .before .before .before .before .before .before .loop .instant))
+    let start = c .before .before .before .before .before .before .before .before .before .before .before .before .before .before .before .before .before .before .before .before .before .before .before .before .before .before .before .before .before .before .before in
+    let r = c .before .before .before .before .before .before .before .before .before .before .before .before .before .before .before .before .before .before .before .before .before .advance in
+    comes-changed _ _ _ (advanced ((c .before .before .before .before .before .before .before .before .before .before .before .before .before .before .before .before .before .before .before .before .before)))
+    (ended-waits (r .ensures .0 .ends (λ e. omega (arith, e, r .ensures .1))) (c .before .before .before .before .before .before .before .before .before .before .before .before .before .before .if1 .left))
+    (leb-false (start .args .limit) _ (c .before .before .before .before .before .before .before .before .before .before .before .before .if2 .left))
+    (c .before .before .before .before .before .before .change-instant .ensures) (c .before .before .clear-signals .ensures) (add-one (r .result .at .steps)) (add-one (c .before .before .before .before .before .before .before .before .before .before .before .before .before .before .before .before .before .before .before .before .before .before .before .before .before .loop .instant))
     (c .before .before .clear-signals .kept .1 .1 .0) (c .before .before .before .before .before .before .change-instant .kept .1 .1 .1 .1 .0)
 
 pub run-spec : {M : Type 1} → statement M
@@ -177,9 +220,18 @@ run-spec =
     same-length-2
     same-length-3
     returns
+    some-signal-present-requires
+    clear-owned-requires-2
+    ending-of-requires-2
+    sub-t34
+    add-t35
+    same-length-4
+    same-length-5
+    same-length-6
+    returns-2
     change-instant-requires
     clear-signals-requires
-    add-t33
+    add-t43
     add-instant
     loop-less
     loop-again)
