@@ -1,5 +1,5 @@
 #!/bin/sh
-# Instructions per step (of runs) and per call (of checks), counted by valgrind: the same on a busy machine and on an idle one.
+# Instructions per step (of runs) and per call (of checks), counted by valgrind: a busy machine does not change them.
 #   tests/speed/instructions.sh [speed]       the program that cargo built, by default tests/target/release/speed
 # Each figure is the difference of two runs, so that what a run costs but once is left out.
 set -eu
@@ -15,13 +15,15 @@ total() {
 
 # Arguments: side, name, count.
 each() {
-    echo $((($(total "$1" "$2" $((2 * $3))) - $(total "$1" "$2" "$3")) / $3))
+    printf '%10d' $((($(total "$1" "$2" $((2 * $3))) - $(total "$1" "$2" "$3")) / $3))
 }
 
 printf '%-42s%10s%10s%10s\n' 'instructions' library plain resting
 "$speed" names | while IFS= read -r name; do
+    printf '%-42s' "$name"
     case $name in
-    check*) printf '%-42s%10d%10d\n' "$name" "$(each 0 "$name" 20)" "$(each 1 "$name" 20)" ;;
-    *) printf '%-42s%10d%10d%10d\n' "$name" "$(each 0 "$name" 3000)" "$(each 1 "$name" 3000)" "$(each 2 "$name" 3000)" ;;
+    check*) each 0 "$name" 20 && each 1 "$name" 20 ;;
+    *) each 0 "$name" 3000 && each 1 "$name" 3000 && each 2 "$name" 3000 ;;
     esac
+    echo
 done
