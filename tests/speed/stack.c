@@ -1,7 +1,7 @@
 /*
  * The stack that station_check and station_run need, in bytes, on the smallest script and on the deepest legal ones.
  *
- *   gcc -O2 -Wall -Wextra -Iinclude tests/speed/stack.c target/staticlib/libengine.a -pthread -Wl,-z,now -o target/stack
+ *   gcc -O2 -Iinclude tests/speed/stack.c target/staticlib/libengine.a -pthread -Wl,-z,now -o target/stack
  *   target/stack
  *
  * Each call is made in a thread of its own, on a stack that was painted before. What is counted goes from the frame of

@@ -158,7 +158,8 @@ impl Draft {
         self.while_do(test, body)
     }
 
-    /// Waits for the next instant, with two new signals: `local p in (local q in (emit p; (do (when q do nil) watching p)))`.
+    /// Waits for the next instant, with two new signals:
+    /// `local p in (local q in (emit p; (do (when q do nil) watching p)))`.
     pub fn pause(&mut self, level: u8) -> u16 {
         let (p, q) = (self.signal(level), self.signal(level));
         let emit = self.emit(p);

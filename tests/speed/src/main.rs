@@ -1,7 +1,7 @@
 //! The library beside a plain interpreter: `cargo run --release --offline -p speed`.
 //!
 //! `speed SIDE NAME COUNT` is for a profiler. It runs one workload once with this step limit, or makes so many calls of
-//! check, on side 0 (library), 1 (plain) or 2 (resting).
+//! check, on side 0 (library), 1 (plain) or 2 (resting). `speed names` prints the names.
 
 mod draft;
 mod library;
@@ -21,8 +21,9 @@ fn main() {
     let arguments: Vec<String> = std::env::args().skip(1).collect();
     match &arguments[..] {
         [] => tables(),
+        [word] if word == "names" => names(),
         [side, name, count] => once(side, name, count),
-        _ => eprintln!("usage: speed [SIDE NAME COUNT]"),
+        _ => eprintln!("usage: speed [names | SIDE NAME COUNT]"),
     }
 }
 
@@ -61,6 +62,15 @@ fn row<const SIDES: usize>(name: &str, times: [f64; SIDES]) {
     let ratio = |time: &f64| format!("{:>9.2}", time / times[0]);
     let ratios: String = times[1..].iter().map(ratio).collect();
     println!("{name:<42}{shown:<30}{ratios}");
+}
+
+fn names() {
+    workloads::runs()
+        .iter()
+        .for_each(|run| println!("{}", run.name));
+    workloads::checks()
+        .iter()
+        .for_each(|check| println!("{}", check.name));
 }
 
 fn once(side: &str, name: &str, count: &str) {

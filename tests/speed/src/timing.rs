@@ -4,8 +4,8 @@
 use std::time::{Duration, Instant};
 
 /// Each side runs at least this often, and until all have taken `ENOUGH` together.
-const LEAST_RUNS: usize = 3;
-const ENOUGH: Duration = Duration::from_millis(400);
+const LEAST_RUNS: usize = 5;
+const ENOUGH: Duration = Duration::from_millis(700);
 
 /// The best time of each of the sides, in seconds; `work(i)` is the work of side i.
 pub fn in_turn<const SIDES: usize>(mut work: impl FnMut(usize)) -> [f64; SIDES] {

@@ -3,8 +3,10 @@
 use crate::draft::Draft;
 
 const MOST_STEPS: u32 = 1_000_000;
-/// For workloads whose steps are slow: the call's start still counts for less than a thousandth.
+/// For workloads whose steps are slow: a run should be short, so that other work on the machine does not cut into each,
+/// and the call's start should still count for less than a hundredth of it.
 const FEWER_STEPS: u32 = 100_000;
+const FEW_STEPS: u32 = 10_000;
 /// Levels of `two_levels`. The reader has the low one, so a write to a high name needs no line.
 const LOW: u8 = 0;
 const HIGH: u8 = 1;
@@ -49,10 +51,10 @@ pub fn runs() -> Vec<Workload> {
     vec![
         counting(),
         under_watchings(250).with_limit(FEWER_STEPS),
-        waiting(64, Nesting::Left).with_limit(FEWER_STEPS),
-        waiting(64, Nesting::Right).with_limit(FEWER_STEPS),
-        working(64, Nesting::Left).with_limit(FEWER_STEPS),
-        working(64, Nesting::Right).with_limit(FEWER_STEPS),
+        waiting(64, Nesting::Left).with_limit(FEW_STEPS),
+        waiting(64, Nesting::Right).with_limit(FEW_STEPS),
+        working(64, Nesting::Left).with_limit(FEW_STEPS),
+        working(64, Nesting::Right).with_limit(FEW_STEPS),
         exchange(),
         arithmetic(),
         logging(),
@@ -87,16 +89,17 @@ pub fn starts() -> Vec<Workload> {
 }
 
 pub fn growth() -> Vec<Workload> {
-    let depths = [1, 10, 100, 250].map(under_watchings);
+    let depths = [1, 10, 100, 250].map(|depth| under_watchings(depth).with_limit(FEWER_STEPS));
     let threads = |make: fn(usize, Nesting) -> Workload| {
         let sides = [Nesting::Left, Nesting::Right].into_iter();
-        sides.flat_map(move |nesting| [1, 8, 64].map(|count| make(count, nesting)))
+        sides.flat_map(move |nesting| {
+            [1, 8, 64].map(|count| make(count, nesting).with_limit(FEW_STEPS))
+        })
     };
-    let all = depths
+    depths
         .into_iter()
         .chain(threads(waiting))
-        .chain(threads(working));
-    all.map(|workload| workload.with_limit(FEWER_STEPS))
+        .chain(threads(working))
         .collect()
 }
 

@@ -1,4 +1,4 @@
-//! The cleverer variant: a node is run as far as it goes within the instant, so that a step costs no walk from the root.
+//! The cleverer variant: a node is run as far as it goes within the instant, so that no step walks from the root.
 
 use super::machine::{Machine, State, Step};
 use super::script::Node;

@@ -35,51 +35,42 @@ pub enum Node {
     Parallel { first: u16, second: u16 },
 }
 
+/// How many of the fields a, b, c a node of each kind uses.
+const USED_FIELDS: [usize; 11] = [0, 2, 3, 3, 2, 2, 1, 2, 2, 2, 2];
+
 impl Node {
     /// Nothing where the kind is none, or a byte that must be 0 is not.
     pub fn decode(entry: &[u8; 8]) -> Option<Node> {
-        let [a, b, c] = fields(entry);
-        let (node, zeros) = match entry[0] {
-            0 => (Node::Nil, [a, b, c]),
-            1 => (Node::Assign { name: a, value: b }, [c, 0, 0]),
-            2 => (
-                Node::Let {
-                    name: a,
-                    value: b,
-                    body: c,
-                },
-                [0; 3],
-            ),
-            3 => (
-                Node::If {
-                    test: a,
-                    then: b,
-                    other: c,
-                },
-                [0; 3],
-            ),
-            4 => (Node::While { test: a, body: b }, [c, 0, 0]),
-            5 => (
-                Node::Sequence {
-                    first: a,
-                    second: b,
-                },
-                [c, 0, 0],
-            ),
-            6 => (Node::Emit { signal: a }, [b, c, 0]),
-            7 => (Node::Local { signal: a, body: b }, [c, 0, 0]),
-            8 => (Node::Watching { signal: a, body: b }, [c, 0, 0]),
-            9 => (Node::When { signal: a, body: b }, [c, 0, 0]),
-            10 => (
-                Node::Parallel {
-                    first: a,
-                    second: b,
-                },
-                [c, 0, 0],
-            ),
-            _ => return None,
-        };
-        (entry[1] == 0 && zeros == [0; 3]).then_some(node)
+        let (kind, fields) = (entry[0], fields(entry));
+        let used = *USED_FIELDS.get(kind as usize)?;
+        let is_right = entry[1] == 0 && fields[used..].iter().all(|&field| field == 0);
+        is_right.then(|| Node::of(kind, fields))
+    }
+
+    fn of(kind: u8, [a, b, c]: [u16; 3]) -> Node {
+        let (name, signal, test, first) = (a, a, a, a);
+        let (value, then, second) = (b, b, b);
+        match kind {
+            0 => Node::Nil,
+            1 => Node::Assign { name, value },
+            2 => Node::Let {
+                name,
+                value,
+                body: c,
+            },
+            3 => Node::If {
+                test,
+                then,
+                other: c,
+            },
+            4 => Node::While { test, body: b },
+            5 => Node::Sequence { first, second },
+            6 => Node::Emit { signal },
+            7 => Node::Local { signal, body: b },
+            8 => Node::Watching { signal, body: b },
+            9 => Node::When { signal, body: b },
+            _ => Node::Parallel { first, second },
+        }
     }
 
     pub fn children(&self) -> impl Iterator<Item = usize> {
