@@ -88,14 +88,16 @@ module _ {L : Type 0} where
     pub free : (k : Kind) (y : ℕ) → Free k y p′ → Free k y p ⊎ Declared k y p
     pub clean : Clean p′
 
-  pub kept-sequence : {p p′ : Proc L} (q : Proc L) → Clean (sequence p q) → Kept p p′ → Kept (sequence p q) (sequence p′ q)
+  pub kept-sequence : {p p′ : Proc L} (q : Proc L) → Clean (sequence p q) → Kept p p′ → Kept (sequence p q)
+      (sequence p′ q)
   kept-sequence q c m = record {
     decl = λ k y. decl-l (m .decl k y);
     free = λ k y. free-l (m .free k y);
     clean = (λ k y d f. c .0 k y (m .decl k y d) f, m .clean, c .2);
   }
 
-  pub kept-parallel : {p p′ : Proc L} (q : Proc L) → Clean (parallel p q) → Kept p p′ → Kept (parallel p q) (parallel p′ q)
+  pub kept-parallel : {p p′ : Proc L} (q : Proc L) → Clean (parallel p q) → Kept p p′ → Kept (parallel p q)
+      (parallel p′ q)
   kept-parallel q c m = record {
     decl = λ k y. decl-l (m .decl k y);
     free = λ k y. free-l (m .free k y);
@@ -129,7 +131,8 @@ module _ {L : Type 0} where
   kept-same p c = record { decl = λ k y d. d; free = λ k y f. inl f; clean = c }
 
   -- both parts of a parallel
-  pub kept-both : {p p′ q q′ : Proc L} → Clean (parallel p q) → Kept p p′ → Kept q q′ → Kept (parallel p q) (parallel p′ q′)
+  pub kept-both : {p p′ q q′ : Proc L} → Clean (parallel p q) → Kept p p′ → Kept q q′ → Kept (parallel p q)
+      (parallel p′ q′)
   kept-both {q = q} c m w =
       let u = kept-parallel q c m in
       let v = u .clean in

@@ -216,7 +216,8 @@ module _
               (λ e. g .absent a u);
         }
       where
-        go : (y : ℕ) → F sig y ≡ true → (b : Bool) → eqb x y ≡ b → present (set s x (pos 1)) y ≡ update E (ρ sig x) true (ρ sig y)
+        go : (y : ℕ) → F sig y ≡ true → (b : Bool) → eqb x y ≡ b → present (set s x (pos 1)) y ≡ update E
+            (ρ sig x) true (ρ sig y)
         go y f true i =
             ap holds (store-set x (pos 1) y (g .within sig x h))
             ∙ rw (i, eq-eqb (ρ sig x) (ρ sig y) (ap (ρ sig) (eqb-true x y i)))

@@ -187,7 +187,8 @@ NamesBelow m Γ = (k : Kind) (x : ℕ) → m ≤ x → Γ k x ≡ none
 below-more : {L : Type 0} (Γ : Environment L) (m : ℕ) → NamesBelow m Γ → NamesBelow (suc m) Γ
 below-more Γ m h k x l = h k x (omega arith)
 
-below-with : {L : Type 0} (Γ : Environment L) (m : ℕ) (k : Kind) (δ : L) → NamesBelow m Γ → NamesBelow (suc m) (put Γ k m (some δ))
+below-with : {L : Type 0} (Γ : Environment L) (m : ℕ) (k : Kind) (δ : L) → NamesBelow m Γ → NamesBelow (suc m)
+    (put Γ k m (some δ))
 below-with Γ m k δ h j x l = rw (other k m j x (λ e q. omega arith)) (h j x (omega arith))
 
 module _ {L : Type 0} (m : ℕ) (Γ : Environment L) (S : ℕ → ℤ) (E : ℕ → Bool) (h : NamesBelow m Γ) where

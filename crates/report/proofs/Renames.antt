@@ -57,7 +57,8 @@ pub ren-same : (f g : ℕ → ℕ) (e : Exp) → ((x : ℕ) → Occurs x e → f
 unfolding renamedIn
 ren-same f g (constant v) h = refl
 ren-same f g (register x) h = ap register (h x here)
-ren-same f g (binary o a b) h = ap₂ (binary o) (ren-same f g a (λ x i. h x (left i))) (ren-same f g b (λ x i. h x (right i)))
+ren-same f g (binary o a b) h = ap₂ (binary o) (ren-same f g a (λ x i. h x (left i)))
+    (ren-same f g b (λ x i. h x (right i)))
 ren-same f g (negated a) h = ap negated (ren-same f g a (λ x i. h x (under i)))
 
 pub ren-twice : (f g : ℕ → ℕ) (e : Exp) → renamedIn g (renamedIn f e) ≡ renamedIn (λ x. g (f x)) e
@@ -81,7 +82,8 @@ reads-ren : (ρ : Renaming) (k : Kind) (y : ℕ) (e e′ : Exp) → e′ ≡ ren
 reads-ren ρ var y e e′ q r = (refl, subst (λ z. Occurs (ρ var y) z) (sym q) (occurs-ren (ρ var) (r .1)))
 reads-ren ρ sig y e e′ q r = let z : _≡_ {A = ℕ} 0 1 = cc (r .0) in absurd (omega arith)
 
-exp-then : (ρ σ : Renaming) (e e′ e″ : Exp) → e′ ≡ renamedIn (ρ var) e → e″ ≡ renamedIn (σ var) e′ → e″ ≡ renamedIn (_then_ ρ σ var) e
+exp-then : (ρ σ : Renaming) (e e′ e″ : Exp) → e′ ≡ renamedIn (ρ var) e → e″ ≡ renamedIn (σ var) e′ → e″ ≡ renamedIn
+    (_then_ ρ σ var) e
 exp-then ρ σ e e′ e″ q q′ = q′ ∙ ap (renamedIn (σ var)) q ∙ ren-twice (ρ var) (σ var) e
 
 module _ {L : Type 0} where
@@ -133,7 +135,8 @@ module _ {L : Type 0} where
       (same-ren d′ σ (λ k y f. h k y (inr (inr f))))
   same-ren {ρ} (r-while {e = e} q d) σ h =
       r-while (q ∙ ren-same (ρ var) (σ var) e (λ y o. h var y (inl (refl, o)))) (same-ren d σ (λ k y f. h k y (inr f)))
-  same-ren (r-sequence d d′) σ h = r-sequence (same-ren d σ (λ k y f. h k y (inl f))) (same-ren d′ σ (λ k y f. h k y (inr f)))
+  same-ren (r-sequence d d′) σ h = r-sequence (same-ren d σ (λ k y f. h k y (inl f)))
+      (same-ren d′ σ (λ k y f. h k y (inr f)))
   same-ren (r-emit {a = a} q) σ h = r-emit (q ∙ h sig a (same-self sig a))
   same-ren {ρ} (r-local {a = a} {z = z} c d) σ h =
       r-local
@@ -143,7 +146,8 @@ module _ {L : Type 0} where
       r-watching (q ∙ h sig a (inl (same-self sig a))) (same-ren d σ (λ k y f. h k y (inr f)))
   same-ren (r-when {a = a} q d) σ h =
       r-when (q ∙ h sig a (inl (same-self sig a))) (same-ren d σ (λ k y f. h k y (inr f)))
-  same-ren (r-parallel d d′) σ h = r-parallel (same-ren d σ (λ k y f. h k y (inl f))) (same-ren d′ σ (λ k y f. h k y (inr f)))
+  same-ren (r-parallel d d′) σ h = r-parallel (same-ren d σ (λ k y f. h k y (inl f)))
+      (same-ren d′ σ (λ k y f. h k y (inr f)))
 
   under-clear :
       (ρ σ : Renaming) (kk : Kind) (x z w : ℕ) (p p′ : Proc L) → Renamed (put ρ kk x z) p p′ →
@@ -153,7 +157,8 @@ module _ {L : Type 0} where
   under-clear ρ σ kk x z w p p′ d c c′ k y f n =
       c′ k (ρ k y) (under-free ρ kk x z k y p′ n (free-ren d k y f)) (c k y f n)
 
-  pub ren-then : {ρ : Renaming} {p p′ p″ : Proc L} → Renamed ρ p p′ → {σ : Renaming} → Renamed σ p′ p″ → Renamed (_then_ ρ σ) p p″
+  pub ren-then : {ρ : Renaming} {p p′ p″ : Proc L} → Renamed ρ p p′ → {σ : Renaming} → Renamed σ p′ p″ → Renamed
+      (_then_ ρ σ) p p″
   ren-then r-nil r-nil = r-nil
   ren-then {ρ} (r-assign {e = e} q q′) {σ} (r-assign r r′) = r-assign (r ∙ ap (σ var) q) (exp-then ρ σ e _ _ q′ r′)
   ren-then {ρ} (r-let {x = x} {z = z} {e = e} q c d) {σ} (r-let {z = w} r c′ d′) =

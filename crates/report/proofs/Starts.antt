@@ -54,7 +54,8 @@ module _ {L : Type 0} (names : Names L) where
   abbrev In : (ℕ → Bool) → Kind → ℕ → Type 0
   In scope k y = (scope y && isOf k (names .isSignal y)) ≡ true
 
-  in-scope : (scope : ℕ → Bool) (j : Kind) (x : ℕ) (k : Kind) (y : ℕ) → scope x ≡ true → isOf j (names .isSignal x) ≡ true → same j x k y ≡ true → In scope k y
+  in-scope : (scope : ℕ → Bool) (j : Kind) (x : ℕ) (k : Kind) (y : ℕ) → scope x ≡ true → isOf j
+      (names .isSignal x) ≡ true → same j x k y ≡ true → In scope k y
   in-scope scope j x k y s o h =
       rw (← same-kind j x k y h, ← same-number j x k y h) (and-intro _ _ s o)
 
@@ -64,7 +65,8 @@ module _ {L : Type 0} (names : Names L) where
 
   -- a name that is free in the body of a declaration, and is not the declared one, is in the scope outside
   outside :
-      (scope : ℕ → Bool) (j : Kind) (x : ℕ) (k : Kind) (y : ℕ) → isOf j (names .isSignal x) ≡ true → same j x k y ≡ false →
+      (scope : ℕ → Bool) (j : Kind) (x : ℕ) (k : Kind) (y : ℕ) → isOf j (names .isSignal x) ≡ true →
+          same j x k y ≡ false →
       In (withName scope x) k y → In scope k y
   outside scope j x k y o n i =
       let kind : isOf k (names .isSignal y) ≡ true = and-right (eqb x y || scope y) _ i in
@@ -103,11 +105,13 @@ module _ {L : Type 0} (names : Names L) where
   free-scoped (parallel p q) scope u k y (inl f) = free-scoped p scope (u .0) k y f
   free-scoped (parallel p q) scope u k y (inr f) = free-scoped q scope (u .1) k y f
 
-  owned : (j : Kind) (x : ℕ) (k : Kind) (y : ℕ) → names .isSession x ≡ false → same j x k y ≡ true → names .isSession y ≡ false
+  owned : (j : Kind) (x : ℕ) (k : Kind) (y : ℕ) → names .isSession x ≡ false → same j x k y ≡ true →
+      names .isSession y ≡ false
   owned j x k y o h = rw (← same-number j x k y h) o
 
   -- what is declared is no session name
-  declared-owned : (p : Proc L) (scope : ℕ → Bool) → Scoped names scope p → (k : Kind) (y : ℕ) → Declared k y p → names .isSession y ≡ false
+  declared-owned : (p : Proc L) (scope : ℕ → Bool) → Scoped names scope p → (k : Kind) (y : ℕ) → Declared k y p →
+      names .isSession y ≡ false
   declared-owned (letIn x δ e p) scope u k y (inl h) = owned var x k y (u .0 .owned) h
   declared-owned (letIn x δ e p) scope u k y (inr d) = declared-owned p (withName scope x) (u .2) k y d
   declared-owned (ifThenElse e p q) scope u k y (inl d) = declared-owned p scope (u .1) k y d
@@ -124,7 +128,8 @@ module _ {L : Type 0} (names : Names L) where
 
   module _ (n : ℕ) where
     -- every declaration carries its name's level
-    carries : (p : Proc L) (scope : ℕ → Bool) → Scoped names scope p → ((k : Kind) (y : ℕ) → Declared k y p → y < n) → Carries names n p
+    carries : (p : Proc L) (scope : ℕ → Bool) → Scoped names scope p → ((k : Kind) (y : ℕ) → Declared k y p → y < n) →
+        Carries names n p
     carries nil scope u b = tt
     carries (assign x e) scope u b = tt
     carries (letIn x δ e p) scope u b = (

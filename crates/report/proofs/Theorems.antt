@@ -50,7 +50,8 @@ module _ {L : Type 0} where
   nil-there (r-parallel d f) e = absurd (false≢true e)
 
   -- Γ stays finite: a move extends it by at most one name
-  with-name : (Γ : Environment L) (m : ℕ) (k : Kind) (z : ℕ) (δ : L) → NamesBelow m Γ → NamesBelow (m + suc z) (put Γ k z (some δ))
+  with-name : (Γ : Environment L) (m : ℕ) (k : Kind) (z : ℕ) (δ : L) → NamesBelow m Γ → NamesBelow (m + suc z)
+      (put Γ k z (some δ))
   with-name Γ m k z δ h j x l = rw (other k z j x (λ e q. omega arith)) (h j x (omega arith))
 
   move-finite :
@@ -74,7 +75,8 @@ module _ {L : Type 0} where
   move-finite m (PAR-OP₂ f) h = move-finite m f h
   move-finite m (PAR-OP₃ f g) h = (m, h)
 
-  step-finite : {C D : Configuration L} {o : Output} (m : ℕ) → Step C o D → NamesBelow m (C .environment) → (m′ : ℕ) × NamesBelow m′ (D .environment)
+  step-finite : {C D : Configuration L} {o : Output} (m : ℕ) → Step C o D → NamesBelow m (C .environment) →
+      (m′ : ℕ) × NamesBelow m′ (D .environment)
   step-finite m (MOVE f) h = move-finite m f h
   step-finite m (INSTANT-OP f g) h = (m, h)
 
@@ -134,7 +136,8 @@ module _ {L : Type 0} (names : Names L) where
           let u = alive b j h (nil-stuck d) in
           let v = step-back names n (u .alive .step) j in
           let o = one-step (v .step) d in
-          let w = find r (subst (λ z. Joined names n (v .F′) (v .ρ′) (v .origin′) z (u .alive .next)) (o .1) (v .joined)) (suc b) (u .names) in
+          let w = find r (subst (λ z. Joined names n (v .F′) (v .ρ′) (v .origin′) z (u .alive .next)) (o .1)
+              (v .joined)) (suc b) (u .names) in
           record { lines = _; last = w .last; path = more (u .alive .step) (w .path) }
 
       -- where they have come to is alike
@@ -162,7 +165,8 @@ module _ {L : Type 0} (names : Names L) where
 
       -- why a run ends, of the configuration beside it
       ends-of :
-          {F : Kind → ℕ → Bool} {ρ origin : Renaming} {limit room made lines : ℕ} {how : Ending} {at : System L} {C : Configuration L} (b : ℕ) →
+          {F : Kind → ℕ → Bool} {ρ origin : Renaming} {limit room made lines : ℕ} {how : Ending} {at : System L}
+              {C : Configuration L} (b : ℕ) →
           NamesBelow b (C .environment) → Joined names n F ρ origin at C → Fixed names n below Γ F ρ at →
           paths.Ends names (sees names n below Γ) limit room at how made lines → EndsAs below how C made limit
       unfolding Option·toList
@@ -196,7 +200,8 @@ module _
         go true e = absurd (omega (arith, script .sessions x e .1))
         go false e = rw e
 
-    along : {m : ℕ} {ms : List NamedLine} {D : Configuration L} → Path below m C ms D → Along names n below Γ m (λ k y. y) at C ms D
+    along : {m : ℕ} {ms : List NamedLine} {D : Configuration L} → Path below m C ms D → Along names n below Γ m
+        (λ k y. y) at C ms D
     along f = walk names n below Γ f (start-joined script size begins) (start-fixed script size begins below)
 
     in-session : (k : Kind) (x : ℕ) (δ : L) → Γ k x ≡ some δ → names .isSession x ≡ true
@@ -206,7 +211,8 @@ module _
         go true e h = script .sessions x e .0
         go false e h = let q : none ≡ some δ = rw e at h in let z : _≡_ {A = ℕ} 0 1 = cc in absurd (omega arith)
 
-    module _ {limit room : ℕ} {r : Run} (run : paths.IsRun names (sees names n below Γ) limit room at r) (zero-steps : at .steps ≡ 0) where
+    module _ {limit room : ℕ} {r : Run} (run : paths.IsRun names (sees names n below Γ) limit room at r)
+        (zero-steps : at .steps ≡ 0) where
       made-is : run .made ≡ r .steps
       made-is = omega (arith, run .steps, zero-steps)
 
@@ -237,10 +243,12 @@ module _
             store =
                 λ ms D f x δ h.
                 the-same ms D f .store x δ h
-                ∙ sym (ap (λ v. held v x) (run .values) ∙ given-back-session names (run .last .values) x (in-session var x δ h));
+                ∙ sym (ap (λ v. held v x) (run .values) ∙ given-back-session names (run .last .values) x
+                    (in-session var x δ h));
             signals =
                 λ ms D f a δ h.
                 the-same ms D f .signals a δ h
-                ∙ sym (ap (λ v. present v a) (run .values) ∙ ap holds (given-back-session names (run .last .values) a (in-session sig a δ h)));
+                ∙ sym (ap (λ v. present v a) (run .values) ∙ ap holds
+                    (given-back-session names (run .last .values) a (in-session sig a δ h)));
             ends = ending;
           }

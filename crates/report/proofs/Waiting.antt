@@ -30,8 +30,10 @@ module _ {L : Type 0} (s : List ℤ) (E : ℕ → Bool) where
   suspended-back (PAR-SUS f f′) (r-parallel d d′) o =
       inplace.PAR-SUS (suspended-back f d (λ b g. o b (inl g))) (suspended-back f′ d′ (λ b g. o b (inr g)))
 
-  pub suspended-forth : {ρ : Renaming} {p P : Proc L} → Renamed ρ p P → Signals ρ p → inplace.Suspended s p → Suspended E P
-  suspended-forth (r-when {a = a} q d) o (inplace.WHEN-SUS₁ e) = WHEN-SUS₁ (ap E q ∙ sym (o a (inl (same-self sig a))) ∙ e)
+  pub suspended-forth : {ρ : Renaming} {p P : Proc L} → Renamed ρ p P → Signals ρ p → inplace.Suspended s p →
+      Suspended E P
+  suspended-forth (r-when {a = a} q d) o (inplace.WHEN-SUS₁ e) = WHEN-SUS₁
+      (ap E q ∙ sym (o a (inl (same-self sig a))) ∙ e)
   suspended-forth (r-when q d) o (inplace.WHEN-SUS₂ f) = WHEN-SUS₂ (suspended-forth d (λ b g. o b (inr g)) f)
   suspended-forth (r-watching q d) o (inplace.WATCH-SUS f) = WATCH-SUS (suspended-forth d (λ b g. o b (inr g)) f)
   suspended-forth (r-sequence d d′) o (inplace.SEQ-SUS f) = SEQ-SUS (suspended-forth d (λ b g. o b (inl g)) f)

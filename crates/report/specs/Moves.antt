@@ -19,7 +19,8 @@ pub data Move {L : Type 0} (Γ : Environment L) (S : ℕ → ℤ) (E : ℕ → B
     Proc L → Output → Environment L → (ℕ → ℤ) → (ℕ → Bool) → Proc L → Type 0
   where
     -- Figure 2: imperative constructs
-    ASSIGN-OP : {x : ℕ} {e : Exp} → Move Γ S E (assign x e) (assigned x (evaluate e S)) Γ (update S x (evaluate e S)) E nil
+    ASSIGN-OP : {x : ℕ} {e : Exp} → Move Γ S E (assign x e) (assigned x (evaluate e S)) Γ
+        (update S x (evaluate e S)) E nil
     SEQ-OP₁ : {q : Proc L} → Move Γ S E (sequence nil q) silent Γ S E q
     SEQ-OP₂ :
         {p p′ q : Proc L} {o : Output} {Γ′ : Environment L} {S′ : ℕ → ℤ} {E′ : ℕ → Bool} →
@@ -31,7 +32,8 @@ pub data Move {L : Type 0} (Γ : Environment L) (S : ℕ → ℤ) (E : ℕ → B
     COND-OP₁ : {e : Exp} {p q : Proc L} → holds (evaluate e S) ≡ true → Move Γ S E (ifThenElse e p q) silent Γ S E p
     COND-OP₂ : {e : Exp} {p q : Proc L} → holds (evaluate e S) ≡ false → Move Γ S E (ifThenElse e p q) silent Γ S E q
     WHILE-OP₁ :
-        {e : Exp} {p : Proc L} → holds (evaluate e S) ≡ true → Move Γ S E (while e p) silent Γ S E (sequence p (while e p))
+        {e : Exp} {p : Proc L} → holds (evaluate e S) ≡ true → Move Γ S E (while e p) silent Γ S E
+            (sequence p (while e p))
     WHILE-OP₂ : {e : Exp} {p : Proc L} → holds (evaluate e S) ≡ false → Move Γ S E (while e p) silent Γ S E nil
     -- Figure 3: reactive constructs
     EMIT-OP : {a : ℕ} → Move Γ S E (emit a) (emitted a) Γ S (update E a true) nil

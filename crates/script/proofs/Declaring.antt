@@ -54,7 +54,8 @@ module _ (s : List ℕ) (ok : Checked s) where
 
     -- a node does not lie in its child
     not-in-child : {f j : ℕ} → Child k f j → within s (node s j) (node s k) ≡ true → ⊥
-    not-in-child {f} {j} c w = omega (arith, c .before, within-below s (suc (node s j)) (node s j) (node s k) (omega arith) w)
+    not-in-child {f} {j} c w = omega
+        (arith, c .before, within-below s (suc (node s j)) (node s j) (node s k) (omega arith) w)
 
     -- nor does a child lie in another
     siblings : {f g i j : ℕ} → (f ≡ g → ⊥) → Child k f i → Child k g j → within s (node s i) (node s j) ≡ true → ⊥
@@ -63,7 +64,8 @@ module _ (s : List ℕ) (ok : Checked s) where
         let few = few-parts (ok .laid) in
         let place : at / fieldCount ≡ node s k = omega (arith, d .inside) in
         let up =
-        within-up s (ok .joined) at (omega (arith, d .inside)) (omega (arith, d .uses, d .before, few)) (suc (node s i)) (node s i)
+        within-up s (ok .joined) at (omega (arith, d .inside)) (omega (arith, d .uses, d .before, few))
+            (suc (node s i)) (node s i)
         (omega arith) (omega (arith, c .before))
         (subst (λ u. within s (node s i) u ≡ true) (sym (d .uses)) w)
         (λ e. ne (same-field e))
@@ -101,23 +103,27 @@ module _ (s : List ℕ) (ok : Checked s) where
         | no ne ↦
             inr
             (subst (λ z. within s b z ≡ true) place
-            (within-up s (ok .joined) (fieldCount * a + f) (omega (arith, i, ha)) (omega (arith, v, ha, few)) (suc b) b (omega arith) hb x ne))
+            (within-up s (ok .joined) (fieldCount * a + f) (omega (arith, i, ha)) (omega (arith, v, ha, few)) (suc b) b
+                (omega arith) hb x ne))
       ])
       (one-in-other n c b d (omega (arith, v, l)) (omega (arith, v, ha)) hb t w))
 
   -- children in two fields have no part in common
   module _ {k : ℕ} (h : k < nodeCount s) where
-    apart-at : {f g i j : ℕ} (q : ℕ) → (f ≡ g → ⊥) → Child k f i → Child k g j → within s (node s i) q ≡ true → within s (node s j) q ≡ true → ⊥
+    apart-at : {f g i j : ℕ} (q : ℕ) → (f ≡ g → ⊥) → Child k f i → Child k g j → within s (node s i) q ≡ true →
+        within s (node s j) q ≡ true → ⊥
     apart-at {f} {g} {i} {j} q ne c d u w =
         ⊎-elim (siblings h ne c d) (siblings h (λ e. ne (sym e)) d c)
-        (one-in-other (suc (node s i)) (node s i) (node s j) q (omega arith) (omega (arith, c .before)) (omega (arith, d .before)) u w)
+        (one-in-other (suc (node s i)) (node s i) (node s j) q (omega arith) (omega (arith, c .before))
+            (omega (arith, d .before)) u w)
 
   -- the owner of a name that a process declares lies in its node
   pub record Owned (k y : ℕ) : Type 0 where
     pub known : y < nameCount s
     pub lies : within s (node s k) (node s (nameOf s y .owner)) ≡ true
 
-  owned-here : {k x kind : ℕ} (j : Kind) (i : Kind) (y : ℕ) → NewName s (node s k) x kind → same j x i y ≡ true → Owned k y
+  owned-here : {k x kind : ℕ} (j : Kind) (i : Kind) (y : ℕ) → NewName s (node s k) x kind → same j x i y ≡ true →
+      Owned k y
   owned-here {k} {x} j i y u e =
       subst (Owned k) (same-number j x i y e)
       (record {
@@ -136,7 +142,8 @@ module _ (s : List ℕ) (ok : Checked s) where
   declared-view k h go (aNil e q) i y d = absurd (rw q at d)
   declared-view k h go (anAssign e q x z) i y d = absurd (rw q at d)
   declared-view k h go (aLet e q x z p) i y d =
-      ⊎-elim (owned-here var i y x) (λ b. owned-in h (child-at k h 2 e 2 (omega arith) refl (p .before)) (go _ (p .before) i y b)) (rw q at d)
+      ⊎-elim (owned-here var i y x)
+          (λ b. owned-in h (child-at k h 2 e 2 (omega arith) refl (p .before)) (go _ (p .before) i y b)) (rw q at d)
   declared-view k h go (anIf e q z p r) i y d =
       ⊎-elim
       (λ b. owned-in h (child-at k h 3 e 1 (omega arith) refl (p .before)) (go _ (p .before) i y b))
@@ -151,7 +158,8 @@ module _ (s : List ℕ) (ok : Checked s) where
       (rw q at d)
   declared-view k h go (anEmit e q x) i y d = absurd (rw q at d)
   declared-view k h go (aLocal e q x p) i y d =
-      ⊎-elim (owned-here sig i y x) (λ b. owned-in h (child-at k h 7 e 1 (omega arith) refl (p .before)) (go _ (p .before) i y b)) (rw q at d)
+      ⊎-elim (owned-here sig i y x)
+          (λ b. owned-in h (child-at k h 7 e 1 (omega arith) refl (p .before)) (go _ (p .before) i y b)) (rw q at d)
   declared-view k h go (aWatching e q x p) i y d =
       owned-in h (child-at k h 8 e 1 (omega arith) refl (p .before)) (go _ (p .before) i y (rw q at d))
   declared-view k h go (aWhen e q x p) i y d =
@@ -192,14 +200,16 @@ module _ (s : List ℕ) (ok : Checked s) where
       rw q (new-here h var x (child-at k h 2 e 2 (omega arith) refl (p .before)), go _ (p .before))
   once-view k h go (anIf e q z p r) =
       rw q (
-        both-apart h (λ z. omega (arith, z)) (child-at k h 3 e 1 (omega arith) refl (p .before)) (child-at k h 3 e 2 (omega arith) refl (r .before)),
+        both-apart h (λ z. omega (arith, z)) (child-at k h 3 e 1 (omega arith) refl (p .before))
+            (child-at k h 3 e 2 (omega arith) refl (r .before)),
         go _ (p .before),
         go _ (r .before),
       )
   once-view k h go (aWhile e q z p) = rw q (go _ (p .before))
   once-view k h go (aSequence e q p r) =
       rw q (
-        both-apart h (λ z. omega (arith, z)) (child-at k h 5 e 0 (omega arith) refl (p .before)) (child-at k h 5 e 1 (omega arith) refl (r .before)),
+        both-apart h (λ z. omega (arith, z)) (child-at k h 5 e 0 (omega arith) refl (p .before))
+            (child-at k h 5 e 1 (omega arith) refl (r .before)),
         go _ (p .before),
         go _ (r .before),
       )
@@ -210,7 +220,8 @@ module _ (s : List ℕ) (ok : Checked s) where
   once-view k h go (aWhen e q x p) = rw q (go _ (p .before))
   once-view k h go (aParallel e q p r) =
       rw q (
-        both-apart h (λ z. omega (arith, z)) (child-at k h 10 e 0 (omega arith) refl (p .before)) (child-at k h 10 e 1 (omega arith) refl (r .before)),
+        both-apart h (λ z. omega (arith, z)) (child-at k h 10 e 0 (omega arith) refl (p .before))
+            (child-at k h 10 e 1 (omega arith) refl (r .before)),
         go _ (p .before),
         go _ (r .before),
       )

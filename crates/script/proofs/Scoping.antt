@@ -110,11 +110,13 @@ module _ (s : List ℕ) (ok : Checked s) where
   scoped-node (suc n) k scope l h c =
       scoped-view scope k h c
       (λ j new u.
-      scoped-node n j (λ x. new x || scope x) (omega (arith, u .before)) (omega (arith, u .before)) (covers-part (u .part) c))
+      scoped-node n j (λ x. new x || scope x) (omega (arith, u .before)) (omega (arith, u .before))
+          (covers-part (u .part) c))
       (node-view s ok k h)
 
   -- in any scope that has the session's names
-  tree-in : (scope : ℕ → Bool) → ((x : ℕ) → x < nameCount s → isSession s x ≡ true → scope x ≡ true) → Scoped (namesOf s) scope (tree s)
+  tree-in : (scope : ℕ → Bool) → ((x : ℕ) → x < nameCount s → isSession s x ≡ true → scope x ≡ true) → Scoped
+      (namesOf s) scope (tree s)
   tree-in scope all =
       let last : nodeCount s - 1 < nodeCount s = omega (arith, few-bounds (layoutOf s) (ok .laid .few) .1 .1 .0) in
       scoped-node (nodeCount s) (nodeCount s - 1) scope last last
