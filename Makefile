@@ -18,8 +18,8 @@ library:
 CASES ?= 1000000
 SEED ?= 1
 compare: library
-	@CARGO_TARGET_DIR=target/cargo cargo run -q --release --offline --locked --manifest-path tests/Cargo.toml -p compare -- $(CASES) $(SEED)
+	@cargo run -q --release --locked --manifest-path tests/Cargo.toml -p compare -- $(CASES) $(SEED)
 
 # The tables of docs/PERFORMANCE.md.
 speed: library
-	@CARGO_TARGET_DIR=target/cargo cargo run -q --release --offline --locked --manifest-path tests/Cargo.toml -p speed
+	@cargo run -q --release --locked --manifest-path tests/Cargo.toml -p speed

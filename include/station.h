@@ -16,7 +16,8 @@
  * REENTRANCY. There is no static state and no lock: calls may run at the same time, in any thread, as long
  * as no buffer that one of them writes belongs to another call.
  *
- * WHAT IT NEEDS. memcpy and memset of the C library, and nothing else: no heap, no files, no clock.
+ * WHAT IT NEEDS. memcpy and memset of the C library, and nothing else: no heap, no files, no clock. A thread with 192 KB
+ * of stack has enough for every call; docs/PERFORMANCE.md has what smaller scripts need.
  */
 #ifndef STATION_H
 #define STATION_H

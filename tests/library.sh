@@ -3,7 +3,6 @@
 # The last line is 'N passed, M failed'.
 set -u
 cd "$(dirname "$0")/.."
-export CARGO_TARGET_DIR=$PWD/target/cargo
 library=target/staticlib/libengine.a
 log=target/library.log
 passed=0
@@ -41,7 +40,7 @@ prints_the_example() { diff <("$@") crates/station/stdout; }
 rust() {
     local command=$1 folder=$2
     shift 2
-    cargo "$command" --offline --locked --manifest-path "$folder/Cargo.toml" "$@"
+    cargo "$command" --locked --manifest-path "$folder/Cargo.toml" "$@"
 }
 
 counted='test result: [a-zA-Z]+\. ([0-9]+) passed; ([0-9]+) failed'
@@ -51,6 +50,8 @@ try 'C: first_run builds' "${cc[@]}" bindings/c/first_run.c $library -o target/f
 try 'C: first_run prints the example' prints_the_example target/first_run
 try 'C: edges builds' "${cc[@]}" bindings/c/edges.c $library -o target/edges
 try 'C: edges' target/edges
+try 'C: stack builds' cc -O2 -Wall -Wextra -I include tests/speed/stack.c $library -pthread -Wl,-z,now -o target/stack
+try 'C: stack' target/stack
 tally 'Rust: crate station' "$counted" rust test bindings/rust
 try 'Rust: first_run prints the example' prints_the_example rust run bindings/rust -q --example first_run
 tally 'Rust: tests' "$counted" rust test tests --release

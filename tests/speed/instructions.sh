@@ -1,9 +1,9 @@
 #!/bin/sh
 # Instructions per step (of runs) and per call (of checks), counted by valgrind: a busy machine does not change them.
-#   tests/speed/instructions.sh [speed]       the program that cargo built, by default tests/target/release/speed
+#   tests/speed/instructions.sh [speed]       the program that cargo built, by default target/cargo/release/speed
 # Each figure is the difference of two runs, so that what a run costs but once is left out.
 set -eu
-speed=${1:-$(dirname "$0")/../target/release/speed}
+speed=${1:-$(dirname "$0")/../../target/cargo/release/speed}
 scratch=$(mktemp -d)
 trap 'rm -rf "$scratch"' EXIT
 

@@ -4,6 +4,7 @@
  *   gcc -O2 -Iinclude tests/speed/stack.c target/staticlib/libengine.a -pthread -Wl,-z,now -o target/stack
  *   target/stack
  *
+ * Exit status 1 if a call needs more than ENOUGH.
  * Each call is made in a thread of its own, on a stack that was painted before. What is counted goes from the frame of
  * the caller down to the lowest byte that no longer has the paint. (-z now: no symbol is looked up during the call.)
  */
@@ -17,6 +18,8 @@
 #include "station.h"
 
 #define STACK_BYTES (1 << 20)
+/* What docs/PERFORMANCE.md and station.h say is enough for every book, script and call. */
+#define ENOUGH (192 * 1024)
 #define PAINT 0xA5
 #define SESSION 0xFFFF
 
@@ -428,5 +431,5 @@ int main(void)
     }
     printf("most for check: %zu, by: %s\n", most[0], by[0]);
     printf("most for run: %zu, by: %s\n", most[1], by[1]);
-    return 0;
+    return most[0] <= ENOUGH && most[1] <= ENOUGH ? 0 : 1;
 }
