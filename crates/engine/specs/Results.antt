@@ -57,6 +57,7 @@ pub record RunAgrees (b s : List ℕ) (reader : ℕ) (values : List ℤ) (limit 
 -- The same in the report's own terms, with fresh names, from any configuration ⟨Γ, S, E, script⟩ in which S and E hold the
 -- call's values: the report has a path of as many steps as the call returns, and every path of as many steps has the
 -- call's instants, values of the session and lines, leaves what the run leaves, up to its names, and ends as it does.
+-- That the call leaves what `runOf` gives is `RunAgrees.is`.
 pub record RunReported (b s : List ℕ) (reader : ℕ) (values : List ℤ) (limit : ℕ) (log : List ℕ) : Type 0 where
   pub begins : Begins (session s) (starts (tree s) values) (begun (session s) (starts (tree s) values))
   pub reported :
