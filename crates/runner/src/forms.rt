@@ -68,12 +68,12 @@ pub fn form_of(kind: usize, tag: u8) -> u8
 pub fn find_front(
     s: &[u8],
     c: Script,
-    plan: &[usize; Script::MAX_NODES],
+    plan: &[usize; Script::MAX_PARTS],
     k: usize,
     tag: u8,
     len: usize,
 ) -> Front
-    requires { ⌜ Laid (now s) c × (Checked (now s) × (KeepsPlan (now s) (nodeCount (now s)) (now plan) × (k < nodeCount (now s)))) ⌝ }
+    requires { ⌜ Laid (now s) c × (Checked (now s) × (KeepsPlan (now s) (now plan) × (k < nodeCount (now s)))) ⌝ }
     ensures { λ r. ⌜ r ≡ frontOf (now (s .entry)) k tag len ⌝ }
 {
     if NIL <= tag {
@@ -84,7 +84,7 @@ pub fn find_front(
             to: 0,
         };
     }
-    let w = plan[k];
+    let w = plan[Script::MAX_EXPRESSIONS + k];
     let form = plan::form_in(w, prelude::wide(tag)) as u8;
     if form <= MOVER {
         return Front {

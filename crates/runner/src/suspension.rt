@@ -6,7 +6,6 @@ use script::layout::Script;
 ghost use mathlib.Core.Path.{_≡_};
 ghost use lib.ListN.{length};
 ghost use Rattle.language.specs.Steps.{suspended};
-ghost use Rattle.script.specs.Layout.{nodeCount};
 ghost use Rattle.runner.specs.Residual.{own};
 ghost use Rattle.runner.specs.Forms.{frontOf};
 ghost use Rattle.runner.specs.Plan.{KeepsPlan};
@@ -16,12 +15,12 @@ ghost use Rattle.runner.specs.Contracts.{Valued, At, left, RearWaits};
 pub fn is_suspended(
     s: &[u8],
     c: Script,
-    plan: &[usize; Script::MAX_NODES],
+    plan: &[usize; Script::MAX_PARTS],
     values: &[i32],
     state: &[u8],
     k: usize,
 ) -> bool
-    requires { ⌜ Valued (now s) c (now values) × (KeepsPlan (now s) (nodeCount (now s)) (now plan) × At (now s) k (now state)) ⌝ }
+    requires { ⌜ Valued (now s) c (now values) × (KeepsPlan (now s) (now plan) × At (now s) k (now state)) ⌝ }
     ensures { λ r. ⌜ r ≡ suspended (left (now (s .entry)) k (now (state .entry))) (now (values .entry)) ⌝ }
 {
     let tag = state[0];
@@ -45,13 +44,13 @@ pub fn is_suspended(
 pub fn rear_waits(
     s: &[u8],
     c: Script,
-    plan: &[usize; Script::MAX_NODES],
+    plan: &[usize; Script::MAX_PARTS],
     values: &[i32],
     state: &[u8],
     k: usize,
     form: u8,
 ) -> bool
-    requires { ⌜ Valued (now s) c (now values) × (KeepsPlan (now s) (nodeCount (now s)) (now plan) × At (now s) k (now state)) ⌝ }
+    requires { ⌜ Valued (now s) c (now values) × (KeepsPlan (now s) (now plan) × At (now s) k (now state)) ⌝ }
     requires { ⌜ form ≡ frontOf (now s) k (own (now state)) (length (now state)) .form ⌝ }
     ensures { λ r. ⌜ RearWaits (now (s .entry)) k (now (state .entry)) (now (values .entry)) form r ⌝ }
 {
