@@ -1,6 +1,7 @@
 // Instant changes, and what an instant begins with.
 use crate::forms;
 use crate::forms::find_front;
+use crate::forms::find_rear;
 use crate::values;
 use script::layout::Script;
 ghost use mathlib.Core.Path.{_≡_};
@@ -41,7 +42,7 @@ pub fn change_instant(
     let to = f.to;
     change_instant(s, c, plan, values, &mut state[from..to], f.child);
     if forms::BESIDE <= f.form {
-        let g = find_front(s, c, plan, k, 1 - tag, len);
+        let g = find_rear(s, c, plan, k, tag, len, f.form);
         let start = g.from;
         let end = g.to;
         change_instant(s, c, plan, values, &mut state[start..end], g.child);

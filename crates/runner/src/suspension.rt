@@ -1,6 +1,7 @@
 // Whether what is left of a node is suspended.
 use crate::forms;
 use crate::forms::find_front;
+use crate::forms::find_rear;
 use crate::values;
 use script::layout::Script;
 ghost use mathlib.Core.Path.{_≡_};
@@ -58,7 +59,7 @@ pub fn rear_waits(
         return true;
     }
     let tag = state[0];
-    let g = find_front(s, c, plan, k, 1 - tag, state.len());
+    let g = find_rear(s, c, plan, k, tag, state.len(), form);
     let start = g.from;
     let end = g.to;
     is_suspended(s, c, plan, values, &state[start..end], g.child)
