@@ -1,23 +1,26 @@
 -- The form of a node, as it is found: where a part is in front, the node has a first child.
 -- Assumes nothing.
 use mathlib.Core.Path.{_≡_, refl, sym, ap, _∙_, subst}
-use mathlib.Core.Bool.{true, false, true≢false}
+use mathlib.Core.Bool.{Bool, true, false, _&&_, _||_, true≢false}
 use mathlib.Core.List.{List, []}
-use Prim.Native.Nat.{ℕ, zero, suc, _+_, _≤_, _<_}
+use Prim.Native.Nat.{ℕ, zero, suc, _+_, _-_, _≤_, _<_}
 use native.Mathlib.Omega.{arith}
+use native.Mathlib.Decide.{decLt}
 use native.Mathlib.Nat.{le-trans}
-use lib.Dec.{leb}
+use lib.Dec.{eqb, leb, ltb}
 use lib.ListN.{getD, length, List·getD-eq-default}
-use borrow.Author.Tests.{leb-true, le-leb, lt-leb}
+use borrow.Author.Tests.{eqb-true, leb-true, le-leb, lt-leb, le-ltb}
 use Rattle.prelude.specs.Search.{all, any, firstFrom}
 use Rattle.prelude.specs.Search as search-for
+use Rattle.prelude.proofs.Bools.{and-left, and-right, or-second, by-cases}
 use Rattle.prelude.proofs.Searches.{all-elim, none-of-any}
 use Rattle.script.specs.Layout.{nodeCount}
 use Rattle.script.specs.Entries.{partOf, node, firstChild, secondChild}
 use Rattle.script.specs.Tree.{processOf, size}
 use Rattle.script.specs.Checked.{Checked}
 use Rattle.script.proofs.Views.{NodeView, aNil, anAssign, aLet, anIf, aWhile, aSequence, anEmit, aLocal, aWatching, aWhen, aParallel, node-view}
-use Rattle.runner.specs.Forms.{gone, mover, formRows, formOf, fromSecond, frontOf}
+use Rattle.runner.specs.declared.forms.Front.{Front}
+use Rattle.runner.specs.Forms.{gone, mover, beside, turned, formRows, formOf, fromSecond, frontOf}
 
 -- no kind has more than four forms
 short : (kind : ℕ) → kind < 11 → length (getD formRows kind []) ≤ 4
@@ -32,6 +35,43 @@ form-past kind tag h l =
 no-second :
     (kind tag : ℕ) → any (λ t. fromSecond (formOf kind t)) 4 ≡ false → tag < 4 → fromSecond (formOf kind tag) ≡ true → ⊥
 no-second kind tag none h t = true≢false (sym t ∙ none-of-any (λ n. fromSecond (formOf kind n)) 4 none tag h)
+
+-- a parallel has two forms, by its byte
+abbrev turns : ℕ → ℕ → Bool
+turns kind tag =
+    ltb (formOf kind tag) beside
+    || (leb tag 1 && (leb (formOf kind tag) turned && eqb (formOf kind tag + formOf kind (1 - tag)) 15))
+
+pub rear-form :
+    (kind tag : ℕ) → kind < 11 → beside ≤ formOf kind tag →
+    (tag ≤ 1) × ((formOf kind tag ≤ turned) × (formOf kind tag + formOf kind (1 - tag) ≡ 15))
+unfolding all any search-for.first firstFrom
+rear-form kind tag h l =
+    elim (decLt tag 4) [
+      | yes few ↦
+          let t =
+          sym (or-second (ltb (formOf kind tag) beside) _ (le-ltb (formOf kind tag) beside l))
+          ∙ all-elim (turns kind) 4 (all-elim (λ k. all (turns k) 4) 11 refl kind h) tag few in
+          let u = and-right (leb tag 1) _ t in (
+            leb-true tag 1 (and-left (leb tag 1) _ t),
+            (
+              leb-true (formOf kind tag) turned (and-left (leb (formOf kind tag) turned) _ u),
+              eqb-true (formOf kind tag + formOf kind (1 - tag)) 15 (and-right (leb (formOf kind tag) turned) _ u),
+            ),
+          )
+      | no many ↦ absurd (omega (arith, l, form-past kind tag h (omega arith)))
+    ]
+
+pub front-form : (s : List ℕ) (k tag len : ℕ) → frontOf s k tag len .form ≡ formOf (partOf s (node s k) .kind) tag
+unfolding frontOf
+front-form s k tag len =
+    by-cases (λ (f : Front). f .form ≡ formOf (partOf s (node s k) .kind) tag)
+    (leb (formOf (partOf s (node s k) .kind) tag) mover)
+    (λ _. refl)
+    (λ _.
+    by-cases (λ (f : Front). f .form ≡ formOf (partOf s (node s k) .kind) tag)
+    (fromSecond (formOf (partOf s (node s k) .kind) tag))
+    (λ _. refl) (λ _. refl))
 
 module _ (s : List ℕ) (ok : Checked s) (k : ℕ) (h : k < nodeCount s) where
   kind-of : NodeView s k → partOf s (node s k) .kind < 11

@@ -1,6 +1,6 @@
 -- The words of a plan: what was packed into one is what it tells.
 -- Assumes nothing.
-use mathlib.Core.Path.{_≡_, refl, ap, _∙_}
+use mathlib.Core.Path.{_≡_, refl, sym, ap, _∙_}
 use mathlib.Core.List.{List}
 use Prim.Native.Nat.{ℕ, zero, suc, _+_, _*_, _%_, _≤_, _<_}
 use native.Mathlib.Decide.{ℕ-discrete}
@@ -13,10 +13,11 @@ use Rattle.prelude.specs.Search.{all, any, firstFrom}
 use Rattle.prelude.specs.Search as search-for
 use Rattle.prelude.proofs.Searches.{all-elim}
 use Rattle.script.specs.declared.entries.Part.{Part}
+use Rattle.script.specs.Layout.{mostExpressions}
 use Rattle.script.specs.Entries.{partOf, node, firstChild, secondChild}
 use Rattle.script.specs.Tree.{processOf, size}
 use Rattle.runner.specs.Forms.{formOf}
-use Rattle.runner.specs.Plan.{formIn, fieldIn, firstIn, secondIn, sizeIn, packed, formsOf, Planned, KeepsPlan}
+use Rattle.runner.specs.Plan.{formIn, fieldIn, firstIn, secondIn, sizeIn, packed, formsOf, spelled, Spelled, Planned, KeepsExpressions, KeepsNodes}
 
 pub forms-fit : (kind : ℕ) → kind < 11 → formsOf kind < 65536
 unfolding all any search-for.first firstFrom
@@ -82,11 +83,46 @@ module _ (s : List ℕ) (k : ℕ) (p : Part) (e : p ≡ partOf s (node s k)) (n 
             ∙ ap (λ j. size (processOf s j)) first-is;
       }
 
--- a loop that fills the plan: one more
-pub plan-more :
-    (s t : List ℕ) (k w : ℕ) → k < length t → Planned s k w → KeepsPlan s k t → KeepsPlan s (k + 1) (set t k w)
-plan-more s t k w h e keeps j l =
-    elim (ℕ-discrete j k) [
-      | yes same ↦ rw (same, getD-set-same t k w 0 h) e
-      | no other ↦ rw (getD-set-other t k j w 0 other) (keeps j (omega arith))
+-- the word that is spelled for expression e, whose entry is p
+module _ (s : List ℕ) (e : ℕ) (p : Part) (q : p ≡ partOf s e) (b : p .b < 65536) where
+  pub spells-constant : p .kind ≡ 0 → p .c < 65536 → Spelled s e (spelled 0 (p .b) (p .c))
+  spells-constant z c =
+      record {
+        kind = omega (arith, b, c, z, ap (λ (r : Part). r .kind) q);
+        constant = λ _. omega (arith, b, c, ap (λ (r : Part). r .b) q, ap (λ (r : Part). r .c) q);
+        operand = λ n. absurd (n (sym (ap (λ (r : Part). r .kind) q) ∙ z));
+        later = omega (arith, b, c, ap (λ (r : Part). r .b) q);
+      }
+
+  pub spells : (p .kind ≡ 0 → ⊥) → p .a < 65536 → Spelled s e (spelled (p .kind) (p .b) (p .a))
+  spells n a =
+      record {
+        kind = omega (arith, b, a, ap (λ (r : Part). r .kind) q);
+        constant = λ z. absurd (n (ap (λ (r : Part). r .kind) q ∙ z));
+        operand = λ _. omega (arith, b, a, ap (λ (r : Part). r .a) q);
+        later = omega (arith, b, a, ap (λ (r : Part). r .b) q);
+      }
+
+-- loops that fill the plan: one more
+pub expressions-more :
+    (s t : List ℕ) (e w : ℕ) → e < length t → Spelled s e w → KeepsExpressions s e t →
+    KeepsExpressions s (e + 1) (set t e w)
+expressions-more s t e w h x keeps j l =
+    elim (ℕ-discrete j e) [
+      | yes same ↦ rw (same, getD-set-same t e w 0 h) x
+      | no other ↦ rw (getD-set-other t e j w 0 other) (keeps j (omega arith))
     ]
+
+module _ (s t : List ℕ) (k w : ℕ) where
+  pub nodes-more :
+      mostExpressions + k < length t → Planned s k w → KeepsNodes s k t → KeepsNodes s (k + 1) (set t (mostExpressions + k) w)
+  nodes-more h x keeps j l =
+      elim (ℕ-discrete j k) [
+        | yes same ↦ rw (same, getD-set-same t (mostExpressions + k) w 0 h) x
+        | no other ↦ rw (getD-set-other t (mostExpressions + k) (mostExpressions + j) w 0 (λ e. other (omega (arith, e)))) (keeps j (omega arith))
+      ]
+
+  pub expressions-kept :
+      (n : ℕ) → n ≤ mostExpressions → KeepsExpressions s n t → KeepsExpressions s n (set t (mostExpressions + k) w)
+  expressions-kept n few keeps e l =
+      rw (getD-set-other t (mostExpressions + k) e w 0 (λ q. omega (arith, q, l, few))) (keeps e l)

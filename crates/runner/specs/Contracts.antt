@@ -8,20 +8,23 @@ use Prim.Native.Nat.{ℕ, suc, _-_, _*_, _≤_, _<_}
 use lib.Dec.{eqb}
 use lib.IntN.{ℤ}
 use lib.ListN.{getD, set, length}
+use mir.Syntax.{w32}
+use mir.Val.{toZ}
 use Rattle.prelude.specs.Search.{any}
 use Rattle.language.specs.Syntax.{Names, Operator, add, subtract, multiply, divide, less, equal, Proc, nil, isNil}
-use Rattle.language.specs.Steps.{present, apply, suspended, move}
+use Rattle.language.specs.Steps.{held, present, value, apply, suspended, move}
 use Rattle.language.specs.Calls.{Line, System, Ending, finished, spent, logFull, lineFor, calledFor}
 use Rattle.script.specs.declared.layout.Script.{Script}
-use Rattle.script.specs.Layout.{nameCount, nodeCount, Laid}
+use Rattle.script.specs.Layout.{nameCount, expressionCount, nodeCount, Laid}
 use Rattle.script.specs.Entries.{partOf, node}
-use Rattle.script.specs.Tree.{processOf, tree, size}
+use Rattle.script.specs.Tree.{expressionOf, processOf, tree, size}
 use Rattle.script.specs.Checked.{Checked}
 use Rattle.runner.specs.declared.forms.Front.{Front}
 use Rattle.runner.specs.declared.log.Noted.{Noted}
 use Rattle.runner.specs.declared.Ran.{Ran}
 use Rattle.runner.specs.Residual.{own, residual}
 use Rattle.runner.specs.Forms.{mover, before, watched, guarded, beside, frontOf, partIn}
+use Rattle.runner.specs.Plan.{kindIn, constantIn, operandIn, KeepsPlan}
 use Rattle.runner.specs.Moves.{Running, logAfter, linesAfter, hasRoom, Live, Silent, isGone, isSuspended, isSpent, isFull, Path, Ends}
 use Rattle.runner.specs.Outcome.{Outcome}
 
@@ -60,6 +63,23 @@ operatorOf kind = getD (equal ∷ equal ∷ add ∷ subtract ∷ multiply ∷ di
 
 abbrev pub applied : ℕ → ℤ → ℤ → ℤ
 applied kind a b = apply (operatorOf kind) a b
+
+-- the value of a constant or a register, by the word of its expression
+abbrev pub leafValue : List ℤ → ℕ → ℤ
+leafValue values w = cond (eqb (kindIn w) 0) (toZ w32 (constantIn w)) (held values (operandIn w))
+
+-- expression e of a checked script that has this plan, with a value for each name
+pub record Evaluable (plan : List ℕ) (values : List ℤ) (e : ℕ) : Type 0 where
+  pub script : List ℕ
+  pub checked : Checked script
+  pub kept : KeepsPlan script plan
+  pub named : length values ≡ nameCount script
+  pub known : e < expressionCount script
+
+-- v is the value of expression e, whatever checked script has this plan
+abbrev pub IsValue : List ℕ → List ℤ → ℕ → ℤ → Type 0
+IsValue plan values e v =
+    (s : List ℕ) → Checked s → KeepsPlan s plan → e < expressionCount s → v ≡ value (expressionOf s e) values
 
 -- the line of a step that gives x this value, if it is seen
 abbrev pub lineOf : List ℕ → ℕ → ℕ → ℕ → ℤ → Option Line

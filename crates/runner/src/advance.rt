@@ -12,7 +12,6 @@ use script::layout::Script;
 ghost use mathlib.Core.Path.{_≡_};
 ghost use Prim.Native.Nat.{_/_, _≤_, _<_};
 ghost use lib.ListN.{length};
-ghost use Rattle.script.specs.Layout.{nodeCount};
 ghost use Rattle.runner.specs.Residual.{own};
 ghost use Rattle.runner.specs.Forms.{frontOf};
 ghost use Rattle.runner.specs.Plan.{KeepsPlan};
@@ -31,7 +30,7 @@ pub struct Entered {
 fn enter(
     s: &[u8],
     c: Script,
-    plan: &[usize; Script::MAX_NODES],
+    plan: &[usize; Script::MAX_PARTS],
     seen: &[u8],
     values: &mut [i32],
     state: &mut [u8],
@@ -40,7 +39,7 @@ fn enter(
     at: Counts,
     k: usize,
 ) -> Entered
-    requires { ⌜ Valued (now s) c (now values) × (KeepsPlan (now s) (nodeCount (now s)) (now plan) × (At (now s) k (now state) × (Counted (limits .steps) (now log) (at .steps) (at .lines) × (length (now values) ≤ length (now seen))))) ⌝ }
+    requires { ⌜ Valued (now s) c (now values) × (KeepsPlan (now s) (now plan) × (At (now s) k (now state) × (Counted (limits .steps) (now log) (at .steps) (at .lines) × (length (now values) ≤ length (now seen))))) ⌝ }
     ensures { λ r. ⌜ Enters (seenIn (now (seen .entry))) (limits .steps) (length (now (log .entry)) / 4) (now (s .entry)) k (now (state .entry)) (now (state .exit)) (runningAt (now (s .entry)) k (now (state .entry)) (now (values .entry)) (now (log .entry)) (at .steps) (limits .instant) (at .lines)) (runningAt (now (s .entry)) k (now (state .exit)) (now (values .exit)) (now (log .exit)) (r .at .steps) (limits .instant) (r .at .lines)) (r .why) (r .front) ⌝ }
 {
     let f = forms::find_front(s, c, plan, k, state[0], state.len());
@@ -52,7 +51,7 @@ fn enter(
         };
     }
     if f.form == forms::MOVER {
-        let done = moves::move_own(s, c, seen, values, state, log, limits, at, k);
+        let done = moves::move_own(s, c, plan, seen, values, state, log, limits, at, k);
         let next = done.at;
         return Entered {
             why: done.why,
@@ -93,7 +92,7 @@ fn byte_after(form: u8, why: u8, tag: u8) -> u8
 fn leave(
     s: &[u8],
     c: Script,
-    plan: &[usize; Script::MAX_NODES],
+    plan: &[usize; Script::MAX_PARTS],
     values: &[i32],
     state: &mut [u8],
     limits: Limits,
@@ -102,7 +101,7 @@ fn leave(
     f: Front,
     why: u8,
 ) -> Done
-    requires { ⌜ Valued (now s) c (now values) × (KeepsPlan (now s) (nodeCount (now s)) (now plan) × (At (now s) k (now state) × ((at .steps ≤ limits .steps) × (limits .steps ≤ mostSteps)))) ⌝ }
+    requires { ⌜ Valued (now s) c (now values) × (KeepsPlan (now s) (now plan) × (At (now s) k (now state) × ((at .steps ≤ limits .steps) × (limits .steps ≤ mostSteps)))) ⌝ }
     requires { ⌜ (f ≡ frontOf (now s) k (own (now state)) (length (now state))) × Rests (now s) k (now state) (now values) f why ⌝ }
     ensures { λ r. ⌜ Settles (limits .steps) (left (now (s .entry)) k (now (state .entry))) (now (values .entry)) (left (now (s .entry)) k (now (state .exit))) (at .steps) (at .lines) why (r .why) (r .at .steps) (r .at .lines) ⌝ }
 {
@@ -133,7 +132,7 @@ fn leave(
 pub fn advance(
     s: &[u8],
     c: Script,
-    plan: &[usize; Script::MAX_NODES],
+    plan: &[usize; Script::MAX_PARTS],
     seen: &[u8],
     values: &mut [i32],
     state: &mut [u8],
@@ -142,7 +141,7 @@ pub fn advance(
     at: Counts,
     k: usize,
 ) -> Done
-    requires { ⌜ Valued (now s) c (now values) × (KeepsPlan (now s) (nodeCount (now s)) (now plan) × (At (now s) k (now state) × (Counted (limits .steps) (now log) (at .steps) (at .lines) × (length (now values) ≤ length (now seen))))) ⌝ }
+    requires { ⌜ Valued (now s) c (now values) × (KeepsPlan (now s) (now plan) × (At (now s) k (now state) × (Counted (limits .steps) (now log) (at .steps) (at .lines) × (length (now values) ≤ length (now seen))))) ⌝ }
     ensures { λ r. ⌜ Advances (seenIn (now (seen .entry))) (limits .steps) (length (now (log .entry)) / 4) (runningAt (now (s .entry)) k (now (state .entry)) (now (values .entry)) (now (log .entry)) (at .steps) (limits .instant) (at .lines)) (runningAt (now (s .entry)) k (now (state .exit)) (now (values .exit)) (now (log .exit)) (r .at .steps) (limits .instant) (r .at .lines)) (r .why) × (0 < r .why) ⌝ }
 {
     let mut now = at;

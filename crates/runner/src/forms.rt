@@ -2,10 +2,10 @@
 use crate::plan;
 use script::layout::Script;
 ghost use mathlib.Core.Path.{_≡_};
-ghost use Prim.Native.Nat.{_<_};
+ghost use Prim.Native.Nat.{_-_, _≤_, _<_};
 ghost use Rattle.script.specs.Layout.{nodeCount, Laid};
 ghost use Rattle.script.specs.Checked.{Checked};
-ghost use Rattle.runner.specs.Forms.{formOf, frontOf};
+ghost use Rattle.runner.specs.Forms.{beside, formOf, frontOf};
 ghost use Rattle.runner.specs.Plan.{KeepsPlan};
 
 // Nil.
@@ -68,12 +68,12 @@ pub fn form_of(kind: usize, tag: u8) -> u8
 pub fn find_front(
     s: &[u8],
     c: Script,
-    plan: &[usize; Script::MAX_NODES],
+    plan: &[usize; Script::MAX_PARTS],
     k: usize,
     tag: u8,
     len: usize,
 ) -> Front
-    requires { ⌜ Laid (now s) c × (Checked (now s) × (KeepsPlan (now s) (nodeCount (now s)) (now plan) × (k < nodeCount (now s)))) ⌝ }
+    requires { ⌜ Laid (now s) c × (Checked (now s) × (KeepsPlan (now s) (now plan) × (k < nodeCount (now s)))) ⌝ }
     ensures { λ r. ⌜ r ≡ frontOf (now (s .entry)) k tag len ⌝ }
 {
     if NIL <= tag {
@@ -84,7 +84,7 @@ pub fn find_front(
             to: 0,
         };
     }
-    let w = plan[k];
+    let w = plan[Script::MAX_EXPRESSIONS + k];
     let form = plan::form_in(w, prelude::wide(tag)) as u8;
     if form <= MOVER {
         return Front {
@@ -105,6 +105,38 @@ pub fn find_front(
     }
     Front {
         form,
+        child: plan::first_in(w),
+        from: 1,
+        to: middle,
+    }
+}
+
+// The other part of a parallel whose part in front has this form.
+pub fn find_rear(
+    s: &[u8],
+    c: Script,
+    plan: &[usize; Script::MAX_PARTS],
+    k: usize,
+    tag: u8,
+    len: usize,
+    form: u8,
+) -> Front
+    requires { ⌜ Laid (now s) c × (Checked (now s) × (KeepsPlan (now s) (now plan) × (k < nodeCount (now s)))) ⌝ }
+    requires { ⌜ (form ≡ frontOf (now s) k tag len .form) × (beside ≤ form) ⌝ }
+    ensures { λ r. ⌜ r ≡ frontOf (now (s .entry)) k (1 - tag) len ⌝ }
+{
+    let w = plan[Script::MAX_EXPRESSIONS + k];
+    let middle = 1 + plan::size_in(w);
+    if form == BESIDE {
+        return Front {
+            form: TURNED,
+            child: plan::second_in(w),
+            from: middle,
+            to: len,
+        };
+    }
+    Front {
+        form: BESIDE,
         child: plan::first_in(w),
         from: 1,
         to: middle,

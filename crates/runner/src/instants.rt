@@ -1,6 +1,7 @@
 // Instant changes, and what an instant begins with.
 use crate::forms;
 use crate::forms::find_front;
+use crate::forms::find_rear;
 use crate::values;
 use script::layout::Script;
 ghost use mathlib.Core.Path.{_≡_};
@@ -8,7 +9,6 @@ ghost use Prim.Native.Nat.{_<_};
 ghost use lib.ListN.{length};
 ghost use Rattle.language.specs.Steps.{change, instantStart};
 ghost use Rattle.language.specs.Calls.{givenBack};
-ghost use Rattle.script.specs.Layout.{nodeCount};
 ghost use Rattle.script.specs.Tree.{namesOf};
 ghost use Rattle.runner.specs.Plan.{KeepsPlan};
 ghost use Rattle.runner.specs.Contracts.{Valued, At, left, isPresentSignal, someSignalPresent};
@@ -17,12 +17,12 @@ ghost use Rattle.runner.specs.Contracts.{Valued, At, left, isPresentSign
 pub fn change_instant(
     s: &[u8],
     c: Script,
-    plan: &[usize; Script::MAX_NODES],
+    plan: &[usize; Script::MAX_PARTS],
     values: &[i32],
     state: &mut [u8],
     k: usize,
 )
-    requires { ⌜ Valued (now s) c (now values) × (KeepsPlan (now s) (nodeCount (now s)) (now plan) × At (now s) k (now state)) ⌝ }
+    requires { ⌜ Valued (now s) c (now values) × (KeepsPlan (now s) (now plan) × At (now s) k (now state)) ⌝ }
     ensures { λ _. ⌜ left (now (s .entry)) k (now (state .exit)) ≡ change (left (now (s .entry)) k (now (state .entry))) (now (values .entry)) ⌝ }
 {
     let tag = state[0];
@@ -42,7 +42,7 @@ pub fn change_instant(
     let to = f.to;
     change_instant(s, c, plan, values, &mut state[from..to], f.child);
     if forms::BESIDE <= f.form {
-        let g = find_front(s, c, plan, k, 1 - tag, len);
+        let g = find_rear(s, c, plan, k, tag, len, f.form);
         let start = g.from;
         let end = g.to;
         change_instant(s, c, plan, values, &mut state[start..end], g.child);

@@ -45,14 +45,14 @@ fn ending_of(why: u8) -> u32
 pub fn run(
     s: &[u8],
     c: Script,
-    plan: &[usize; Script::MAX_NODES],
+    plan: &[usize; Script::MAX_PARTS],
     seen: &[u8],
     values: &mut [i32],
     state: &mut [u8],
     log: &mut [u32],
     limit: u32,
 ) -> Ran
-    requires { ⌜ Valued (now s) c (now values) × (KeepsPlan (now s) (nodeCount (now s)) (now plan) × ((now state ≡ replicate (nodeCount (now s)) 0) × ((length (now values) ≤ length (now seen)) × (limit ≤ mostSteps)))) ⌝ }
+    requires { ⌜ Valued (now s) c (now values) × (KeepsPlan (now s) (now plan) × ((now state ≡ replicate (nodeCount (now s)) 0) × ((length (now values) ≤ length (now seen)) × (limit ≤ mostSteps)))) ⌝ }
     ensures { λ r. ⌜ Gives (outcome (namesOf (now (s .entry))) (seenIn (now (seen .entry))) limit (length (now (log .entry)) / 4) (starting (now (s .entry)) (now (values .entry)) (now (log .entry)))) r (now (values .exit)) (now (log .exit)) ⌝ }
 {
     let k = c.nodes - 1;

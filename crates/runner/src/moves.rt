@@ -9,6 +9,7 @@ ghost use lib.ListN.{length, replicate};
 ghost use Rattle.script.specs.Entries.{partOf, node};
 ghost use Rattle.runner.specs.Residual.{own};
 ghost use Rattle.runner.specs.Forms.{mover, frontOf};
+ghost use Rattle.runner.specs.Plan.{KeepsPlan};
 ghost use Rattle.runner.specs.Moves.{Silent};
 ghost use Rattle.runner.specs.Contracts.{Valued, At, Counted, left, seenIn, IsSilent, Writes, runningAt, Advances};
 
@@ -52,13 +53,20 @@ fn clear(state: &mut [u8])
 }
 
 // A let sets its name and leaves its body.
-fn move_let(s: &[u8], c: Script, values: &mut [i32], state: &mut [u8], k: usize)
-    requires { ⌜ Valued (now s) c (now values) × (At (now s) k (now state) × ((partOf (now s) (node (now s) k) .kind ≡ 2) × (own (now state) ≡ 0))) ⌝ }
+fn move_let(
+    s: &[u8],
+    c: Script,
+    plan: &[usize; Script::MAX_PARTS],
+    values: &mut [i32],
+    state: &mut [u8],
+    k: usize,
+)
+    requires { ⌜ Valued (now s) c (now values) × (KeepsPlan (now s) (now plan) × (At (now s) k (now state) × ((partOf (now s) (node (now s) k) .kind ≡ 2) × (own (now state) ≡ 0)))) ⌝ }
     ensures { λ _. ⌜ Silent (left (now (s .entry)) k (now (state .entry))) (now (values .entry)) (left (now (s .entry)) k (now (state .exit))) (now (values .exit)) ⌝ }
 {
     let p = script::entries::part_at(s, c, c.expressions + k);
     let x = p.a;
-    let v = values::value_of(s, c, values, p.b);
+    let v = values::value_of(plan, values, p.b);
     values[x] = v;
     state[0] = 1;
 }
@@ -75,12 +83,19 @@ fn move_local(s: &[u8], c: Script, values: &mut [i32], state: &mut [u8], k: usiz
 }
 
 // An if leaves a branch.
-fn move_if(s: &[u8], c: Script, values: &[i32], state: &mut [u8], k: usize)
-    requires { ⌜ Valued (now s) c (now values) × (At (now s) k (now state) × ((partOf (now s) (node (now s) k) .kind ≡ 3) × (own (now state) ≡ 0))) ⌝ }
+fn move_if(
+    s: &[u8],
+    c: Script,
+    plan: &[usize; Script::MAX_PARTS],
+    values: &[i32],
+    state: &mut [u8],
+    k: usize,
+)
+    requires { ⌜ Valued (now s) c (now values) × (KeepsPlan (now s) (now plan) × (At (now s) k (now state) × ((partOf (now s) (node (now s) k) .kind ≡ 3) × (own (now state) ≡ 0)))) ⌝ }
     ensures { λ _. ⌜ Silent (left (now (s .entry)) k (now (state .entry))) (now (values .entry)) (left (now (s .entry)) k (now (state .exit))) (now (values .entry)) ⌝ }
 {
     let p = script::entries::part_at(s, c, c.expressions + k);
-    if values::test_holds(s, c, values, p.a) {
+    if values::test_holds(s, plan, values, p.a) {
         state[0] = 1;
     } else {
         state[0] = 2;
@@ -88,12 +103,19 @@ fn move_if(s: &[u8], c: Script, values: &[i32], state: &mut [u8], k: usize)
 }
 
 // A while leaves its body, as it is written, and then itself; or nil.
-fn move_while(s: &[u8], c: Script, values: &[i32], state: &mut [u8], k: usize)
-    requires { ⌜ Valued (now s) c (now values) × (At (now s) k (now state) × ((partOf (now s) (node (now s) k) .kind ≡ 4) × (own (now state) ≡ 0))) ⌝ }
+fn move_while(
+    s: &[u8],
+    c: Script,
+    plan: &[usize; Script::MAX_PARTS],
+    values: &[i32],
+    state: &mut [u8],
+    k: usize,
+)
+    requires { ⌜ Valued (now s) c (now values) × (KeepsPlan (now s) (now plan) × (At (now s) k (now state) × ((partOf (now s) (node (now s) k) .kind ≡ 4) × (own (now state) ≡ 0)))) ⌝ }
     ensures { λ _. ⌜ Silent (left (now (s .entry)) k (now (state .entry))) (now (values .entry)) (left (now (s .entry)) k (now (state .exit))) (now (values .entry)) ⌝ }
 {
     let p = script::entries::part_at(s, c, c.expressions + k);
-    if values::test_holds(s, c, values, p.a) {
+    if values::test_holds(s, plan, values, p.a) {
         state[0] = 1;
         clear(&mut state[1..]);
     } else {
@@ -102,17 +124,25 @@ fn move_while(s: &[u8], c: Script, values: &[i32], state: &mut [u8], k: usize)
 }
 
 // The moves of let, if, while and local write no line.
-fn move_silently(s: &[u8], c: Script, values: &mut [i32], state: &mut [u8], k: usize, kind: usize)
-    requires { ⌜ Valued (now s) c (now values) × (At (now s) k (now state) × ((kind ≡ partOf (now s) (node (now s) k) .kind) × (own (now state) ≡ 0))) ⌝ }
+fn move_silently(
+    s: &[u8],
+    c: Script,
+    plan: &[usize; Script::MAX_PARTS],
+    values: &mut [i32],
+    state: &mut [u8],
+    k: usize,
+    kind: usize,
+)
+    requires { ⌜ Valued (now s) c (now values) × (KeepsPlan (now s) (now plan) × (At (now s) k (now state) × ((kind ≡ partOf (now s) (node (now s) k) .kind) × (own (now state) ≡ 0)))) ⌝ }
     requires { ⌜ IsSilent kind ⌝ }
     ensures { λ _. ⌜ Silent (left (now (s .entry)) k (now (state .entry))) (now (values .entry)) (left (now (s .entry)) k (now (state .exit))) (now (values .exit)) ⌝ }
 {
     if kind == 2 {
-        move_let(s, c, values, state, k);
+        move_let(s, c, plan, values, state, k);
     } else if kind == 3 {
-        move_if(s, c, values, state, k);
+        move_if(s, c, plan, values, state, k);
     } else if kind == 4 {
-        move_while(s, c, values, state, k);
+        move_while(s, c, plan, values, state, k);
     } else {
         move_local(s, c, values, state, k);
     }
@@ -153,6 +183,7 @@ fn write(
 pub fn move_own(
     s: &[u8],
     c: Script,
+    plan: &[usize; Script::MAX_PARTS],
     seen: &[u8],
     values: &mut [i32],
     state: &mut [u8],
@@ -161,7 +192,7 @@ pub fn move_own(
     at: Counts,
     k: usize,
 ) -> Done
-    requires { ⌜ Valued (now s) c (now values) × (At (now s) k (now state) × (Counted (limits .steps) (now log) (at .steps) (at .lines) × ((length (now values) ≤ length (now seen)) × (frontOf (now s) k (own (now state)) (length (now state)) .form ≡ mover)))) ⌝ }
+    requires { ⌜ Valued (now s) c (now values) × (KeepsPlan (now s) (now plan) × (At (now s) k (now state) × (Counted (limits .steps) (now log) (at .steps) (at .lines) × ((length (now values) ≤ length (now seen)) × (frontOf (now s) k (own (now state)) (length (now state)) .form ≡ mover))))) ⌝ }
     ensures { λ r. ⌜ Advances (seenIn (now (seen .entry))) (limits .steps) (length (now (log .entry)) / 4) (runningAt (now (s .entry)) k (now (state .entry)) (now (values .entry)) (now (log .entry)) (at .steps) (limits .instant) (at .lines)) (runningAt (now (s .entry)) k (now (state .exit)) (now (values .exit)) (now (log .exit)) (r .at .steps) (limits .instant) (r .at .lines)) (r .why) ⌝ }
 {
     if limits.steps <= at.steps {
@@ -170,13 +201,13 @@ pub fn move_own(
     let p = script::entries::part_at(s, c, c.expressions + k);
     let x = p.a;
     if p.kind == 1 {
-        let v = values::value_of(s, c, values, p.b);
+        let v = values::value_of(plan, values, p.b);
         return write(s, seen, values, state, log, limits, at, k, x, v);
     }
     if p.kind == 6 {
         return write(s, seen, values, state, log, limits, at, k, x, 1);
     }
-    move_silently(s, c, values, state, k, p.kind);
+    move_silently(s, c, plan, values, state, k, p.kind);
     Done {
         why: AGAIN,
         at: Counts {

@@ -1,16 +1,42 @@
-// The plan of a run: what it goes by of each node, in one word, found once. From the lowest bit on a word has the forms
-// (four bits for each byte of state), field a (16), the first and the second child (8 each), and the size of the first.
+// The plan of a run: what it goes by of each expression and of each node, in one word, found once. From the lowest bit
+// on the word of an expression has a constant (32 bits), or field a and field b (16 each), then the kind; that of a node
+// the forms (four bits for each byte of state), field a (16), the first and the second child (8 each), and the size of
+// the first.
 use crate::forms;
 use script::layout::Script;
 ghost use mathlib.Core.Path.{_≡_};
 ghost use Prim.Native.Nat.{_<_};
-ghost use lib.ListN.{getD};
-ghost use Rattle.script.specs.Layout.{nodeCount, Laid};
+ghost use Rattle.script.specs.Layout.{expressionCount, Laid};
 ghost use Rattle.script.specs.Tree.{KeepsSizes};
 ghost use Rattle.script.specs.Checked.{Checked};
-ghost use Rattle.runner.specs.Plan.{formIn, fieldIn, firstIn, secondIn, sizeIn, formsOf, packed, Planned, KeepsPlan};
+ghost use Rattle.runner.specs.Plan.{kindIn, constantIn, operandIn, laterIn, spelled, Spelled, formIn, fieldIn, firstIn, secondIn, sizeIn, formsOf, packed, Planned, KeepsExpressions, KeepsPlan};
 
-// What a word tells.
+// What the word of an expression tells.
+pub fn kind_in(w: usize) -> usize
+    ensures { λ r. ⌜ r ≡ kindIn w ⌝ }
+{
+    w >> 32
+}
+
+pub fn constant_in(w: usize) -> usize
+    ensures { λ r. ⌜ r ≡ constantIn w ⌝ }
+{
+    w % 4294967296
+}
+
+pub fn operand_in(w: usize) -> usize
+    ensures { λ r. ⌜ r ≡ operandIn w ⌝ }
+{
+    w % 65536
+}
+
+pub fn later_in(w: usize) -> usize
+    ensures { λ r. ⌜ r ≡ laterIn w ⌝ }
+{
+    (w >> 16) % 65536
+}
+
+// What the word of a node tells.
 pub fn form_in(w: usize, tag: usize) -> usize
     requires { ⌜ tag < 4 ⌝ }
     ensures { λ r. ⌜ r ≡ formIn w tag ⌝ }
@@ -68,7 +94,7 @@ fn pack(forms: usize, a: usize, first: usize, second: usize, size: u16) -> usize
 }
 
 // The word of node k.
-fn word_of(s: &[u8], c: Script, sizes: &[u16; Script::MAX_NODES], k: usize) -> usize
+fn node_word(s: &[u8], c: Script, sizes: &[u16; Script::MAX_NODES], k: usize) -> usize
     requires { ⌜ Laid (now s) c × (Checked (now s) × (KeepsSizes (now s) (c .nodes) (now sizes) × (k < c .nodes))) ⌝ }
     ensures { λ r. ⌜ Planned (now (s .entry)) k r ⌝ }
 {
@@ -84,16 +110,50 @@ fn word_of(s: &[u8], c: Script, sizes: &[u16; Script::MAX_NODES], k: usize) -> u
     )
 }
 
-pub fn find_plan(s: &[u8], c: Script) -> [usize; Script::MAX_NODES]
+fn spell(kind: usize, later: usize, operand: usize) -> usize
+    requires { ⌜ (kind < 256) × ((later < 65536) × (operand < 65536)) ⌝ }
+    ensures { λ r. ⌜ r ≡ spelled kind later operand ⌝ }
+{
+    4294967296 * kind + (65536 * later + operand)
+}
+
+// The word of expression e.
+fn expression_word(s: &[u8], c: Script, e: usize) -> usize
+    requires { ⌜ Laid (now s) c × (e < c .expressions) ⌝ }
+    ensures { λ r. ⌜ Spelled (now (s .entry)) e r ⌝ }
+{
+    let p = script::entries::part_at(s, c, e);
+    if p.kind == 0 {
+        return spell(0, p.b, p.c);
+    }
+    spell(p.kind, p.b, p.a)
+}
+
+// The words of the expressions.
+fn find_expressions(s: &[u8], c: Script) -> [usize; Script::MAX_PARTS]
+    requires { ⌜ Laid (now s) c ⌝ }
+    ensures { λ r. ⌜ KeepsExpressions (now (s .entry)) (expressionCount (now (s .entry))) r ⌝ }
+{
+    let mut plan = [0usize; Script::MAX_PARTS];
+    let n = c.expressions;
+    let mut e: usize = 0;
+    while e < n {
+        plan[e] = expression_word(s, c, e);
+        e += 1;
+    }
+    plan
+}
+
+pub fn find_plan(s: &[u8], c: Script) -> [usize; Script::MAX_PARTS]
     requires { ⌜ Laid (now s) c × Checked (now s) ⌝ }
-    ensures { λ r. ⌜ KeepsPlan (now (s .entry)) (c .nodes) r ⌝ }
+    ensures { λ r. ⌜ KeepsPlan (now (s .entry)) r ⌝ }
 {
     let sizes = script::sizes::find_sizes(s, c);
-    let mut plan = [0usize; Script::MAX_NODES];
+    let mut plan = find_expressions(s, c);
     let n = c.nodes;
     let mut k: usize = 0;
     while k < n {
-        plan[k] = word_of(s, c, &sizes, k);
+        plan[Script::MAX_EXPRESSIONS + k] = node_word(s, c, &sizes, k);
         k += 1;
     }
     plan

@@ -1,12 +1,12 @@
 // Whether what is left of a node is suspended.
 use crate::forms;
 use crate::forms::find_front;
+use crate::forms::find_rear;
 use crate::values;
 use script::layout::Script;
 ghost use mathlib.Core.Path.{_≡_};
 ghost use lib.ListN.{length};
 ghost use Rattle.language.specs.Steps.{suspended};
-ghost use Rattle.script.specs.Layout.{nodeCount};
 ghost use Rattle.runner.specs.Residual.{own};
 ghost use Rattle.runner.specs.Forms.{frontOf};
 ghost use Rattle.runner.specs.Plan.{KeepsPlan};
@@ -16,12 +16,12 @@ ghost use Rattle.runner.specs.Contracts.{Valued, At, left, RearWaits};
 pub fn is_suspended(
     s: &[u8],
     c: Script,
-    plan: &[usize; Script::MAX_NODES],
+    plan: &[usize; Script::MAX_PARTS],
     values: &[i32],
     state: &[u8],
     k: usize,
 ) -> bool
-    requires { ⌜ Valued (now s) c (now values) × (KeepsPlan (now s) (nodeCount (now s)) (now plan) × At (now s) k (now state)) ⌝ }
+    requires { ⌜ Valued (now s) c (now values) × (KeepsPlan (now s) (now plan) × At (now s) k (now state)) ⌝ }
     ensures { λ r. ⌜ r ≡ suspended (left (now (s .entry)) k (now (state .entry))) (now (values .entry)) ⌝ }
 {
     let tag = state[0];
@@ -45,13 +45,13 @@ pub fn is_suspended(
 pub fn rear_waits(
     s: &[u8],
     c: Script,
-    plan: &[usize; Script::MAX_NODES],
+    plan: &[usize; Script::MAX_PARTS],
     values: &[i32],
     state: &[u8],
     k: usize,
     form: u8,
 ) -> bool
-    requires { ⌜ Valued (now s) c (now values) × (KeepsPlan (now s) (nodeCount (now s)) (now plan) × At (now s) k (now state)) ⌝ }
+    requires { ⌜ Valued (now s) c (now values) × (KeepsPlan (now s) (now plan) × At (now s) k (now state)) ⌝ }
     requires { ⌜ form ≡ frontOf (now s) k (own (now state)) (length (now state)) .form ⌝ }
     ensures { λ r. ⌜ RearWaits (now (s .entry)) k (now (state .entry)) (now (values .entry)) form r ⌝ }
 {
@@ -59,7 +59,7 @@ pub fn rear_waits(
         return true;
     }
     let tag = state[0];
-    let g = find_front(s, c, plan, k, 1 - tag, state.len());
+    let g = find_rear(s, c, plan, k, tag, state.len(), form);
     let start = g.from;
     let end = g.to;
     is_suspended(s, c, plan, values, &state[start..end], g.child)

@@ -1,15 +1,16 @@
 // What the names hold, and the values of expressions.
-use script::entries::Part;
+use crate::plan;
 use script::layout::Script;
 ghost use mathlib.Core.Path.{_≡_};
-ghost use Prim.Native.Nat.{_≤_, _<_};
+ghost use Prim.Native.Nat.{_<_};
 ghost use lib.ListN.{length};
-ghost use Rattle.language.specs.Steps.{present, value, test};
+ghost use Rattle.language.specs.Steps.{present, test};
 ghost use Rattle.script.specs.Layout.{nameCount, expressionCount, nodeCount, Laid};
 ghost use Rattle.script.specs.Entries.{partOf, node};
-ghost use Rattle.script.specs.Tree.{constantOf, expressionOf};
+ghost use Rattle.script.specs.Tree.{expressionOf};
 ghost use Rattle.script.specs.Checked.{Checked};
-ghost use Rattle.runner.specs.Contracts.{applied};
+ghost use Rattle.runner.specs.Plan.{kindIn, operandIn, KeepsPlan};
+ghost use Rattle.runner.specs.Contracts.{applied, leafValue, Evaluable, IsValue};
 
 pub fn is_present(values: &[i32], a: usize) -> bool
     requires { ⌜ a < length (now values) ⌝ }
@@ -27,11 +28,16 @@ pub fn signal_is_present(s: &[u8], c: Script, values: &[i32], k: usize) -> bool
     is_present(values, p.a)
 }
 
-fn constant_of(p: Part) -> i32
-    requires { ⌜ (p .b ≤ 65535) × (p .c ≤ 65535) ⌝ }
-    ensures { λ r. ⌜ r ≡ constantOf p ⌝ }
+// A constant, or what a register holds.
+fn leaf_value(values: &[i32], w: usize) -> i32
+    requires { ⌜ (0 < kindIn w → operandIn w < length (now values)) ⌝ }
+    ensures { λ r. ⌜ r ≡ leafValue (now (values .entry)) w ⌝ }
 {
-    language::words::value_of_word((65536 * p.b + p.c) as u32)
+    if plan::kind_in(w) == 0 {
+        return language::words::value_of_word(plan::constant_in(w) as u32);
+    }
+    let x = plan::operand_in(w);
+    values[x]
 }
 
 // The result of a binary operator, which is what kinds 2 to 7 are.
@@ -56,31 +62,40 @@ fn operate(kind: usize, a: i32, b: i32) -> i32
     language::arithmetic::equal(a, b)
 }
 
-// The value of expression e.
-pub fn value_of(s: &[u8], c: Script, values: &[i32], e: usize) -> i32
-    requires { ⌜ Laid (now s) c × (Checked (now s) × ((length (now values) ≡ nameCount (now s)) × (e < expressionCount (now s)))) ⌝ }
-    ensures { λ r. ⌜ r ≡ value (expressionOf (now (s .entry)) e) (now (values .entry)) ⌝ }
+// The value of expression e as an operand. Most operands are constants and registers: they need no further call.
+fn operand(plan: &[usize; Script::MAX_PARTS], values: &[i32], e: usize) -> i32
+    requires { ⌜ Evaluable (now plan) (now values) e ⌝ }
+    ensures { λ r. ⌜ IsValue (now (plan .entry)) (now (values .entry)) e r ⌝ }
 {
-    let p = script::entries::part_at(s, c, e);
-    if p.kind == 0 {
-        return constant_of(p);
+    let w = plan[e];
+    if plan::kind_in(w) <= 1 {
+        return leaf_value(values, w);
     }
-    if p.kind == 1 {
-        let x = p.a;
-        return values[x];
+    value_of(plan, values, e)
+}
+
+// The value of expression e.
+pub fn value_of(plan: &[usize; Script::MAX_PARTS], values: &[i32], e: usize) -> i32
+    requires { ⌜ Evaluable (now plan) (now values) e ⌝ }
+    ensures { λ r. ⌜ IsValue (now (plan .entry)) (now (values .entry)) e r ⌝ }
+{
+    let w = plan[e];
+    let kind = plan::kind_in(w);
+    if kind <= 1 {
+        return leaf_value(values, w);
     }
-    let a = value_of(s, c, values, p.a);
-    if p.kind == 8 {
+    let a = operand(plan, values, plan::operand_in(w));
+    if kind == 8 {
         return language::arithmetic::not(a);
     }
-    let b = value_of(s, c, values, p.b);
-    operate(p.kind, a, b)
+    let b = operand(plan, values, plan::later_in(w));
+    operate(kind, a, b)
 }
 
 // Whether the test of expression e holds.
-pub fn test_holds(s: &[u8], c: Script, values: &[i32], e: usize) -> bool
-    requires { ⌜ Laid (now s) c × (Checked (now s) × ((length (now values) ≡ nameCount (now s)) × (e < expressionCount (now s)))) ⌝ }
+pub fn test_holds(s: &[u8], plan: &[usize; Script::MAX_PARTS], values: &[i32], e: usize) -> bool
+    requires { ⌜ Checked (now s) × (KeepsPlan (now s) (now plan) × ((length (now values) ≡ nameCount (now s)) × (e < expressionCount (now s)))) ⌝ }
     ensures { λ r. ⌜ r ≡ test (expressionOf (now (s .entry)) e) (now (values .entry)) ⌝ }
 {
-    value_of(s, c, values, e) != 0
+    value_of(plan, values, e) != 0
 }

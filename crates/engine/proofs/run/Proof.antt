@@ -21,7 +21,6 @@ use Rattle.script.specs.Entries.{nameOf}
 use Rattle.script.specs.Tree.{namesOf}
 use Rattle.script.proofs.Layouts.{few-bounds, names-are, nodes-are}
 use Rattle.script.proofs.Theorems.{accepted-exactly}
-use Rattle.runner.specs.Plan.{KeepsPlan}
 use Rattle.runner.specs.Contracts.{seenIn}
 use Rattle.runner.proofs.Residuals.{take-zeros}
 use Rattle.script.specs.Checked.{Checked, Levelled}
@@ -169,7 +168,7 @@ run-requires c κs =
     let started = run-accepted (now (start .args .book)) (now (start .args .script)) (start .args .reader) (now (start .args .values)) (start .args .limit) (passed ((c .before .before .before .before .before .before .before))) .1 in (
       record { laid = l; checked = file ((c .before .before .before .before .before .before .before .before .before .before .before .before .before)); named = started .named },
       (
-        subst (λ n. KeepsPlan (now (start .args .script)) n (c .before .before .before .before .before .before .find-plan .result)) (nodes-are l) (c .before .before .before .before .before .before .find-plan .ensures),
+        c .before .before .before .before .before .before .find-plan .ensures,
         (
           cleared (c .before .before .before .before .before .before .before .before .before .before .before .before .before .before .before .prepare .result .script .nodes) _ (few-bounds (c .before .before .before .before .before .before .before .before .before .before .before .before .before .before .before .prepare .result .script) (l .few) .1 .1 .1) (nodes-are l),
           (long-enough ((c .before .before .before)) (started .named), omega (arith, run-bounds (now (start .args .book)) (now (start .args .script)) (start .args .reader) (now (start .args .values)) (start .args .limit) (passed ((c .before .before .before .before .before .before .before))) .1)),

@@ -44,7 +44,7 @@ returns c =
 move-own-requires : tie.Need-move-own-requires
 move-own-requires c κs =
     let start = c .before .before .before .before .before .before .before .before .before .before .before .before .before in
-    (start .pre .0, (start .pre .1 .1 .0, (start .pre .1 .1 .1 .0, (start .pre .1 .1 .1 .1, ap (λ (f : Front). f .form) (sym (c .before .before .before .before .before .before .before .find-front .ensures)) ∙ c .before .before .before .if2 .taken))))
+    (start .pre .0, (start .pre .1 .0, (start .pre .1 .1 .0, (start .pre .1 .1 .1 .0, (start .pre .1 .1 .1 .1, ap (λ (f : Front). f .form) (sym (c .before .before .before .before .before .before .before .find-front .ensures)) ∙ c .before .before .before .if2 .taken)))))
 
 same-length : tie.Need-same-length
 same-length c = search needs

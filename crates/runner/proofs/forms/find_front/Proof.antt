@@ -8,7 +8,7 @@ use lib.Dec.{eqb}
 use lib.ListN.{getD}
 use borrow.Author.Tests.{eq-eqb, ne-eqb}
 use Rattle.prelude.proofs.Bools.{or-first, or-true}
-use Rattle.script.specs.Layout.{nodeCount}
+use Rattle.script.specs.Layout.{mostExpressions}
 use Rattle.script.specs.Entries.{partOf, node, firstChild}
 use Rattle.script.specs.Tree.{processOf, size}
 use Rattle.script.proofs.Layouts.{few-bounds, nodes-are}
@@ -31,11 +31,14 @@ returns c =
 few : (c : tie.Start) → c .args .k < 256
 few c = omega (arith, c .pre .1 .1 .1, nodes-are (c .pre .0), few-bounds (c .args .c) (c .pre .0 .few))
 
+add-w : tie.Need-add-w
+add-w c = search needs
+
 mul-w : tie.Need-mul-w
 mul-w c = search needs
 
 element-copy-out-w : tie.Need-element-copy-out-w
-element-copy-out-w c = few (c .before .before)
+element-copy-out-w c = omega (arith, few (c .before .before))
 
 wide-requires : tie.Need-wide-requires
 wide-requires c κs = search needs
@@ -48,8 +51,8 @@ cast-form c = search needs
 
 -- what the word tells
 told :
-    (c : tie.Start) → Planned (c .args .s .now) (c .args .k) (getD (c .args .plan .now) (c .args .k) 0)
-told c = c .pre .1 .1 .0 (c .args .k) (c .pre .1 .1 .1)
+    (c : tie.Start) → Planned (c .args .s .now) (c .args .k) (getD (c .args .plan .now) (mostExpressions + c .args .k) 0)
+told c = c .pre .1 .1 .0 .nodes (c .args .k) (c .pre .1 .1 .1)
 
 form-is :
     (c : tie.After-form-in) →
@@ -59,7 +62,7 @@ form-is :
 form-is c =
     let start = c .before .before .before .before .before in
     c .form-in .ensures
-    ∙ ap (formIn (getD (start .args .plan .now) (start .args .k) 0)) (c .before .wide .ensures)
+    ∙ ap (formIn (getD (start .args .plan .now) (mostExpressions + start .args .k) 0)) (c .before .wide .ensures)
     ∙ told start .forms (start .args .tag) (c .before .before .before .if1 .left)
 
 returns-2 : tie.Need-returns-2
@@ -133,6 +136,7 @@ find-front-spec =
     tie.close
     (tie.spec
     returns
+    add-w
     mul-w
     element-copy-out-w
     wide-requires

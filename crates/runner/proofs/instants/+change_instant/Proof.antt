@@ -1,5 +1,5 @@
 -- `change_instant`: by the form of the node, its part in front changes, and of a parallel the part behind it.
-use mathlib.Core.Path.{_≡_, sym, _∙_}
+use mathlib.Core.Path.{_≡_, sym, ap, _∙_}
 use mathlib.Core.Bool.{true, false}
 use mathlib.Core.Logic.{⊎-elim}
 use native.Mathlib.Omega.{arith}
@@ -18,6 +18,7 @@ use Rattle.runner.proofs.instants.change_instant.Reads as change-instan
 use Rattle.runner.proofs.instants.change_instant.Kinds as change-instant-kinds
 use Rattle.runner.proofs.instants.+change_instant.Lts-change_instant as change-instant-lts
 use Rattle.runner.proofs.forms.find_front.Reads as find-front-reads
+use Rattle.runner.proofs.forms.find_rear.Reads as find-rear-reads
 use Rattle.runner.proofs.values.signal_is_present.Reads as signal-is-present-reads
 use Rattle.runner.proofs.instants.+change_instant.{statement}
 use Rattle.runner.proofs.instants.+change_instant.Tie.{close}
@@ -49,6 +50,8 @@ R t = (
   signal-is-present-reads.Learnt,
   change-instant-below t,
   change-instant.Post,
+  find-rear-reads.Asked,
+  find-rear-reads.Learnt,
 )
 
 -- the node and its front
@@ -91,18 +94,18 @@ part t c =
 
 -- the part behind it, where the part in front has changed
 behind :
-    (t : ℕ) (c : change-instant-lts.After-find-front2 (R t) (change-instant-at t) change-instant.Post) →
+    (t : ℕ) (c : change-instant-lts.After-find-rear (R t) (change-instant-at t) change-instant.Post) →
     let first = c .before .before .before .before .before in
     let front = first .before .before .before .before .before .before .before .before in
     let args = front .before .before .before .before .args in
     let bytes = put (front .find-front .result) (args .state .now) (first .change-instant .last .1 .1 .1 .1 .0) in
-    Part (args .s .now) (args .k) bytes (c .find-front2 .result)
+    Part (args .s .now) (args .k) bytes (c .find-rear .result)
 behind t c =
     let first = c .before .before .before .before .before in
     let ahead = first .before .before .before .before .before .before in
     let one = first .change-instant in
     rear-after (found t (ahead .before .before)) (ahead .if1 .left) (one .last .1 .1 .1 .1 .0)
-    (one .kept .1 .1 .1 .1 .0) (c .before .if6 .taken) (c .find-front2 .ensures)
+    (one .kept .1 .1 .1 .1 .0) (c .before .if6 .taken) (c .find-rear .ensures)
 
 change-instant-slice-read-tag :
     (t : ℕ) → change-instant-lts.Need-slice-read-tag (R t) (change-instant-at t) change-instant.Post
@@ -175,18 +178,12 @@ change-instant-change-instant-requires t c κs =
     let pre = c .before .before .before .before .before .before .before .before .before .before .before .pre in
     (omega (arith, pre .0, part t (c .before) .earlier), (pre .1 .0, (pre .1 .1 .0, part t (c .before) .at)))
 
-change-instant-sub-find-front :
-    (t : ℕ) → change-instant-lts.Need-sub-find-front (R t) (change-instant-at t) change-instant.Post
-change-instant-sub-find-front t c =
-    let front = c .before .before .before .before .before .before .before .before .before .before .before .before in
-    rear-part (found t front) (c .if6 .taken) .byte
-
-change-instant-find-front-requires-2 :
-    (t : ℕ) → change-instant-lts.Need-find-front-requires-2 (R t) (change-instant-at t) change-instant.Post
-change-instant-find-front-requires-2 t c κs =
+change-instant-find-rear-requires :
+    (t : ℕ) → change-instant-lts.Need-find-rear-requires (R t) (change-instant-at t) change-instant.Post
+change-instant-find-rear-requires t c κs =
     let front = c .before .before .before .before .before .before .before .before .before .before .before .before in
     let pre = front .before .before .before .before .pre .1 in
-    (pre .0 .laid, (pre .0 .checked, (pre .1 .0, pre .1 .1 .known)))
+    ((pre .0 .laid, (pre .0 .checked, (pre .1 .0, pre .1 .1 .known))), (ap (λ f. f .form) (front .find-front .ensures), c .if6 .taken))
 
 change-instant-sub-change-instant-2 :
     (t : ℕ) → change-instant-lts.Need-sub-change-instant-2 (R t) (change-instant-at t) change-instant.Post
@@ -220,7 +217,7 @@ change-instant-same-length-2 t c =
     let one = first .change-instant in
     let two = second .change-instant2 in
     length-two (found t front) (ahead .if1 .left) (one .last .1 .1 .1 .1 .0) (one .kept .1 .1 .1 .1 .0)
-    (both .if6 .taken) (behind-it .find-front2 .ensures) (two .last .1 .1 .1 .1 .0) (two .kept .1 .1 .1 .1 .0)
+    (both .if6 .taken) (behind-it .find-rear .ensures) (two .last .1 .1 .1 .1 .0) (two .kept .1 .1 .1 .1 .0)
 
 change-instant-returns-4 : (t : ℕ) → change-instant-lts.Need-returns-4 (R t) (change-instant-at t) change-instant.Post
 change-instant-returns-4 t c =
@@ -233,7 +230,7 @@ change-instant-returns-4 t c =
     let one = first .change-instant in
     let two = second .change-instant2 in
     two-changed (found t front) (ahead .if1 .left) (one .last .1 .1 .1 .1 .0) (one .kept .1 .1 .1 .1 .0)
-    (both .if6 .taken) (behind-it .find-front2 .ensures) (two .last .1 .1 .1 .1 .0) (two .kept .1 .1 .1 .1 .0)
+    (both .if6 .taken) (behind-it .find-rear .ensures) (two .last .1 .1 .1 .1 .0) (two .kept .1 .1 .1 .1 .0)
     (one .ensures) (two .ensures)
 
 change-instant-same-length-3 :
@@ -273,8 +270,7 @@ pub +change-instant-spec : {M : Type 1} → statement M
     (change-instant-part-change-instant-start t)
     (change-instant-part-change-instant-end t)
     (change-instant-change-instant-requires t)
-    (change-instant-sub-find-front t)
-    (change-instant-find-front-requires-2 t)
+    (change-instant-find-rear-requires t)
     (change-instant-sub-change-instant-2 t)
     (change-instant-part-change-instant-start-2 t)
     (change-instant-part-change-instant-end-2 t)

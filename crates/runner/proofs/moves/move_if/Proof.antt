@@ -40,29 +40,29 @@ add-part-at c = search needs
 part-at-requires : tie.Need-part-at-requires
 part-at-requires c κs =
     let start = c .before .before .before in
-    (start .pre .0 .laid, omega (arith, start .pre .1 .0 .known, nodes-are (start .pre .0 .laid)))
+    (start .pre .0 .laid, omega (arith, start .pre .1 .1 .0 .known, nodes-are (start .pre .0 .laid)))
 
 test-holds-requires : tie.Need-test-holds-requires
 test-holds-requires c κs =
     let start = c .before .before .before .before in (
-      start .pre .0 .laid,
+      start .pre .0 .checked,
       (
-        start .pre .0 .checked,
+        start .pre .1 .0,
         (
           start .pre .0 .named,
           subst (λ (p : Part). p .a < expressionCount (now (start .args .s))) (sym (read c))
-              (known (now (start .args .s)) (start .pre .0 .checked) (start .args .k) (start .pre .1 .0 .known) (start .pre .1 .1 .0) .1 .known),
+              (known (now (start .args .s)) (start .pre .0 .checked) (start .args .k) (start .pre .1 .1 .0 .known) (start .pre .1 .1 .1 .0) .1 .known),
         ),
       ),
     )
 
 slice-write-state : tie.Need-slice-write-state
 slice-write-state c =
-    some-bytes (c .before .before .before .before .before .before .pre .1 .0)
+    some-bytes (c .before .before .before .before .before .before .pre .1 .1 .0)
 
 slice-write-state-2 : tie.Need-slice-write-state-2
 slice-write-state-2 c =
-    some-bytes (c .before .before .before .before .before .before .pre .1 .0)
+    some-bytes (c .before .before .before .before .before .before .pre .1 .1 .0)
 
 same-length : tie.Need-same-length
 same-length c = search needs
@@ -70,9 +70,9 @@ same-length c = search needs
 returns : tie.Need-returns
 returns c =
     let start = c .before .before .before .before .before .before in
-    then-moves (now (start .args .s)) (start .pre .0 .checked) (start .args .k) (start .pre .1 .0 .known)
-    (now (start .args .state)) (some-bytes (start .pre .1 .0)) (start .pre .1 .1 .1) (now (start .args .values))
-    (start .pre .1 .1 .0) (sym (tested ((c .before))) ∙ c .if1 .taken)
+    then-moves (now (start .args .s)) (start .pre .0 .checked) (start .args .k) (start .pre .1 .1 .0 .known)
+    (now (start .args .state)) (some-bytes (start .pre .1 .1 .0)) (start .pre .1 .1 .1 .1) (now (start .args .values))
+    (start .pre .1 .1 .1 .0) (sym (tested ((c .before))) ∙ c .if1 .taken)
 
 same-length-2 : tie.Need-same-length-2
 same-length-2 c = search needs
@@ -80,9 +80,9 @@ same-length-2 c = search needs
 returns-2 : tie.Need-returns-2
 returns-2 c =
     let start = c .before .before .before .before .before .before in
-    else-moves (now (start .args .s)) (start .pre .0 .checked) (start .args .k) (start .pre .1 .0 .known)
-    (now (start .args .state)) (some-bytes (start .pre .1 .0)) (start .pre .1 .1 .1) (now (start .args .values))
-    (start .pre .1 .1 .0) (sym (tested ((c .before))) ∙ c .if1 .left)
+    else-moves (now (start .args .s)) (start .pre .0 .checked) (start .args .k) (start .pre .1 .1 .0 .known)
+    (now (start .args .state)) (some-bytes (start .pre .1 .1 .0)) (start .pre .1 .1 .1 .1) (now (start .args .values))
+    (start .pre .1 .1 .1 .0) (sym (tested ((c .before))) ∙ c .if1 .left)
 
 pub move-if-spec : {M : Type 1} → statement M
 move-if-spec =

@@ -31,7 +31,14 @@ in-table c =
     let start = c .before .before .before .before in
     subst (λ (p : Part). p .a < length (now (start .args .values))) (sym (read c))
     (omega
-    (arith, known (now (start .args .s)) (start .pre .0 .checked) (start .args .k) (start .pre .1 .0 .known) (start .pre .1 .1 .0) .1 .0, start .pre .0 .named))
+    (arith, known (now (start .args .s)) (start .pre .0 .checked) (start .args .k) (start .pre .1 .1 .0 .known) (start .pre .1 .1 .1 .0) .1 .0, start .pre .0 .named))
+
+-- the expression is one of the script's
+valued-known : (c : tie.After-part-at) → c .part-at .result .b < expressionCount (now (c .before .before .before .before .args .s))
+valued-known c =
+    let start = c .before .before .before .before in
+    subst (λ (p : Part). p .b < expressionCount (now (start .args .s))) (sym (read c))
+    (known (now (start .args .s)) (start .pre .0 .checked) (start .args .k) (start .pre .1 .1 .0 .known) (start .pre .1 .1 .1 .0) .1 .1 .known)
 
 add-part-at : tie.Need-add-part-at
 add-part-at c = search needs
@@ -39,21 +46,18 @@ add-part-at c = search needs
 part-at-requires : tie.Need-part-at-requires
 part-at-requires c κs =
     let start = c .before .before .before in
-    (start .pre .0 .laid, omega (arith, start .pre .1 .0 .known, nodes-are (start .pre .0 .laid)))
+    (start .pre .0 .laid, omega (arith, start .pre .1 .1 .0 .known, nodes-are (start .pre .0 .laid)))
 
 value-of-requires : tie.Need-value-of-requires
 value-of-requires c κs =
-    let start = c .before .before .before .before .before in (
-      start .pre .0 .laid,
-      (
-        start .pre .0 .checked,
-        (
-          start .pre .0 .named,
-          subst (λ (p : Part). p .b < expressionCount (now (start .args .s))) (sym (read (c .before)))
-              (known (now (start .args .s)) (start .pre .0 .checked) (start .args .k) (start .pre .1 .0 .known) (start .pre .1 .1 .0) .1 .1 .known),
-        ),
-      ),
-    )
+    let start = c .before .before .before .before .before in
+    record {
+      script = now (start .args .s);
+      checked = start .pre .0 .checked;
+      kept = start .pre .1 .0;
+      named = start .pre .0 .named;
+      known = valued-known (c .before);
+    }
 
 mul-v : tie.Need-mul-v
 mul-v c =
@@ -68,7 +72,7 @@ slice-set-from-v c =
 
 slice-write-state : tie.Need-slice-write-state
 slice-write-state c =
-    some-bytes (c .before .before .before .before .before .before .pre .1 .0)
+    some-bytes (c .before .before .before .before .before .before .pre .1 .1 .0)
 
 same-length : tie.Need-same-length
 same-length c = search needs
@@ -79,10 +83,10 @@ same-length-2 c = search needs
 returns : tie.Need-returns
 returns c =
     let start = c .before .before .before .before .before .before in
-    rw (toZ-ofZ {w = w32} (record { sfits = c .value-of .ok }), c .value-of .ensures, read ((c .before .before)))
-    (let-moves (now (start .args .s)) (start .pre .0 .checked) (start .args .k) (start .pre .1 .0 .known)
-    (now (start .args .state)) (some-bytes (start .pre .1 .0)) (start .pre .1 .1 .1) (now (start .args .values))
-    (start .pre .1 .1 .0))
+    rw (toZ-ofZ {w = w32} (record { sfits = c .value-of .ok }), c .value-of .ensures (now (start .args .s)) (start .pre .0 .checked) (start .pre .1 .0) (valued-known (c .before .before)), read ((c .before .before)))
+    (let-moves (now (start .args .s)) (start .pre .0 .checked) (start .args .k) (start .pre .1 .1 .0 .known)
+    (now (start .args .state)) (some-bytes (start .pre .1 .1 .0)) (start .pre .1 .1 .1 .1) (now (start .args .values))
+    (start .pre .1 .1 .1 .0))
 
 pub move-let-spec : {M : Type 1} → statement M
 move-let-spec =

@@ -49,19 +49,19 @@ moves-itself :
     (own (now (c .args .state)) ≡ 0) × Mover (partOf (now (c .args .s)) (node (now (c .args .s)) (c .args .k)) .kind)
 moves-itself c =
     is-mover
-    (sight (now (c .args .s)) (c .pre .0 .checked) (c .args .k) (c .pre .1 .0 .known) (now (c .args .state)) (c .pre .1 .0 .whole))
-    (c .pre .1 .1 .1 .1)
+    (sight (now (c .args .s)) (c .pre .0 .checked) (c .args .k) (c .pre .1 .1 .0 .known) (now (c .args .state)) (c .pre .1 .1 .0 .whole))
+    (c .pre .1 .1 .1 .1 .1)
 
 lines-within : (c : tie.Start) → c .args .at .lines ≤ length (now (c .args .log)) / 4
-lines-within c = omega (arith, c .pre .1 .1 .0 .space)
+lines-within c = omega (arith, c .pre .1 .1 .1 .0 .space)
 
 returns : tie.Need-returns
 returns c =
     let start = c .before .before .before .before .before .before .before in
-    ended (start .pre .1 .1 .0 .time) (lines-within start) (λ e. absurd (omega (arith, e)))
-    (spent refl (mover-live (now (start .args .s)) (start .pre .0 .checked) (start .args .k) (start .pre .1 .0 .known)
-    (now (start .args .state)) (some-bytes (start .pre .1 .0)) (moves-itself start .0) (now (start .args .values)) (moves-itself start .1))
-    (le-antisymm (start .pre .1 .1 .0 .time) (c .if1 .taken)))
+    ended (start .pre .1 .1 .1 .0 .time) (lines-within start) (λ e. absurd (omega (arith, e)))
+    (spent refl (mover-live (now (start .args .s)) (start .pre .0 .checked) (start .args .k) (start .pre .1 .1 .0 .known)
+    (now (start .args .state)) (some-bytes (start .pre .1 .1 .0)) (moves-itself start .0) (now (start .args .values)) (moves-itself start .1))
+    (le-antisymm (start .pre .1 .1 .1 .0 .time) (c .if1 .taken)))
 
 add-part-at : tie.Need-add-part-at
 add-part-at c = search needs
@@ -69,37 +69,43 @@ add-part-at c = search needs
 part-at-requires : tie.Need-part-at-requires
 part-at-requires c κs =
     let start = c .before .before .before .before .before .before .before .before in
-    (start .pre .0 .laid, omega (arith, start .pre .1 .0 .known, nodes-are (start .pre .0 .laid)))
+    (start .pre .0 .laid, omega (arith, start .pre .1 .1 .0 .known, nodes-are (start .pre .0 .laid)))
+
+-- the expression of an assignment is one of the script's
+valued-known :
+    (c : tie.After-part-at) → c .part-at .result .kind ≡ 1 →
+    c .part-at .result .b < expressionCount (now (c .before .before .before .before .before .before .before .before .before .args .s))
+valued-known c e =
+    let start = c .before .before .before .before .before .before .before .before .before in
+    subst (λ (p : Part). p .b < expressionCount (now (start .args .s))) (sym (read c))
+    (known (now (start .args .s)) (start .pre .0 .checked) (start .args .k) (start .pre .1 .1 .0 .known) (kind-is c e) .1 .1 .known)
 
 value-of-requires : tie.Need-value-of-requires
 value-of-requires c κs =
-    let start = c .before .before .before .before .before .before .before .before .before .before .before .before in (
-      start .pre .0 .laid,
-      (
-        start .pre .0 .checked,
-        (
-          start .pre .0 .named,
-          subst (λ (p : Part). p .b < expressionCount (now (start .args .s))) (sym (read ((c .before .before .before))))
-              (known (now (start .args .s)) (start .pre .0 .checked) (start .args .k) (start .pre .1 .0 .known) (kind-is ((c .before .before .before)) (c .before .if2 .taken)) .1 .1 .known),
-        ),
-      ),
-    )
+    let start = c .before .before .before .before .before .before .before .before .before .before .before .before in
+    record {
+      script = now (start .args .s);
+      checked = start .pre .0 .checked;
+      kept = start .pre .1 .0;
+      named = start .pre .0 .named;
+      known = valued-known (c .before .before .before) (c .before .if2 .taken);
+    }
 
 write-requires : tie.Need-write-requires
 write-requires c κs =
     let start = c .before .before .before .before .before .before .before .before .before .before .before .before .before .before .before .before in
     let kind = kind-is ((c .before .before .before .before .before .before .before)) (c .before .before .before .before .before .if2 .taken) in
-    let name = in-table ((c .before .before .before .before .before .before .before)) (known (now (start .args .s)) (start .pre .0 .checked) (start .args .k) (start .pre .1 .0 .known) kind .1 .0) in (
-      start .pre .1 .0,
+    let name = in-table ((c .before .before .before .before .before .before .before)) (known (now (start .args .s)) (start .pre .0 .checked) (start .args .k) (start .pre .1 .1 .0 .known) kind .1 .0) in (
+      start .pre .1 .1 .0,
       (
-        rw (toZ-ofZ {w = w32} (record { sfits = c .before .before .before .value-of .ok }), c .before .before .before .value-of .ensures, read ((c .before .before .before .before .before .before .before)))
-            (assign-writes (now (start .args .s)) (start .pre .0 .checked) (start .args .k) (start .pre .1 .0 .known)
-            (now (start .args .state)) (some-bytes (start .pre .1 .0)) (moves-itself start .0) (now (start .args .values)) kind),
+        rw (toZ-ofZ {w = w32} (record { sfits = c .before .before .before .value-of .ok }), c .before .before .before .value-of .ensures (now (start .args .s)) (start .pre .0 .checked) (start .pre .1 .0) (valued-known (c .before .before .before .before .before .before .before) (c .before .before .before .before .before .if2 .taken)), read ((c .before .before .before .before .before .before .before)))
+            (assign-writes (now (start .args .s)) (start .pre .0 .checked) (start .args .k) (start .pre .1 .1 .0 .known)
+            (now (start .args .state)) (some-bytes (start .pre .1 .1 .0)) (moves-itself start .0) (now (start .args .values)) kind),
         (
-          start .pre .1 .1 .0,
+          start .pre .1 .1 .1 .0,
           (
             c .before .before .before .before .before .before .before .before .before .if1 .left,
-            (omega (arith, name, start .pre .0 .named), (omega (arith, name, names-are (start .pre .0 .laid), few-bounds (start .args .c) (start .pre .0 .laid .few)), omega (arith, name, start .pre .0 .named, start .pre .1 .1 .1 .0))),
+            (omega (arith, name, start .pre .0 .named), (omega (arith, name, names-are (start .pre .0 .laid), few-bounds (start .args .c) (start .pre .0 .laid .few)), omega (arith, name, start .pre .0 .named, start .pre .1 .1 .1 .1 .0))),
           ),
         ),
       ),
@@ -121,17 +127,17 @@ write-requires-2 : tie.Need-write-requires-2
 write-requires-2 c κs =
     let start = c .before .before .before .before .before .before .before .before .before .before .before .before .before .before .before .before in
     let kind = kind-is ((c .before .before .before .before .before .before .before)) (c .before .before .before .if3 .taken) in
-    let name = in-table ((c .before .before .before .before .before .before .before)) (known (now (start .args .s)) (start .pre .0 .checked) (start .args .k) (start .pre .1 .0 .known) kind .1) in (
-      start .pre .1 .0,
+    let name = in-table ((c .before .before .before .before .before .before .before)) (known (now (start .args .s)) (start .pre .0 .checked) (start .args .k) (start .pre .1 .1 .0 .known) kind .1) in (
+      start .pre .1 .1 .0,
       (
         rw (read ((c .before .before .before .before .before .before .before)))
-            (emit-writes (now (start .args .s)) (start .pre .0 .checked) (start .args .k) (start .pre .1 .0 .known)
-            (now (start .args .state)) (some-bytes (start .pre .1 .0)) (moves-itself start .0) (now (start .args .values)) kind),
+            (emit-writes (now (start .args .s)) (start .pre .0 .checked) (start .args .k) (start .pre .1 .1 .0 .known)
+            (now (start .args .state)) (some-bytes (start .pre .1 .1 .0)) (moves-itself start .0) (now (start .args .values)) kind),
         (
-          start .pre .1 .1 .0,
+          start .pre .1 .1 .1 .0,
           (
             c .before .before .before .before .before .before .before .before .before .if1 .left,
-            (omega (arith, name, start .pre .0 .named), (omega (arith, name, names-are (start .pre .0 .laid), few-bounds (start .args .c) (start .pre .0 .laid .few)), omega (arith, name, start .pre .0 .named, start .pre .1 .1 .1 .0))),
+            (omega (arith, name, start .pre .0 .named), (omega (arith, name, names-are (start .pre .0 .laid), few-bounds (start .args .c) (start .pre .0 .laid .few)), omega (arith, name, start .pre .0 .named, start .pre .1 .1 .1 .1 .0))),
           ),
         ),
       ),
@@ -152,12 +158,12 @@ returns-3 c = search needs
 move-silently-requires : tie.Need-move-silently-requires
 move-silently-requires c κs =
     let start = c .before .before .before .before .before .before .before .before .before .before .before .before .before .before .before in (
-      (start .pre .0, (start .pre .1 .0, (ap (λ (p : Part). p .kind) (read ((c .before .before .before .before .before .before))), moves-itself start .0))),
+      (start .pre .0, (start .pre .1 .0, (start .pre .1 .1 .0, (ap (λ (p : Part). p .kind) (read ((c .before .before .before .before .before .before))), moves-itself start .0)))),
       is-silent (subst Mover (sym (ap (λ (p : Part). p .kind) (read ((c .before .before .before .before .before .before))))) (moves-itself start .1)) (c .before .before .before .before .if2 .left) (c .before .before .if3 .left),
     )
 
-add-t34 : tie.Need-add-t34
-add-t34 c = search needs
+add-t35 : tie.Need-add-t35
+add-t35 c = search needs
 
 same-length-7 : tie.Need-same-length-7
 same-length-7 c = search needs
@@ -190,7 +196,7 @@ move-own-spec =
     same-length-6
     returns-3
     move-silently-requires
-    add-t34
+    add-t35
     same-length-7
     same-length-8
     returns-4)

@@ -6,25 +6,31 @@ use Rattle.runner.proofs.moves.move_silently.Statement.{statement}
 use Rattle.runner.proofs.moves.move_silently.Tie as tie
 
 move-let-requires : tie.Need-move-let-requires
-move-let-requires c κs = search needs
+move-let-requires c κs =
+    let pre = c .before .before .before .before .before .pre .0 in
+    (pre .0, (pre .1 .0, (pre .1 .1 .0, (sym (pre .1 .1 .1 .0) ∙ c .before .before .if1 .taken, pre .1 .1 .1 .1))))
 
 move-if-requires : tie.Need-move-if-requires
-move-if-requires c κs = search needs
+move-if-requires c κs =
+    let pre = c .before .before .before .before .before .before .pre .0 in
+    (pre .0, (pre .1 .0, (pre .1 .1 .0, (sym (pre .1 .1 .1 .0) ∙ c .before .before .if2 .taken, pre .1 .1 .1 .1))))
 
 move-while-requires : tie.Need-move-while-requires
-move-while-requires c κs = search needs
+move-while-requires c κs =
+    let pre = c .before .before .before .before .before .before .before .pre .0 in
+    (pre .0, (pre .1 .0, (pre .1 .1 .0, (sym (pre .1 .1 .1 .0) ∙ c .before .before .if3 .taken, pre .1 .1 .1 .1))))
 
 move-local-requires : tie.Need-move-local-requires
 move-local-requires c κs =
     let start = c .before .before .before .before .before .before .before in (
       start .pre .0 .0,
       (
-        start .pre .0 .1 .0,
+        start .pre .0 .1 .1 .0,
         (
-          sym (start .pre .0 .1 .1 .0)
+          sym (start .pre .0 .1 .1 .1 .0)
               ∙ ⊎-elim (λ e. absurd (c .before .before .before .before .if1 .left e)) (⊎-elim (λ e. absurd (c .before .before .before .if2 .left e)) (⊎-elim (λ e. absurd (c .before .before .if3 .left e)) (λ e. e)))
               (start .pre .1),
-          start .pre .0 .1 .1 .1,
+          start .pre .0 .1 .1 .1 .1,
         ),
       ),
     )

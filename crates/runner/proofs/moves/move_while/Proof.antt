@@ -41,35 +41,35 @@ add-part-at c = search needs
 part-at-requires : tie.Need-part-at-requires
 part-at-requires c κs =
     let start = c .before .before .before in
-    (start .pre .0 .laid, omega (arith, start .pre .1 .0 .known, nodes-are (start .pre .0 .laid)))
+    (start .pre .0 .laid, omega (arith, start .pre .1 .1 .0 .known, nodes-are (start .pre .0 .laid)))
 
 test-holds-requires : tie.Need-test-holds-requires
 test-holds-requires c κs =
     let start = c .before .before .before .before in (
-      start .pre .0 .laid,
+      start .pre .0 .checked,
       (
-        start .pre .0 .checked,
+        start .pre .1 .0,
         (
           start .pre .0 .named,
           subst (λ (p : Part). p .a < expressionCount (now (start .args .s))) (sym (read c))
-              (known (now (start .args .s)) (start .pre .0 .checked) (start .args .k) (start .pre .1 .0 .known) (start .pre .1 .1 .0) .1 .known),
+              (known (now (start .args .s)) (start .pre .0 .checked) (start .args .k) (start .pre .1 .1 .0 .known) (start .pre .1 .1 .1 .0) .1 .known),
         ),
       ),
     )
 
 slice-write-state : tie.Need-slice-write-state
 slice-write-state c =
-    some-bytes (c .before .before .before .before .before .before .pre .1 .0)
+    some-bytes (c .before .before .before .before .before .before .pre .1 .1 .0)
 
 sub-clear : tie.Need-sub-clear
 sub-clear c =
     let start = c .before .before .before .before .before .before in
-    rw (length-set (now (start .args .state)) 0 1) (some-bytes (start .pre .1 .0))
+    rw (length-set (now (start .args .state)) 0 1) (some-bytes (start .pre .1 .1 .0))
 
 part-clear-start : tie.Need-part-clear-start
 part-clear-start c =
     let start = c .before .before .before .before .before .before in
-    rw (length-set (now (start .args .state)) 0 1) (some-bytes (start .pre .1 .0))
+    rw (length-set (now (start .args .state)) 0 1) (some-bytes (start .pre .1 .1 .0))
 
 part-clear-end : tie.Need-part-clear-end
 part-clear-end c = search needs
@@ -79,21 +79,21 @@ clear-requires c κs = search needs
 
 slice-write-state-2 : tie.Need-slice-write-state-2
 slice-write-state-2 c =
-    some-bytes (c .before .before .before .before .before .before .pre .1 .0)
+    some-bytes (c .before .before .before .before .before .before .pre .1 .1 .0)
 
 same-length : tie.Need-same-length
 same-length c =
     let start = c .before .before .before .before .before .before .before .before .before .before in
-    cleared-long (now (start .args .s)) (start .pre .0 .checked) (start .args .k) (start .pre .1 .0 .known)
-    (now (start .args .state)) (some-bytes (start .pre .1 .0)) (start .pre .1 .1 .1) (now (start .args .values))
-    (start .pre .1 .1 .0) (start .pre .1 .0 .whole) (c .before .before .clear .last .0) (c .before .before .clear .ensures)
+    cleared-long (now (start .args .s)) (start .pre .0 .checked) (start .args .k) (start .pre .1 .1 .0 .known)
+    (now (start .args .state)) (some-bytes (start .pre .1 .1 .0)) (start .pre .1 .1 .1 .1) (now (start .args .values))
+    (start .pre .1 .1 .1 .0) (start .pre .1 .1 .0 .whole) (c .before .before .clear .last .0) (c .before .before .clear .ensures)
 
 returns : tie.Need-returns
 returns c =
     let start = c .before .before .before .before .before .before .before .before .before .before in
-    round-moves (now (start .args .s)) (start .pre .0 .checked) (start .args .k) (start .pre .1 .0 .known)
-    (now (start .args .state)) (some-bytes (start .pre .1 .0)) (start .pre .1 .1 .1) (now (start .args .values))
-    (start .pre .1 .1 .0) (start .pre .1 .0 .whole) (c .before .before .clear .last .0) (c .before .before .clear .ensures) (sym (tested ((c .before .before .before .before .before))) ∙ c .before .before .before .before .if1 .taken)
+    round-moves (now (start .args .s)) (start .pre .0 .checked) (start .args .k) (start .pre .1 .1 .0 .known)
+    (now (start .args .state)) (some-bytes (start .pre .1 .1 .0)) (start .pre .1 .1 .1 .1) (now (start .args .values))
+    (start .pre .1 .1 .1 .0) (start .pre .1 .1 .0 .whole) (c .before .before .clear .last .0) (c .before .before .clear .ensures) (sym (tested ((c .before .before .before .before .before))) ∙ c .before .before .before .before .if1 .taken)
 
 same-length-2 : tie.Need-same-length-2
 same-length-2 c = search needs
@@ -101,9 +101,9 @@ same-length-2 c = search needs
 returns-2 : tie.Need-returns-2
 returns-2 c =
     let start = c .before .before .before .before .before .before in
-    done-moves (now (start .args .s)) (start .pre .0 .checked) (start .args .k) (start .pre .1 .0 .known)
-    (now (start .args .state)) (some-bytes (start .pre .1 .0)) (start .pre .1 .1 .1) (now (start .args .values))
-    (start .pre .1 .1 .0) (sym (tested ((c .before))) ∙ c .if1 .left)
+    done-moves (now (start .args .s)) (start .pre .0 .checked) (start .args .k) (start .pre .1 .1 .0 .known)
+    (now (start .args .state)) (some-bytes (start .pre .1 .1 .0)) (start .pre .1 .1 .1 .1) (now (start .args .values))
+    (start .pre .1 .1 .1 .0) (sym (tested ((c .before))) ∙ c .if1 .left)
 
 pub move-while-spec : {M : Type 1} → statement M
 move-while-spec =

@@ -1,19 +1,20 @@
--- `find_plan`: the table has the words of the nodes below k.
-use mathlib.Core.Path.{_≡_, refl, _∙_}
-use Prim.Native.Nat.{_-_, _≤_, _<_}
+-- `find_plan`: the table has the words of the expressions, and of the nodes below k.
+use mathlib.Core.Path.{_≡_, refl, sym, _∙_}
+use Prim.Native.Nat.{_+_, _-_, _≤_, _<_}
 use native.Mathlib.Omega.{arith}
 use lib.ListN.{length, length-set}
 use borrow.Author.Count.{below-none}
-use Rattle.script.specs.Layout.{mostNodes}
-use Rattle.script.proofs.Layouts.{few-bounds}
-use Rattle.runner.specs.Plan.{KeepsPlan}
-use Rattle.runner.proofs.Plans.{plan-more}
+use Rattle.script.specs.Layout.{mostExpressions, mostParts, expressionCount}
+use Rattle.script.proofs.Layouts.{few-bounds, expressions-are, nodes-are}
+use Rattle.runner.specs.Plan.{KeepsExpressions, KeepsNodes}
+use Rattle.runner.proofs.Plans.{nodes-more, expressions-kept}
 use borrow.Author.Needs.{needs, fits-under}
 use Rattle.runner.proofs.plan.find_plan.Statement.{statement}
 use Rattle.runner.proofs.plan.find_plan.Tie as tie
 
 abbrev Inv-loop : tie.InvT-loop
-Inv-loop s c sizes plan₀ n k₀ plan k = (k ≤ n) × ((length plan ≡ mostNodes) × KeepsPlan s k plan)
+Inv-loop s c sizes plan₀ n k₀ plan k =
+    (k ≤ n) × ((length plan ≡ mostParts) × (KeepsExpressions s (expressionCount s) plan × KeepsNodes s k plan))
 
 abbrev μ-loop : tie.MeasureT-loop
 μ-loop s c sizes plan₀ n k₀ plan k = n - k
@@ -21,18 +22,24 @@ abbrev μ-loop : tie.MeasureT-loop
 find-sizes-requires : tie.Need-find-sizes-requires Inv-loop μ-loop
 find-sizes-requires c κs = search needs
 
+find-expressions-requires : tie.Need-find-expressions-requires Inv-loop μ-loop
+find-expressions-requires c κs = search needs
+
 loop-holds : tie.Need-loop-holds Inv-loop μ-loop
-loop-holds c = (search needs, (refl, below-none _))
+loop-holds c = (search needs, (search needs, (c .find-expressions .ensures, below-none _)))
 
-word-of-requires : tie.Need-word-of-requires Inv-loop μ-loop
-word-of-requires c κs =
-    let start = c .before .before .before .before .before in
-    (start .pre .0, (start .pre .1, (c .before .before .before .find-sizes .ensures, c .before .loop-test .taken)))
-
-inside : (c : tie.After-word-of Inv-loop μ-loop) → c .before .before .before .loop .k < mostNodes
-inside c =
+node-word-requires : tie.Need-node-word-requires Inv-loop μ-loop
+node-word-requires c κs =
     let start = c .before .before .before .before .before .before in
+    (start .pre .0, (start .pre .1, (c .before .before .before .before .find-sizes .ensures, c .before .loop-test .taken)))
+
+inside : (c : tie.After-node-word Inv-loop μ-loop) → mostExpressions + c .before .before .before .loop .k < mostParts
+inside c =
+    let start = c .before .before .before .before .before .before .before in
     omega (arith, c .before .before .loop-test .taken, few-bounds (start .args .c) (start .pre .0 .few))
+
+add-plan : tie.Need-add-plan Inv-loop μ-loop
+add-plan c = fits-under _ _ 512 (omega (arith, inside c)) tt
 
 mul-plan : tie.Need-mul-plan Inv-loop μ-loop
 mul-plan c = fits-under _ _ 4096 (omega (arith, inside c)) tt
@@ -48,16 +55,28 @@ loop-less c = search needs
 
 loop-again : tie.Need-loop-again Inv-loop μ-loop
 loop-again c =
-    let loop = c .before .before .before .loop in (
+    let start = c .before .before .before .before .before .before .before in
+    let s = start .args .s .now in
+    let loop = c .before .before .before .loop in
+    let w = c .node-word .result in
+    let few : expressionCount s ≤ mostExpressions =
+    omega (arith, expressions-are (start .pre .0), few-bounds (start .args .c) (start .pre .0 .few)) in (
       search needs,
       (
-        length-set (loop .plan) (loop .k) (c .word-of .result) ∙ loop .inv .1 .0,
-        plan-more _ (loop .plan) (loop .k) _ (omega (arith, loop .inv .1 .0, inside c)) (c .word-of .ensures) (loop .inv .1 .1),
+        length-set (loop .plan) (mostExpressions + loop .k) w ∙ loop .inv .1 .0,
+        (
+          expressions-kept s (loop .plan) (loop .k) w (expressionCount s) few (loop .inv .1 .1 .0),
+          nodes-more s (loop .plan) (loop .k) w (omega (arith, loop .inv .1 .0, inside c)) (c .node-word .ensures) (loop .inv .1 .1 .1),
+        ),
       ),
     )
 
 returns : tie.Need-returns Inv-loop μ-loop
-returns c k l = c .before .loop .inv .1 .1 k (omega (arith, c .loop-test .left))
+returns c =
+    record {
+      expressions = c .before .loop .inv .1 .1 .0;
+      nodes = λ k l. c .before .loop .inv .1 .1 .1 k (omega (arith, l, c .loop-test .left, nodes-are (c .before .before .before .before .before .pre .0)));
+    }
 
 pub find-plan-spec : {M : Type 1} → statement M
 find-plan-spec =
@@ -66,8 +85,10 @@ find-plan-spec =
     Inv-loop
     μ-loop
     find-sizes-requires
+    find-expressions-requires
     loop-holds
-    word-of-requires
+    node-word-requires
+    add-plan
     mul-plan
     array-write-plan
     add-k

@@ -22,6 +22,7 @@ use Rattle.runner.proofs.suspension.rear_waits.Reads as rear-waits
 use Rattle.runner.proofs.suspension.rear_waits.Kinds as rear-waits-kinds
 use Rattle.runner.proofs.suspension.+is_suspended+rear_waits.Lts-rear_waits as rear-waits-lts
 use Rattle.runner.proofs.forms.find_front.Reads as find-front-reads
+use Rattle.runner.proofs.forms.find_rear.Reads as find-rear-reads
 use Rattle.runner.proofs.values.signal_is_present.Reads as signal-is-present-reads
 use Rattle.runner.proofs.suspension.+is_suspended+rear_waits.{statement}
 use Rattle.runner.proofs.suspension.+is_suspended+rear_waits.Tie.{close}
@@ -65,7 +66,7 @@ R t = (
 )
 
 abbrev Q : ℕ → rear-waits-lts.Claims
-Q t = (find-front-reads.Asked, find-front-reads.Learnt, is-suspended-below t, is-suspended.Post)
+Q t = (find-rear-reads.Asked, find-rear-reads.Learnt, is-suspended-below t, is-suspended.Post)
 
 -- the node and its front
 found :
@@ -179,10 +180,10 @@ rear t c =
     rear-part (record { valued = pre .0 .0; at = pre .0 .1 .1; front = refl }) (omega (arith, pre .1, c .if1 .left))
 
 behind :
-    (t : ℕ) (c : rear-waits-lts.After-find-front (Q t) (rear-waits-at t) rear-waits.Post) →
+    (t : ℕ) (c : rear-waits-lts.After-find-rear (Q t) (rear-waits-at t) rear-waits.Post) →
     let args = c .before .before .before .before .before .args in
-    Part (args .s .now) (args .k) (args .state .now) (c .find-front .result)
-behind t c = rw (c .find-front .ensures) (rear t (c .before .before) .part)
+    Part (args .s .now) (args .k) (args .state .now) (c .find-rear .result)
+behind t c = rw (c .find-rear .ensures) (rear t (c .before .before) .part)
 
 rear-waits-returns : (t : ℕ) → rear-waits-lts.Need-returns (Q t) (rear-waits-at t) rear-waits.Post
 rear-waits-returns t c = record { none = λ h. refl; other = λ h. absurd (omega (arith, c .if1 .taken)) }
@@ -191,14 +192,12 @@ rear-waits-shared-slice-read-tag :
     (t : ℕ) → rear-waits-lts.Need-shared-slice-read-tag (Q t) (rear-waits-at t) rear-waits.Post
 rear-waits-shared-slice-read-tag t c = some-bytes (c .before .before .before .before .pre .1 .0 .1 .1)
 
-rear-waits-sub-find-front : (t : ℕ) → rear-waits-lts.Need-sub-find-front (Q t) (rear-waits-at t) rear-waits.Post
-rear-waits-sub-find-front t c = rear t (c .before) .byte
-
-rear-waits-find-front-requires :
-    (t : ℕ) → rear-waits-lts.Need-find-front-requires (Q t) (rear-waits-at t) rear-waits.Post
-rear-waits-find-front-requires t c κs =
-    let pre = c .before .before .before .before .pre .1 .0 in
-    (pre .0 .laid, (pre .0 .checked, (pre .1 .0, pre .1 .1 .known)))
+rear-waits-find-rear-requires :
+    (t : ℕ) → rear-waits-lts.Need-find-rear-requires (Q t) (rear-waits-at t) rear-waits.Post
+rear-waits-find-rear-requires t c κs =
+    let start = c .before .before .before .before in
+    let pre = start .pre .1 .0 in
+    ((pre .0 .laid, (pre .0 .checked, (pre .1 .0, pre .1 .1 .known))), (start .pre .1 .1, c .before .if1 .left))
 
 rear-waits-sub-is-suspended : (t : ℕ) → rear-waits-lts.Need-sub-is-suspended (Q t) (rear-waits-at t) rear-waits.Post
 rear-waits-sub-is-suspended t c = behind t c .order
@@ -223,7 +222,7 @@ rear-waits-returns-2 t c =
     let front = c .before .before in
     let ahead = front .before .before in
     let args = ahead .before .before .before .args in
-    let rear = front .find-front .ensures in
+    let rear = front .find-rear .ensures in
     record {
       none = λ h. absurd (omega (arith, ahead .if1 .left));
       other =
@@ -254,8 +253,7 @@ pub +is-suspended+rear-waits-spec : {M : Type 1} → statement M
     rear-waits.Post
     (rear-waits-returns t)
     (rear-waits-shared-slice-read-tag t)
-    (rear-waits-sub-find-front t)
-    (rear-waits-find-front-requires t)
+    (rear-waits-find-rear-requires t)
     (rear-waits-sub-is-suspended t)
     (rear-waits-part-is-suspended-start t)
     (rear-waits-part-is-suspended-end t)

@@ -2,15 +2,24 @@
 use mathlib.Core.Path.{ap, _∙_}
 use Rattle.language.specs.Values.{holds}
 use Rattle.language.proofs.Bits.{test-by-bits}
-use borrow.Author.Needs.{needs}
 use Rattle.runner.proofs.values.test_holds.Statement.{statement}
 use Rattle.runner.proofs.values.test_holds.Tie as tie
 
 value-of-requires : tie.Need-value-of-requires
-value-of-requires c κs = search needs
+value-of-requires c κs =
+    record {
+      script = c .before .args .s .now;
+      checked = c .before .pre .0;
+      kept = c .before .pre .1 .0;
+      named = c .before .pre .1 .1 .0;
+      known = c .before .pre .1 .1 .1;
+    }
 
 returns : tie.Need-returns
-returns c = test-by-bits (c .value-of .result) (c .value-of .ok) ∙ ap holds (c .value-of .ensures)
+returns c =
+    let start = c .before .before in
+    test-by-bits (c .value-of .result) (c .value-of .ok)
+    ∙ ap holds (c .value-of .ensures (start .args .s .now) (start .pre .0) (start .pre .1 .0) (start .pre .1 .1 .1))
 
 pub test-holds-spec : {M : Type 1} → statement M
 test-holds-spec = tie.close (tie.spec value-of-requires returns)

@@ -1,4 +1,4 @@
--- `word_of`: the entry, its children and the size of the first, packed.
+-- `node_word`: the entry, its children and the size of the first, packed.
 use mathlib.Core.Path.{_≡_, sym, ap, _∙_, subst}
 use Prim.Native.Nat.{_+_, _<_}
 use native.Mathlib.Omega.{arith}
@@ -12,8 +12,8 @@ use Rattle.runner.proofs.Reading.{node-read}
 use Rattle.runner.proofs.Fronts.{kind-known}
 use Rattle.runner.proofs.Plans.{forms-fit, planned}
 use borrow.Author.Needs.{needs}
-use Rattle.runner.proofs.plan.word_of.Statement.{statement}
-use Rattle.runner.proofs.plan.word_of.Tie as tie
+use Rattle.runner.proofs.plan.node_word.Statement.{statement}
+use Rattle.runner.proofs.plan.node_word.Tie as tie
 
 add-part-at : tie.Need-add-part-at
 add-part-at c = search needs
@@ -70,8 +70,8 @@ returns c =
     (parts .result .first) (parts .result .second) _ (parts .ensures .0) (parts .ensures .1)
     (λ h. start .pre .1 .1 .0 _ (omega (arith, h, start .pre .1 .1 .1)) ∙ ap (λ j. size (processOf s j)) (omega (arith, h, start .pre .1 .1 .1, few))))
 
-pub word-of-spec : {M : Type 1} → statement M
-word-of-spec =
+pub node-word-spec : {M : Type 1} → statement M
+node-word-spec =
     tie.close
     (tie.spec
     add-part-at
