@@ -13,3 +13,4 @@ pub mod Scoping
 pub mod NodeSizes
 pub mod Theorems
 pub mod Worked
+pub mod Packing
