@@ -127,7 +127,7 @@ module _ (s : List ℕ) (join meet : List (List ℕ)) where
           (u l p : ℕ)
           (up : Swept (atOrBelow (b .rows)) (b .count) join u)
           (d : Book)
-          (turned : (d .count ≡ b .count) × (d .rows ≡ converseRows (b .rows)))
+          (turned : (d .count ≡ b .count) × (d .rows ≡ converseRows (b .rows) (b .count)))
           (down : Swept (atOrBelow (d .rows)) (d .count) meet l)
           (lesser : p ≡ cond (leb u l) u l)
         where
@@ -139,10 +139,10 @@ module _ (s : List ℕ) (join meet : List (List ℕ)) where
 
           down′ : Swept (converse (atOrBelow (rows s))) (count s) meet l
           down′ =
-              swept-same (atOrBelow (converseRows (rows s))) (converse (atOrBelow (rows s))) (count s)
-              (λ i j u v. upside-down (rows s) i j (omega (arith, few s size)) (omega (arith, few s size)))
+              swept-same (atOrBelow (converseRows (rows s) (count s))) (converse (atOrBelow (rows s))) (count s)
+              (λ i j u v. upside-down (rows s) (count s) i j (omega (arith, few s size)) v)
               meet l
-              (subst (λ x. Swept (atOrBelow (converseRows (x .rows))) (x .count) meet l) read
+              (subst (λ x. Swept (atOrBelow (converseRows (x .rows) (x .count))) (x .count) meet l) read
               (subst (λ x. Swept (atOrBelow x) (b .count) meet l) (turned .1)
               (subst (λ k. Swept (atOrBelow (d .rows)) k meet l) (turned .0) down)))
 

@@ -43,7 +43,8 @@ module _ (rs : List ℕ) (n i j : ℕ) where
   pub no-gap : atOrBelow rs i j ≡ false → any (gap (atOrBelow rs) i j) n ≡ false
   no-gap h = any-none (gap (atOrBelow rs) i j) n (λ m l. ap (λ b. b && (atOrBelow rs j m && not (atOrBelow rs i m))) h)
 
-pub upside-down : (rs : List ℕ) (i j : ℕ) → i < mostLevels → j < mostLevels → atOrBelow (converseRows rs) i j ≡ atOrBelow rs j i
+pub upside-down :
+    (rs : List ℕ) (n i j : ℕ) → i < mostLevels → j < n → atOrBelow (converseRows rs n) i j ≡ atOrBelow rs j i
 unfolding converseRows
-upside-down rs i j a b =
-    ap (λ set. has set j) (table-at _ mostLevels i 0 a) ∙ set-is (λ k. atOrBelow rs k i) mostLevels j b
+upside-down rs n i j a b =
+    ap (λ set. has set j) (table-at _ mostLevels i 0 a) ∙ set-is (λ k. atOrBelow rs k i) n j b

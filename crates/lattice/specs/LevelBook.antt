@@ -30,9 +30,9 @@ rows s = table (row s) mostLevels
 abbrev pub atOrBelow : List ℕ → ℕ → ℕ → Bool
 atOrBelow rs i j = has (getD rs i 0) j
 
--- the rows of the order upside down: row j is the set of the levels that are at or below level j
-unfoldable pub converseRows : List ℕ → List ℕ
-converseRows rs = table (λ j. setOf (λ i. atOrBelow rs i j) mostLevels) mostLevels
+-- the rows of the order of n levels upside down: row j is the set of the levels that are at or below level j
+unfoldable pub converseRows : List ℕ → ℕ → List ℕ
+converseRows rs n = table (λ j. setOf (λ i. atOrBelow rs i j) n) mostLevels
 
 -- the order of a book, or the same upside down
 abbrev pub facing : List ℕ → Bool → ℕ → ℕ → Bool

@@ -43,27 +43,28 @@ pub fn any_outside(set: u16, other: u16, n: usize) -> bool
     both % end != all % end
 }
 
-// The levels that are at or below level j.
-fn levels_below(rows: &[u16; Book::MAX_LEVELS], j: usize) -> u16
-    requires { ⌜ j < mostLevels ⌝ }
-    ensures { λ r. ⌜ r ≡ setOf (λ i. atOrBelow (now (rows .entry)) i j) mostLevels ⌝ }
+// Of the first n levels, those that are at or below level j.
+fn levels_below(rows: &[u16; Book::MAX_LEVELS], n: usize, j: usize) -> u16
+    requires { ⌜ (j < mostLevels) × (n ≤ mostLevels) ⌝ }
+    ensures { λ r. ⌜ r ≡ setOf (λ i. atOrBelow (now (rows .entry)) i j) n ⌝ }
 {
     let mut set: u16 = 0;
     let mut i: usize = 0;
-    while i < Book::MAX_LEVELS {
+    while i < n {
         set += ((rows[i] >> j) % 2) << i;
         i += 1;
     }
     set
 }
 
-fn converse_rows(rows: &[u16; Book::MAX_LEVELS]) -> [u16; Book::MAX_LEVELS]
-    ensures { λ r. ⌜ r ≡ converseRows (now (rows .entry)) ⌝ }
+fn converse_rows(rows: &[u16; Book::MAX_LEVELS], n: usize) -> [u16; Book::MAX_LEVELS]
+    requires { ⌜ n ≤ mostLevels ⌝ }
+    ensures { λ r. ⌜ r ≡ converseRows (now (rows .entry)) n ⌝ }
 {
     let mut filled = [0u16; Book::MAX_LEVELS];
     let mut j: usize = 0;
     while j < Book::MAX_LEVELS {
-        filled[j] = levels_below(rows, j);
+        filled[j] = levels_below(rows, n, j);
         j += 1;
     }
     filled
@@ -71,11 +72,13 @@ fn converse_rows(rows: &[u16; Book::MAX_LEVELS]) -> [u16; Book::MAX_LEVELS]
 
 // The book upside down: its upper levels are the lower levels of the book.
 pub fn converse_of(b: Book) -> Book
-    ensures { λ r. ⌜ (r .count ≡ b .count) × (r .rows ≡ converseRows (b .rows)) ⌝ }
+    requires { ⌜ b .count ≤ mostLevels ⌝ }
+    ensures { λ r. ⌜ (r .count ≡ b .count) × (r .rows ≡ converseRows (b .rows) (b .count)) ⌝ }
 {
+    let n = b.count;
     let rows = b.rows;
     Book {
-        count: b.count,
-        rows: converse_rows(&rows),
+        count: n,
+        rows: converse_rows(&rows, n),
     }
 }

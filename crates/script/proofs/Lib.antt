@@ -14,3 +14,4 @@ pub mod Declaring
 pub mod NodeSizes
 pub mod Theorems
 pub mod Worked
+pub mod Packing

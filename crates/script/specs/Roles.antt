@@ -1,6 +1,6 @@
 -- 01, 'Script file': what the fields a, b and c of each kind of entry hold.
 use mathlib.Core.List.{List, [], _∷_}
-use Prim.Native.Nat.{ℕ}
+use Prim.Native.Nat.{ℕ, _+_, _*_}
 use lib.ListN.{getD}
 
 -- 'each unused field is 0'
@@ -82,3 +82,7 @@ nodeKinds = 11
 -- the role of a field in the row of its kind; past the table every field is unused
 abbrev pub roleIn : List Row → ℕ → ℕ → ℕ
 roleIn rows kind f = getD (getD rows kind []) f unused
+
+-- a row as a number: a in the lowest four bits, then b, then c
+abbrev pub packed : Row → ℕ
+packed row = getD row 0 unused + 16 * getD row 1 unused + 256 * getD row 2 unused

@@ -17,7 +17,7 @@ ghost use Rattle.script.specs.Refusals.{newOf, declares, nameIsRight, ki
 ghost use Rattle.script.specs.Reach.{isNew};
 
 // The role of a field that declares a name of this kind.
-fn new_of(kind: usize) -> u8
+fn new_of(kind: usize) -> u16
     ensures { λ r. ⌜ r ≡ newOf kind ⌝ }
 {
     if kind == 0 {
@@ -75,7 +75,7 @@ pub fn first_wrong_name(s: &[u8], c: Script, levels: usize) -> usize
 }
 
 // The kind of the names that a field of this role holds.
-fn kind_for(role: u8) -> usize
+fn kind_for(role: u16) -> usize
     ensures { λ r. ⌜ r ≡ kindFor role ⌝ }
 {
     if role == roles::REGISTER {
@@ -87,7 +87,7 @@ fn kind_for(role: u8) -> usize
     1
 }
 
-pub fn is_new(role: u8) -> bool
+pub fn is_new(role: u16) -> bool
     ensures { λ r. ⌜ r ≡ isNew role ⌝ }
 {
     if role == roles::NEW_REGISTER {

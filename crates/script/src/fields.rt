@@ -10,11 +10,11 @@ ghost use Rattle.script.specs.Entries.{fieldCount, roleOf, fieldOf};
 
 // One of the fields a, b, c.
 pub struct Field {
-    pub role: u8,
+    pub role: u16,
     pub value: usize,
 }
 
-fn role_of(expressions: usize, q: usize, kind: usize, f: usize) -> u8
+fn role_of(expressions: usize, q: usize, kind: usize, f: usize) -> u16
     requires { ⌜ f < fieldCount ⌝ }
     ensures { λ r. ⌜ r ≡ roleOf expressions q kind f ⌝ }
 {

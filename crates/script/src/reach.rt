@@ -89,7 +89,7 @@ pub fn find_reach(s: &[u8], c: Script) -> [u64; Script::MAX_PARTS]
     sets
 }
 
-fn is_use(role: u8) -> bool
+fn is_use(role: u16) -> bool
     ensures { λ r. ⌜ r ≡ isUse role ⌝ }
 {
     if role == roles::REGISTER {

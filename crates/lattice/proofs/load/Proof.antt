@@ -50,7 +50,7 @@ sweep-requires : tie.Need-sweep-requires
 sweep-requires c κs = (small (c .before .before .before), c .before .before .before .before .before .before .before .pre .0)
 
 converse-of-requires : tie.Need-converse-of-requires
-converse-of-requires c κs = search needs
+converse-of-requires c κs = small (c .before .before .before .before)
 
 sweep-requires-2 : tie.Need-sweep-requires-2
 sweep-requires-2 c κs = (omega (arith, small ((c .before .before .before .before .before .before)), c .before .converse-of .ensures .0), c .before .before .before .before .before .before .before .before .before .before .pre .1)

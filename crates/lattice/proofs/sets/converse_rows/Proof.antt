@@ -11,12 +11,12 @@ use Rattle.lattice.proofs.sets.converse_rows.Statement.{statement}
 use Rattle.lattice.proofs.sets.converse_rows.Tie as tie
 
 abbrev Inv-loop : tie.InvT-loop
-Inv-loop rows filled₀ j₀ filled j =
+Inv-loop rows n filled₀ j₀ filled j =
     (j ≤ mostLevels)
-    × ((length filled ≡ mostLevels) × (take j filled ≡ table (λ k. setOf (λ i. atOrBelow rows i k) mostLevels) j))
+    × ((length filled ≡ mostLevels) × (take j filled ≡ table (λ k. setOf (λ i. atOrBelow rows i k) n) j))
 
 abbrev μ-loop : tie.MeasureT-loop
-μ-loop rows filled₀ j₀ filled j = mostLevels - j
+μ-loop rows n filled₀ j₀ filled j = mostLevels - j
 
 loop-holds : tie.Need-loop-holds Inv-loop μ-loop
 loop-holds c = (search needs, (refl, fill-none _))

@@ -14,10 +14,10 @@ use Rattle.lattice.proofs.sets.levels_below.Statement.{statement}
 use Rattle.lattice.proofs.sets.levels_below.Tie as tie
 
 abbrev Inv-loop : tie.InvT-loop
-Inv-loop rows j set₀ i₀ set i = (i ≤ mostLevels) × (set ≡ setOf (λ k. atOrBelow rows k j) i)
+Inv-loop rows n j set₀ i₀ set i = (i ≤ n) × (set ≡ setOf (λ k. atOrBelow rows k j) i)
 
 abbrev μ-loop : tie.MeasureT-loop
-μ-loop rows j set₀ i₀ set i = mostLevels - i
+μ-loop rows n j set₀ i₀ set i = n - i
 
 -- the set with level i, if it is at or below j
 module _ (rows : List ℕ) (j i set : ℕ) (h : i < mostLevels) (e : set ≡ setOf (λ k. atOrBelow rows k j) i) where
@@ -56,7 +56,7 @@ shl-set c = search needs
 add-set : tie.Need-add-set Inv-loop μ-loop
 add-set c =
     let a = c .before .before .before .args in
-    record { fits = next-fits (a .rows .now) (a .j) _ _ (c .before .loop-test .taken) (c .before .before .loop .inv .1) }
+    record { fits = next-fits (a .rows .now) (a .j) _ _ (search needs) (c .before .before .loop .inv .1) }
 
 add-i : tie.Need-add-i Inv-loop μ-loop
 add-i c = search needs
@@ -67,7 +67,7 @@ loop-less c = search needs
 loop-again : tie.Need-loop-again Inv-loop μ-loop
 loop-again c = (
   search needs,
-  next (c .before .before .before .args .rows .now) (c .before .before .before .args .j) _ _ (c .before .loop-test .taken) (c .before .before .loop .inv .1),
+  next (c .before .before .before .args .rows .now) (c .before .before .before .args .j) _ _ (search needs) (c .before .before .loop .inv .1),
 )
 
 returns : tie.Need-returns Inv-loop μ-loop

@@ -1,30 +1,29 @@
--- `expression_role`: a kind past the table has no row.
-use mathlib.Core.List.{[]}
-use mathlib.Core.Path.{sym, ap}
-use lib.ListN.{getD, List·getD-eq-default}
-use Rattle.script.specs.Roles.{Row, expressionRows}
+-- `expression_role`: the field's four bits of the row.
+use mathlib.Core.Path.{refl, ap, _∙_}
+use Prim.Native.Nat.{_*_, _/_, _%_, _^_}
+use Rattle.script.specs.Roles.{expressionRows}
+use Rattle.script.proofs.Packing.{role-of-row}
 use borrow.Author.Needs.{needs}
 use Rattle.script.proofs.roles.expression_role.Statement.{statement}
 use Rattle.script.proofs.roles.expression_role.Tie as tie
 
-returns : tie.Need-returns
-returns c =
-    sym
-    (ap (λ r. getD r (c .before .args .f) 0)
-    (List·getD-eq-default {A = Row} expressionRows [] {n = c .before .args .kind} (c .if1 .taken)))
+expression-row-requires : tie.Need-expression-row-requires
+expression-row-requires c κs = search needs
 
 mul-result : tie.Need-mul-result
 mul-result c = search needs
 
-index-1-result : tie.Need-index-1-result
-index-1-result c = search needs
+cast-result : tie.Need-cast-result
+cast-result c = search needs
 
-index-2-result : tie.Need-index-2-result
-index-2-result c = search needs
+shr-result : tie.Need-shr-result
+shr-result c = search needs
 
-returns-2 : tie.Need-returns-2
-returns-2 c = search needs
+returns : tie.Need-returns
+returns c =
+    let start = c .before in
+    ap (λ n. n / 2 ^ (4 * start .args .f) % 16) (c .expression-row .ensures)
+    ∙ role-of-row expressionRows refl (start .args .kind) (start .args .f) (start .pre)
 
 pub expression-role-spec : {M : Type 1} → statement M
-expression-role-spec =
-    tie.close (tie.spec returns mul-result index-1-result index-2-result returns-2)
+expression-role-spec = tie.close (tie.spec expression-row-requires mul-result cast-result shr-result returns)

@@ -1,29 +1,29 @@
--- `node_role`: a kind past the table has no row.
-use mathlib.Core.List.{[]}
-use mathlib.Core.Path.{sym, ap}
-use lib.ListN.{getD, List·getD-eq-default}
-use Rattle.script.specs.Roles.{Row, nodeRows}
+-- `node_role`: the field's four bits of the row.
+use mathlib.Core.Path.{refl, ap, _∙_}
+use Prim.Native.Nat.{_*_, _/_, _%_, _^_}
+use Rattle.script.specs.Roles.{nodeRows}
+use Rattle.script.proofs.Packing.{role-of-row}
 use borrow.Author.Needs.{needs}
 use Rattle.script.proofs.roles.node_role.Statement.{statement}
 use Rattle.script.proofs.roles.node_role.Tie as tie
 
-returns : tie.Need-returns
-returns c =
-    sym
-    (ap (λ r. getD r (c .before .args .f) 0)
-    (List·getD-eq-default {A = Row} nodeRows [] {n = c .before .args .kind} (c .if1 .taken)))
+node-row-requires : tie.Need-node-row-requires
+node-row-requires c κs = search needs
 
 mul-result : tie.Need-mul-result
 mul-result c = search needs
 
-index-1-result : tie.Need-index-1-result
-index-1-result c = search needs
+cast-result : tie.Need-cast-result
+cast-result c = search needs
 
-index-2-result : tie.Need-index-2-result
-index-2-result c = search needs
+shr-result : tie.Need-shr-result
+shr-result c = search needs
 
-returns-2 : tie.Need-returns-2
-returns-2 c = search needs
+returns : tie.Need-returns
+returns c =
+    let start = c .before in
+    ap (λ n. n / 2 ^ (4 * start .args .f) % 16) (c .node-row .ensures)
+    ∙ role-of-row nodeRows refl (start .args .kind) (start .args .f) (start .pre)
 
 pub node-role-spec : {M : Type 1} → statement M
-node-role-spec = tie.close (tie.spec returns mul-result index-1-result index-2-result returns-2)
+node-role-spec = tie.close (tie.spec node-row-requires mul-result cast-result shr-result returns)
