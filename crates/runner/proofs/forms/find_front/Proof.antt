@@ -1,8 +1,7 @@
 -- `find_front`: what the word of the node tells, put together as `frontOf` does.
-use mathlib.Core.Path.{_≡_, refl, sym, ap, _∙_, subst}
-use mathlib.Core.Bool.{true}
+use mathlib.Core.Path.{_≡_, ap, _∙_, subst}
 use mathlib.Core.Logic.{⊎-elim}
-use Prim.Native.Nat.{ℕ, _+_, _≤_, _<_}
+use Prim.Native.Nat.{ℕ, _+_, _<_}
 use native.Mathlib.Omega.{arith}
 use lib.Dec.{eqb}
 use lib.ListN.{getD}
@@ -13,7 +12,7 @@ use Rattle.script.specs.Entries.{partOf, node, firstChild}
 use Rattle.script.specs.Tree.{processOf, size}
 use Rattle.script.proofs.Layouts.{few-bounds, nodes-are}
 use Rattle.script.proofs.NodeSizes.{size-within}
-use Rattle.runner.specs.Forms.{mover, second, turned, formOf, fromSecond}
+use Rattle.runner.specs.Forms.{mover, second, turned, formOf}
 use Rattle.runner.specs.Plan.{formIn, Planned}
 use Rattle.runner.proofs.Fronts.{form-past, kind-known, child-known, second-known, front-none, front-second, front-first}
 use borrow.Author.Needs.{needs, fits-under}

@@ -10,7 +10,7 @@ use Rattle.script.specs.Layout.{layoutOf}
 use Rattle.runner.specs.Forms.{watched, guarded}
 use Rattle.runner.proofs.Sights.{signalAt}
 use Rattle.runner.proofs.Advancing.{some-bytes}
-use Rattle.runner.proofs.Deciding.{Found, Part, front-part, rear-part, stays, signal-known, ends, shuts}
+use Rattle.runner.proofs.Deciding.{Found, Part, front-part, stays, signal-known, ends, shuts}
 use Rattle.runner.proofs.Changing.{put, length-one, one-changed, rear-after, length-two, two-changed}
 use Prim.Native.Nat.{ℕ, _<_}
 use borrow.Fn.Kinds.{In}

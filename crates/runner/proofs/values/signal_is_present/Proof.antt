@@ -1,6 +1,6 @@
 -- `signal_is_present`: field a, as the word of the node tells it.
 use mathlib.Core.Path.{_≡_, ap, _∙_}
-use Prim.Native.Nat.{_+_, _<_}
+use Prim.Native.Nat.{_<_}
 use native.Mathlib.Omega.{arith}
 use Rattle.language.specs.Steps.{present}
 use Rattle.script.specs.Layout.{layoutOf}
