@@ -3,7 +3,7 @@
 use mathlib.Core.Path.{_≡_, refl, sym, ap, _∙_}
 use mathlib.Core.Bool.{Bool, true, false, cond, true≢false}
 use mathlib.Core.List.{List, [], _∷_}
-use Prim.Native.Nat.{ℕ, zero, suc, _+_, _-_, _≤_, _<_}
+use Prim.Native.Nat.{ℕ, zero, suc, _+_, _≤_}
 use native.Mathlib.Decide.{decLt}
 use native.Mathlib.Numerals.{add-one}
 use native.Mathlib.Omega.{arith}
@@ -15,14 +15,12 @@ use Rattle.language.specs.Values.{holds}
 use Rattle.language.specs.Syntax.{Names, Proc, nil, assign, letIn, ifThenElse, while, sequence, emit, local, watching, when, parallel}
 use Rattle.language.specs.Scope.{withName, Scoped}
 use Rattle.language.specs.Steps.{held, present, suspended, change, instantStart}
-use Rattle.language.specs.Calls.{spent}
 use Rattle.runner.specs.Residual.{own, firstOf, secondOf, residual}
 use Rattle.runner.specs.Moves.{Running}
-use Rattle.runner.specs.Outcome.{outcome, stopped}
+use Rattle.runner.specs.Outcome.{outcome}
 use Rattle.runner.specs.Contracts.{isPresentSignal, someSignalPresent}
 use Rattle.runner.proofs.Clearing.{Renewed, renewed-none, renewed-kept, renewed-all}
-use Rattle.runner.proofs.Framing.{waits-some}
-use Rattle.runner.proofs.Outcomes.{outcome-spent, outcome-changes}
+use Rattle.runner.proofs.Outcomes.{outcome-changes}
 
 zero-of : (z : ℤ) → holds z ≡ false → z ≡ pos 0
 zero-of (pos zero) h = refl

@@ -14,6 +14,7 @@ use lib.ListN.{length}
 use Rattle.language.specs.Syntax.{Proc, isNil}
 use Rattle.language.specs.Steps.{present, suspended}
 use Rattle.script.specs.declared.layout.Script.{Script}
+use Rattle.script.specs.Layout.{layoutOf}
 use Rattle.runner.specs.declared.forms.Front.{Front}
 use Rattle.runner.specs.Residual.{own}
 use Rattle.runner.specs.Forms.{mover, guarded, frontOf, partIn}
@@ -23,6 +24,10 @@ use Rattle.runner.specs.Contracts.{mostSteps, Valued, At, Counted, left,
 use Rattle.runner.proofs.Framing.{joined, open-path, lift, ends-around}
 use Rattle.runner.proofs.Advancing.{ended, again}
 use Rattle.runner.proofs.Sights.{signalAt, Inside, Sight, sees-gone, sees-mover, sees-alone, sees-before, sees-watched, sees-guarded, sees-beside, own-put, length-put, part-put}
+
+-- a checked script is laid out as it says
+pub relaid : {s : List ℕ} {c : Script} {values : List ℤ} → Valued s c values → Valued s (layoutOf s) values
+relaid v = record { laid = v .checked .laid; checked = v .checked; named = v .named }
 
 module _ {seen : ℕ → Bool} {limit room : ℕ} {at : Running ℕ} {why : ℕ} where
   ended-gone : Ends seen limit room at why → why ≡ isGone → isNil (at .process) ≡ true

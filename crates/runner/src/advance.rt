@@ -12,6 +12,7 @@ use script::layout::Script;
 ghost use mathlib.Core.Path.{_≡_};
 ghost use Prim.Native.Nat.{_/_, _≤_, _<_};
 ghost use lib.ListN.{length};
+ghost use Rattle.script.specs.Layout.{layoutOf};
 ghost use Rattle.runner.specs.Residual.{own};
 ghost use Rattle.runner.specs.Forms.{frontOf};
 ghost use Rattle.runner.specs.Plan.{KeepsPlan};
@@ -42,7 +43,7 @@ fn enter(
     requires { ⌜ Valued (now s) c (now values) × (KeepsPlan (now s) (now plan) × (At (now s) k (now state) × (Counted (limits .steps) (now log) (at .steps) (at .lines) × (length (now values) ≤ length (now seen))))) ⌝ }
     ensures { λ r. ⌜ Enters (seenIn (now (seen .entry))) (limits .steps) (length (now (log .entry)) / 4) (now (s .entry)) k (now (state .entry)) (now (state .exit)) (runningAt (now (s .entry)) k (now (state .entry)) (now (values .entry)) (now (log .entry)) (at .steps) (limits .instant) (at .lines)) (runningAt (now (s .entry)) k (now (state .exit)) (now (values .exit)) (now (log .exit)) (r .at .steps) (limits .instant) (r .at .lines)) (r .why) (r .front) ⌝ }
 {
-    let f = forms::find_front(s, c, plan, k, state[0], state.len());
+    let f = forms::find_front(s, plan, k, state[0], state.len());
     if f.form == forms::GONE {
         return Entered {
             why: moves::GONE,
@@ -59,7 +60,7 @@ fn enter(
             front: f,
         };
     }
-    if f.form == forms::GUARDED && !values::signal_is_present(s, c, values, k) {
+    if f.form == forms::GUARDED && !values::signal_is_present(s, plan, values, k) {
         return Entered {
             why: moves::SUSPENDED,
             at,
@@ -91,7 +92,6 @@ fn byte_after(form: u8, why: u8, tag: u8) -> u8
 // The part in front of node k rests: it is nil, or it is suspended.
 fn leave(
     s: &[u8],
-    c: Script,
     plan: &[usize; Script::MAX_PARTS],
     values: &[i32],
     state: &mut [u8],
@@ -101,7 +101,7 @@ fn leave(
     f: Front,
     why: u8,
 ) -> Done
-    requires { ⌜ Valued (now s) c (now values) × (KeepsPlan (now s) (now plan) × (At (now s) k (now state) × ((at .steps ≤ limits .steps) × (limits .steps ≤ mostSteps)))) ⌝ }
+    requires { ⌜ Valued (now s) (layoutOf (now s)) (now values) × (KeepsPlan (now s) (now plan) × (At (now s) k (now state) × ((at .steps ≤ limits .steps) × (limits .steps ≤ mostSteps)))) ⌝ }
     requires { ⌜ (f ≡ frontOf (now s) k (own (now state)) (length (now state))) × Rests (now s) k (now state) (now values) f why ⌝ }
     ensures { λ r. ⌜ Settles (limits .steps) (left (now (s .entry)) k (now (state .entry))) (now (values .entry)) (left (now (s .entry)) k (now (state .exit))) (at .steps) (at .lines) why (r .why) (r .at .steps) (r .at .lines) ⌝ }
 {
@@ -109,7 +109,7 @@ fn leave(
     if form < forms::BEFORE {
         return Done { why, at };
     }
-    if why == moves::SUSPENDED && suspension::rear_waits(s, c, plan, values, state, k, form) {
+    if why == moves::SUSPENDED && suspension::rear_waits(s, plan, values, state, k, form) {
         return Done { why, at };
     }
     if limits.steps <= at.steps {
@@ -170,7 +170,7 @@ pub fn advance(
                 return r;
             }
             let advanced = r.at;
-            let l = leave(s, c, plan, values, state, limits, advanced, k, f, r.why);
+            let l = leave(s, plan, values, state, limits, advanced, k, f, r.why);
             if l.why != moves::AGAIN {
                 return l;
             }

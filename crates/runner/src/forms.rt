@@ -3,7 +3,7 @@ use crate::plan;
 use script::layout::Script;
 ghost use mathlib.Core.Path.{_≡_};
 ghost use Prim.Native.Nat.{_-_, _≤_, _<_};
-ghost use Rattle.script.specs.Layout.{nodeCount, Laid};
+ghost use Rattle.script.specs.Layout.{nodeCount};
 ghost use Rattle.script.specs.Checked.{Checked};
 ghost use Rattle.runner.specs.Forms.{beside, formOf, frontOf};
 ghost use Rattle.runner.specs.Plan.{KeepsPlan};
@@ -67,13 +67,12 @@ pub fn form_of(kind: usize, tag: u8) -> u8
 // The form of node k whose own byte is `tag` and which has so many bytes.
 pub fn find_front(
     s: &[u8],
-    c: Script,
     plan: &[usize; Script::MAX_PARTS],
     k: usize,
     tag: u8,
     len: usize,
 ) -> Front
-    requires { ⌜ Laid (now s) c × (Checked (now s) × (KeepsPlan (now s) (now plan) × (k < nodeCount (now s)))) ⌝ }
+    requires { ⌜ Checked (now s) × (KeepsPlan (now s) (now plan) × (k < nodeCount (now s))) ⌝ }
     ensures { λ r. ⌜ r ≡ frontOf (now (s .entry)) k tag len ⌝ }
 {
     if NIL <= tag {
@@ -114,14 +113,13 @@ pub fn find_front(
 // The other part of a parallel whose part in front has this form.
 pub fn find_rear(
     s: &[u8],
-    c: Script,
     plan: &[usize; Script::MAX_PARTS],
     k: usize,
     tag: u8,
     len: usize,
     form: u8,
 ) -> Front
-    requires { ⌜ Laid (now s) c × (Checked (now s) × (KeepsPlan (now s) (now plan) × (k < nodeCount (now s)))) ⌝ }
+    requires { ⌜ Checked (now s) × (KeepsPlan (now s) (now plan) × (k < nodeCount (now s))) ⌝ }
     requires { ⌜ (form ≡ frontOf (now s) k tag len .form) × (beside ≤ form) ⌝ }
     ensures { λ r. ⌜ r ≡ frontOf (now (s .entry)) k (1 - tag) len ⌝ }
 {

@@ -9,6 +9,7 @@ ghost use Prim.Native.Nat.{_<_};
 ghost use lib.ListN.{length};
 ghost use Rattle.language.specs.Steps.{change, instantStart};
 ghost use Rattle.language.specs.Calls.{givenBack};
+ghost use Rattle.script.specs.Layout.{layoutOf};
 ghost use Rattle.script.specs.Tree.{namesOf};
 ghost use Rattle.runner.specs.Plan.{KeepsPlan};
 ghost use Rattle.runner.specs.Contracts.{Valued, At, left, isPresentSignal, someSignalPresent};
@@ -16,36 +17,35 @@ ghost use Rattle.runner.specs.Contracts.{Valued, At, left, isPresentSign
 // The instant change of node k, which goes into what is in front and reads the signals of the instant that ends.
 pub fn change_instant(
     s: &[u8],
-    c: Script,
     plan: &[usize; Script::MAX_PARTS],
     values: &[i32],
     state: &mut [u8],
     k: usize,
 )
-    requires { ⌜ Valued (now s) c (now values) × (KeepsPlan (now s) (now plan) × At (now s) k (now state)) ⌝ }
+    requires { ⌜ Valued (now s) (layoutOf (now s)) (now values) × (KeepsPlan (now s) (now plan) × At (now s) k (now state)) ⌝ }
     ensures { λ _. ⌜ left (now (s .entry)) k (now (state .exit)) ≡ change (left (now (s .entry)) k (now (state .entry))) (now (values .entry)) ⌝ }
 {
     let tag = state[0];
     let len = state.len();
-    let f = find_front(s, c, plan, k, tag, len);
+    let f = find_front(s, plan, k, tag, len);
     if f.form <= forms::MOVER {
         return;
     }
-    if f.form == forms::WATCHED && values::signal_is_present(s, c, values, k) {
+    if f.form == forms::WATCHED && values::signal_is_present(s, plan, values, k) {
         state[0] = forms::NIL;
         return;
     }
-    if f.form == forms::GUARDED && !values::signal_is_present(s, c, values, k) {
+    if f.form == forms::GUARDED && !values::signal_is_present(s, plan, values, k) {
         return;
     }
     let from = f.from;
     let to = f.to;
-    change_instant(s, c, plan, values, &mut state[from..to], f.child);
+    change_instant(s, plan, values, &mut state[from..to], f.child);
     if forms::BESIDE <= f.form {
-        let g = find_rear(s, c, plan, k, tag, len, f.form);
+        let g = find_rear(s, plan, k, tag, len, f.form);
         let start = g.from;
         let end = g.to;
-        change_instant(s, c, plan, values, &mut state[start..end], g.child);
+        change_instant(s, plan, values, &mut state[start..end], g.child);
     }
 }
 

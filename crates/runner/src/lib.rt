@@ -83,7 +83,7 @@ pub fn run(
                 lines: r.at.lines,
             };
         }
-        instants::change_instant(s, c, plan, values, state, k);
+        instants::change_instant(s, plan, values, state, k);
         instants::clear_signals(s, c, values);
         at = Counts {
             steps: r.at.steps + 1,

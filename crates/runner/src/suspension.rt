@@ -7,6 +7,7 @@ use script::layout::Script;
 ghost use mathlib.Core.Path.{_≡_};
 ghost use lib.ListN.{length};
 ghost use Rattle.language.specs.Steps.{suspended};
+ghost use Rattle.script.specs.Layout.{layoutOf};
 ghost use Rattle.runner.specs.Residual.{own};
 ghost use Rattle.runner.specs.Forms.{frontOf};
 ghost use Rattle.runner.specs.Plan.{KeepsPlan};
@@ -15,43 +16,41 @@ ghost use Rattle.runner.specs.Contracts.{Valued, At, left, RearWaits};
 // The part in front is asked, and of a parallel the other part, too: it is suspended if both are.
 pub fn is_suspended(
     s: &[u8],
-    c: Script,
     plan: &[usize; Script::MAX_PARTS],
     values: &[i32],
     state: &[u8],
     k: usize,
 ) -> bool
-    requires { ⌜ Valued (now s) c (now values) × (KeepsPlan (now s) (now plan) × At (now s) k (now state)) ⌝ }
+    requires { ⌜ Valued (now s) (layoutOf (now s)) (now values) × (KeepsPlan (now s) (now plan) × At (now s) k (now state)) ⌝ }
     ensures { λ r. ⌜ r ≡ suspended (left (now (s .entry)) k (now (state .entry))) (now (values .entry)) ⌝ }
 {
     let tag = state[0];
-    let f = find_front(s, c, plan, k, tag, state.len());
+    let f = find_front(s, plan, k, tag, state.len());
     if f.form <= forms::MOVER {
         return false;
     }
-    if f.form == forms::GUARDED && !values::signal_is_present(s, c, values, k) {
+    if f.form == forms::GUARDED && !values::signal_is_present(s, plan, values, k) {
         return true;
     }
     let from = f.from;
     let to = f.to;
-    if !is_suspended(s, c, plan, values, &state[from..to], f.child) {
+    if !is_suspended(s, plan, values, &state[from..to], f.child) {
         return false;
     }
-    rear_waits(s, c, plan, values, state, k, f.form)
+    rear_waits(s, plan, values, state, k, f.form)
 }
 
 // Whether nothing behind the part in front of node k could move in its place: k is no parallel, or its other part
 // is suspended.
 pub fn rear_waits(
     s: &[u8],
-    c: Script,
     plan: &[usize; Script::MAX_PARTS],
     values: &[i32],
     state: &[u8],
     k: usize,
     form: u8,
 ) -> bool
-    requires { ⌜ Valued (now s) c (now values) × (KeepsPlan (now s) (now plan) × At (now s) k (now state)) ⌝ }
+    requires { ⌜ Valued (now s) (layoutOf (now s)) (now values) × (KeepsPlan (now s) (now plan) × At (now s) k (now state)) ⌝ }
     requires { ⌜ form ≡ frontOf (now s) k (own (now state)) (length (now state)) .form ⌝ }
     ensures { λ r. ⌜ RearWaits (now (s .entry)) k (now (state .entry)) (now (values .entry)) form r ⌝ }
 {
@@ -59,8 +58,8 @@ pub fn rear_waits(
         return true;
     }
     let tag = state[0];
-    let g = find_rear(s, c, plan, k, tag, state.len(), form);
+    let g = find_rear(s, plan, k, tag, state.len(), form);
     let start = g.from;
     let end = g.to;
-    is_suspended(s, c, plan, values, &state[start..end], g.child)
+    is_suspended(s, plan, values, &state[start..end], g.child)
 }

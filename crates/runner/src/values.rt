@@ -5,7 +5,7 @@ ghost use mathlib.Core.Path.{_≡_};
 ghost use Prim.Native.Nat.{_<_};
 ghost use lib.ListN.{length};
 ghost use Rattle.language.specs.Steps.{present, test};
-ghost use Rattle.script.specs.Layout.{nameCount, expressionCount, nodeCount, Laid};
+ghost use Rattle.script.specs.Layout.{nameCount, expressionCount, nodeCount};
 ghost use Rattle.script.specs.Entries.{partOf, node};
 ghost use Rattle.script.specs.Tree.{expressionOf};
 ghost use Rattle.script.specs.Checked.{Checked};
@@ -20,12 +20,17 @@ pub fn is_present(values: &[i32], a: usize) -> bool
 }
 
 // Whether the signal in field a of node k is present.
-pub fn signal_is_present(s: &[u8], c: Script, values: &[i32], k: usize) -> bool
-    requires { ⌜ Laid (now s) c × ((k < nodeCount (now s)) × (partOf (now s) (node (now s) k) .a < length (now values))) ⌝ }
+pub fn signal_is_present(
+    s: &[u8],
+    plan: &[usize; Script::MAX_PARTS],
+    values: &[i32],
+    k: usize,
+) -> bool
+    requires { ⌜ Checked (now s) × (KeepsPlan (now s) (now plan) × ((k < nodeCount (now s)) × (partOf (now s) (node (now s) k) .a < length (now values)))) ⌝ }
     ensures { λ r. ⌜ r ≡ present (now (values .entry)) (partOf (now (s .entry)) (node (now (s .entry)) k) .a) ⌝ }
 {
-    let p = script::entries::part_at(s, c, c.expressions + k);
-    is_present(values, p.a)
+    let a = plan::field_in(plan[Script::MAX_EXPRESSIONS + k]);
+    is_present(values, a)
 }
 
 // A constant, or what a register holds.

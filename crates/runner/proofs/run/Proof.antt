@@ -22,7 +22,7 @@ use Rattle.runner.specs.Outcome.{outcome}
 use Rattle.runner.specs.Contracts.{At, seenIn, runningAt, starting}
 use Rattle.runner.proofs.Whole.{Comes, counted, valued, comes-on, comes-ends, comes-changed, comes-idle, stops, gives, fresh}
 use Rattle.runner.proofs.Idling.{residual-stays, values-stay}
-use Rattle.runner.proofs.Turning.{ended-waits}
+use Rattle.runner.proofs.Turning.{relaid, ended-waits}
 use Rattle.runner.proofs.run.Statement.{statement}
 use Rattle.runner.proofs.run.Tie as tie
 
@@ -177,7 +177,7 @@ change-instant-requires c κs =
     let start = c .before .before .before .before .before .before .before .before .before .before .before .before .before .before .before .before .before .before .before .before .before .before .before .before in
     let u = advanced ((c .before .before .before .before .before .before .before .before .before .before .before .before .before .before)) in
     let at = whole-script start in
-    (valued _ _ _ u (start .pre .0), (start .pre .1 .0, record { known = at .known; whole = u .bytes ∙ at .whole }))
+    (relaid (valued _ _ _ u (start .pre .0)), (start .pre .1 .0, record { known = at .known; whole = u .bytes ∙ at .whole }))
 
 clear-signals-requires : tie.Need-clear-signals-requires Inv-loop μ-loop
 clear-signals-requires c κs = valued _ _ _ (advanced ((c .before .before .before .before .before .before .before .before .before .before .before .before .before .before .before .before .before .before))) (c .before .before .before .before .before .before .before .before .before .before .before .before .before .before .before .before .before .before .before .before .before .before .before .before .before .before .before .before .pre .0)
@@ -203,7 +203,7 @@ loop-again c =
     (ended-waits (r .ensures .0 .ends (λ e. omega (arith, e, r .ensures .1))) (c .before .before .before .before .before .before .before .before .before .before .before .before .before .before .if1 .left))
     (leb-false (start .args .limit) _ (c .before .before .before .before .before .before .before .before .before .before .before .before .if2 .left))
     (c .before .before .before .before .before .before .change-instant .ensures) (c .before .before .clear-signals .ensures) (add-one (r .result .at .steps)) (add-one (c .before .before .before .before .before .before .before .before .before .before .before .before .before .before .before .before .before .before .before .before .before .before .before .before .before .loop .instant))
-    (c .before .before .clear-signals .kept .1 .1 .0) (c .before .before .before .before .before .before .change-instant .kept .1 .1 .1 .1 .0)
+    (c .before .before .clear-signals .kept .1 .1 .0) (c .before .before .before .before .before .before .change-instant .kept .1 .1 .1 .0)
 
 pub run-spec : {M : Type 1} → statement M
 run-spec =

@@ -9,7 +9,7 @@ use Rattle.runner.specs.Moves.{Running, isGone, isSuspended}
 use Rattle.runner.specs.Contracts.{seenIn, runningAt, Advances}
 use Rattle.runner.proofs.Sights.{part-length}
 use Rattle.runner.proofs.Deciding.{sees}
-use Rattle.runner.proofs.Turning.{Going, going, Turn, begins, same-turn, counted, valued, at-node, turns-on, turns-end, part-turn, part-ends, part-rests, front-kept, settled}
+use Rattle.runner.proofs.Turning.{relaid, Going, going, Turn, begins, same-turn, counted, valued, at-node, turns-on, turns-end, part-turn, part-ends, part-rests, front-kept, settled}
 use Prim.Native.Nat.{ℕ, _-_, _/_, _<_}
 use borrow.Fn.Kinds.{In}
 use borrow.Fn.PlainCycle.{Measures, is, falls, and}
@@ -103,7 +103,7 @@ node-left :
     let v = c .leave in
     Advances (seenIn (now (a .seen))) (a .limits .steps) (length (r .last .1 .1 .1 .1 .1 .1 .0) / 4)
     (runningAt (now (a .s)) (a .k) (let e = c .before .before .before .before .before .before .before .before .before .before .before .before .before .before .before .before .before .before .before .before .before .before .before .enter in let f = e .result .front in (putMid (f .from) (f .to - f .from) (e .last .1 .1 .1 .1 .1 .0) (r .last .1 .1 .1 .1 .1 .0))) (r .last .1 .1 .1 .1 .0) (r .last .1 .1 .1 .1 .1 .1 .0) (r .result .at .steps) (a .limits .instant) (r .result .at .lines))
-    (runningAt (now (a .s)) (a .k) (v .last .1 .1 .1 .1 .0) (r .last .1 .1 .1 .1 .0) (r .last .1 .1 .1 .1 .1 .1 .0) (v .result .at .steps) (a .limits .instant) (v .result .at .lines)) (v .result .why)
+    (runningAt (now (a .s)) (a .k) (v .last .1 .1 .1 .0) (r .last .1 .1 .1 .1 .0) (r .last .1 .1 .1 .1 .1 .1 .0) (v .result .at .steps) (a .limits .instant) (v .result .at .lines)) (v .result .why)
 node-left t c =
     let u = part-done t (((c .before .before .before .before .before .before .before .before .before .before .before))) in
     settled (c .leave .ensures) (rests-known t (((c .before .before .before .before)))) (u .time) (omega (arith, u .space, u .logged))
@@ -173,7 +173,7 @@ advance-leave-requires t c κs =
     let r = c .before .before .before .before .before .before .before .before .before .before .advance in
     let g = part-goes t (((c .before .before .before .before .before .before .before .before .before .before .before .before .before .before .before))) in
     let u = part-done t (((c .before .before .before .before .before .before .before .before .before .before))) in (
-      (valued u (start .pre .1 .0), (start .pre .1 .1 .0, (at-node u (start .pre .1 .1 .1 .0), (u .time, start .pre .1 .1 .1 .1 .0 .most)))),
+      (relaid (valued u (start .pre .1 .0)), (start .pre .1 .1 .0, (at-node u (start .pre .1 .1 .1 .0), (u .time, start .pre .1 .1 .1 .1 .0 .most)))),
       (
         front-kept g (r .last .1 .1 .1 .1 .1 .0) (part-long t (((c .before .before .before .before .before .before .before .before .before .before)))) (e .ensures .front (c .before .before .before .before .before .before .before .before .before .before .before .before .before .before .before .if1 .taken)),
         part-rests g (in-turn t (((c .before .before .before .before .before .before .before .before .before .before .before .before .before .before .before)))) (r .last .1 .1 .1 .1 .1 .0) (part-long t (((c .before .before .before .before .before .before .before .before .before .before)))) (r .ensures) (e .ensures .part (c .before .before .before .before .before .before .before .before .before .before .before .before .before .before .before .if1 .taken)) (c .before .before .before .if2 .left),
@@ -186,7 +186,7 @@ advance-same-length-4 t c =
 
 advance-same-length-5 : (t : ℕ) → advance-lts.Need-same-length-5 (R t) (advance-at t) advance.Post advance-Inv-loop advance-μ-loop
 advance-same-length-5 t c =
-    c .before .before .before .before .leave .kept .1 .1 .1 .1 .0 ∙ part-done t (((c .before .before .before .before .before .before .before .before .before .before .before .before .before .before .before))) .bytes
+    c .before .before .before .before .leave .kept .1 .1 .1 .0 ∙ part-done t (((c .before .before .before .before .before .before .before .before .before .before .before .before .before .before .before))) .bytes
 
 advance-same-length-6 : (t : ℕ) → advance-lts.Need-same-length-6 (R t) (advance-at t) advance.Post advance-Inv-loop advance-μ-loop
 advance-same-length-6 t c =
@@ -204,7 +204,7 @@ advance-loop-less t c =
 
 advance-loop-again : (t : ℕ) → advance-lts.Need-loop-again (R t) (advance-at t) advance.Post advance-Inv-loop advance-μ-loop
 advance-loop-again t c =
-    turns-on (part-done t (((c .before .before .before .before .before .before .before .before .before .before .before .before .before .before .before .before)))) (node-left t (((c .before .before .before .before .before)))) refl refl (c .before .before .before .before .before .leave .kept .1 .1 .1 .1 .0)
+    turns-on (part-done t (((c .before .before .before .before .before .before .before .before .before .before .before .before .before .before .before .before)))) (node-left t (((c .before .before .before .before .before)))) refl refl (c .before .before .before .before .before .leave .kept .1 .1 .1 .0)
 
 advance-same-length-7 : (t : ℕ) → advance-lts.Need-same-length-7 (R t) (advance-at t) advance.Post advance-Inv-loop advance-μ-loop
 advance-same-length-7 t c =

@@ -62,10 +62,13 @@ returns-2 c =
 signal-is-present-requires : tie.Need-signal-is-present-requires
 signal-is-present-requires c κs =
     let start = c .before .before .before .before .before .before .before .before .before .before .before .before .before in (
-      start .pre .0 .laid,
+      start .pre .0 .checked,
       (
-        start .pre .1 .1 .0 .known,
-        signal-known (found (c .before .before .before .before .before .before .before)) (omega (arith, c .before .if3 .taken)) (omega (arith, c .before .if3 .taken)),
+        start .pre .1 .0,
+        (
+          start .pre .1 .1 .0 .known,
+          signal-known (found (c .before .before .before .before .before .before .before)) (omega (arith, c .before .if3 .taken)) (omega (arith, c .before .if3 .taken)),
+        ),
       ),
     )
 

@@ -6,6 +6,7 @@ use native.Mathlib.Numerals.{add-one}
 use native.Mathlib.Omega.{arith}
 use denote.Ref.{now}
 use lib.ListN.{set}
+use Rattle.script.specs.Layout.{layoutOf}
 use Rattle.runner.specs.declared.forms.Front.{Front}
 use Rattle.runner.specs.Residual.{own}
 use Rattle.runner.specs.Moves.{Silent}
@@ -20,7 +21,7 @@ use Rattle.runner.proofs.advance.leave.Tie as tie
 -- what is found of the node
 found :
     (c : tie.Start) →
-    Found (now (c .args .s)) (c .args .c) (now (c .args .values)) (c .args .k) (now (c .args .state)) (c .args .f)
+    Found (now (c .args .s)) (layoutOf (c .args .s .now)) (now (c .args .values)) (c .args .k) (now (c .args .state)) (c .args .f)
 found c = record { valued = c .pre .0 .0; at = c .pre .0 .1 .1 .0; front = c .pre .1 .0 }
 
 -- the node moves: its part in front is nil, or what is behind it can move in its place
@@ -83,8 +84,8 @@ slice-write-state c =
     let start = c .before .before .before .before .before .before .before .before .before in
     some-bytes (start .pre .0 .1 .1 .0)
 
-add-t21 : tie.Need-add-t21
-add-t21 c = search needs
+add-t20 : tie.Need-add-t20
+add-t20 c = search needs
 
 same-length-2 : tie.Need-same-length-2
 same-length-2 c = search needs
@@ -106,6 +107,6 @@ leave-spec =
     slice-read-byte-after
     byte-after-requires
     slice-write-state
-    add-t21
+    add-t20
     same-length-2
     returns-4)

@@ -1,19 +1,18 @@
 -- `find_front`: what the word of the node tells, put together as `frontOf` does.
-use mathlib.Core.Path.{_≡_, refl, sym, ap, _∙_, subst}
-use mathlib.Core.Bool.{true}
+use mathlib.Core.Path.{_≡_, ap, _∙_, subst}
 use mathlib.Core.Logic.{⊎-elim}
-use Prim.Native.Nat.{ℕ, _+_, _≤_, _<_}
+use Prim.Native.Nat.{ℕ, _+_, _<_}
 use native.Mathlib.Omega.{arith}
 use lib.Dec.{eqb}
 use lib.ListN.{getD}
 use borrow.Author.Tests.{eq-eqb, ne-eqb}
 use Rattle.prelude.proofs.Bools.{or-first, or-true}
-use Rattle.script.specs.Layout.{mostExpressions}
+use Rattle.script.specs.Layout.{mostExpressions, layoutOf}
 use Rattle.script.specs.Entries.{partOf, node, firstChild}
 use Rattle.script.specs.Tree.{processOf, size}
 use Rattle.script.proofs.Layouts.{few-bounds, nodes-are}
 use Rattle.script.proofs.NodeSizes.{size-within}
-use Rattle.runner.specs.Forms.{mover, second, turned, formOf, fromSecond}
+use Rattle.runner.specs.Forms.{mover, second, turned, formOf}
 use Rattle.runner.specs.Plan.{formIn, Planned}
 use Rattle.runner.proofs.Fronts.{form-past, kind-known, child-known, second-known, front-none, front-second, front-first}
 use borrow.Author.Needs.{needs, fits-under}
@@ -24,12 +23,12 @@ returns : tie.Need-returns
 returns c =
     let start = c .before .before in
     let s = start .args .s .now in
-    let kind = kind-known s (start .pre .1 .0) (start .args .k) (start .pre .1 .1 .1) in
+    let kind = kind-known s (start .pre .0) (start .args .k) (start .pre .1 .1) in
     front-none s (start .args .k) (start .args .tag) (start .args .len)
     (form-past _ (start .args .tag) kind (c .if1 .taken)) (omega arith)
 
 few : (c : tie.Start) → c .args .k < 256
-few c = omega (arith, c .pre .1 .1 .1, nodes-are (c .pre .0), few-bounds (c .args .c) (c .pre .0 .few))
+few c = omega (arith, c .pre .1 .1, nodes-are (c .pre .0 .laid), few-bounds (layoutOf (c .args .s .now)) (c .pre .0 .laid .few))
 
 add-w : tie.Need-add-w
 add-w c = search needs
@@ -52,7 +51,7 @@ cast-form c = search needs
 -- what the word tells
 told :
     (c : tie.Start) → Planned (c .args .s .now) (c .args .k) (getD (c .args .plan .now) (mostExpressions + c .args .k) 0)
-told c = c .pre .1 .1 .0 .nodes (c .args .k) (c .pre .1 .1 .1)
+told c = c .pre .1 .0 .nodes (c .args .k) (c .pre .1 .1)
 
 form-is :
     (c : tie.After-form-in) →
@@ -81,7 +80,7 @@ before-node :
     firstChild (partOf (start .args .s .now) (node (start .args .s .now) (start .args .k))) < start .args .k
 before-node c =
     let start = c .before .before .before .before .before .before in
-    child-known (start .args .s .now) (start .pre .1 .0) (start .args .k) (start .pre .1 .1 .1) (start .args .tag)
+    child-known (start .args .s .now) (start .pre .0) (start .args .k) (start .pre .1 .1) (start .args .tag)
     (subst (λ x. mover < x) (form-is ((c .before))) (c .if2 .left))
 
 middle :
@@ -98,7 +97,7 @@ add-middle c =
     let h = before-node ((c .before)) in
     fits-under _ _ 257
     (omega
-    (arith, middle c, size-within s (start .pre .1 .0) (firstChild (partOf s (node s (start .args .k)))) (omega (arith, h, start .pre .1 .1 .1)), h, few start))
+    (arith, middle c, size-within s (start .pre .0) (firstChild (partOf s (node s (start .args .k)))) (omega (arith, h, start .pre .1 .1)), h, few start))
     tt
 
 second-in-requires : tie.Need-second-in-requires
@@ -115,7 +114,7 @@ returns-3 c =
     (λ t. or-first (eqb form second) (eqb form turned) (eq-eqb form second (t .taken)))
     (λ t. or-true (eqb form second) (eqb form turned) (t .1 .taken))
     (c .before .if3 .came) in
-    let known = second-known s (start .pre .1 .0) (start .args .k) (start .pre .1 .1 .1) (start .args .tag) (c .before .before .before .before .before .before .before .if1 .left) (rw (← f) t) in
+    let known = second-known s (start .pre .0) (start .args .k) (start .pre .1 .1) (start .args .tag) (c .before .before .before .before .before .before .before .if1 .left) (rw (← f) t) in
     front-second s (start .args .k) (start .args .tag) (start .args .len) f (c .before .before .before .if2 .left) (middle ((c .before .before)))
     (c .second-in .ensures ∙ told start .second known) t
 

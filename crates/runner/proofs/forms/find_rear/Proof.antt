@@ -1,10 +1,9 @@
 -- `find_rear`: of a parallel, the form and the part that its other byte gives.
 use mathlib.Core.Path.{_≡_, refl, sym, ap, _∙_}
-use mathlib.Core.Bool.{true}
 use Prim.Native.Nat.{_+_, _-_, _≤_, _<_}
 use native.Mathlib.Omega.{arith}
 use lib.ListN.{getD}
-use Rattle.script.specs.Layout.{mostExpressions}
+use Rattle.script.specs.Layout.{mostExpressions, layoutOf}
 use Rattle.script.specs.Entries.{partOf, node, firstChild}
 use Rattle.script.specs.Tree.{processOf, size}
 use Rattle.script.proofs.Layouts.{few-bounds, nodes-are}
@@ -17,11 +16,11 @@ use Rattle.runner.proofs.forms.find_rear.Statement.{statement}
 use Rattle.runner.proofs.forms.find_rear.Tie as tie
 
 few : (c : tie.Start) → c .args .k < 256
-few c = omega (arith, c .pre .0 .1 .1 .1, nodes-are (c .pre .0 .0), few-bounds (c .args .c) (c .pre .0 .0 .few))
+few c = omega (arith, c .pre .0 .1 .1, nodes-are (c .pre .0 .0 .laid), few-bounds (layoutOf (c .args .s .now)) (c .pre .0 .0 .laid .few))
 
 -- what the word tells
 told : (c : tie.Start) → Planned (c .args .s .now) (c .args .k) (getD (c .args .plan .now) (mostExpressions + c .args .k) 0)
-told c = c .pre .0 .1 .1 .0 .nodes (c .args .k) (c .pre .0 .1 .1 .1)
+told c = c .pre .0 .1 .0 .nodes (c .args .k) (c .pre .0 .1 .1)
 
 -- its form, and that of the other byte
 form-is :
@@ -37,14 +36,14 @@ other c =
     let s = c .args .s .now in
     rw (form-is c)
     (rear-form (partOf s (node s (c .args .k)) .kind) (c .args .tag)
-    (kind-known s (c .pre .0 .1 .0) (c .args .k) (c .pre .0 .1 .1 .1))
+    (kind-known s (c .pre .0 .0) (c .args .k) (c .pre .0 .1 .1))
     (rw (← form-is c) (c .pre .1 .1)))
 
 -- it has a first child
 before-node :
     (c : tie.Start) → firstChild (partOf (c .args .s .now) (node (c .args .s .now) (c .args .k))) < c .args .k
 before-node c =
-    child-known (c .args .s .now) (c .pre .0 .1 .0) (c .args .k) (c .pre .0 .1 .1 .1) (c .args .tag)
+    child-known (c .args .s .now) (c .pre .0 .0) (c .args .k) (c .pre .0 .1 .1) (c .args .tag)
     (omega (arith, form-is c, c .pre .1 .1))
 
 add-w : tie.Need-add-w
@@ -73,7 +72,7 @@ add-middle c =
     let h = before-node start in
     fits-under _ _ 257
     (omega
-    (arith, middle c, size-within s (start .pre .0 .1 .0) (firstChild (partOf s (node s (start .args .k)))) (omega (arith, h, start .pre .0 .1 .1 .1)), h, few start))
+    (arith, middle c, size-within s (start .pre .0 .0) (firstChild (partOf s (node s (start .args .k)))) (omega (arith, h, start .pre .0 .1 .1)), h, few start))
     tt
 
 second-in-requires : tie.Need-second-in-requires
@@ -87,7 +86,7 @@ returns c =
     let f : turned ≡ formOf (partOf s (node s (start .args .k)) .kind) (1 - start .args .tag) =
     omega (arith, o .1 .1, c .before .if1 .taken) in
     let known =
-    second-known s (start .pre .0 .1 .0) (start .args .k) (start .pre .0 .1 .1 .1) (1 - start .args .tag)
+    second-known s (start .pre .0 .0) (start .args .k) (start .pre .0 .1 .1) (1 - start .args .tag)
     (omega (arith, o .0)) (ap fromSecond (sym f)) in
     front-second s (start .args .k) (1 - start .args .tag) (start .args .len) f (omega arith) (middle ((c .before .before)))
     (c .second-in .ensures ∙ told start .second known) refl

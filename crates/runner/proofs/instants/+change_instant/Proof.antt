@@ -6,10 +6,11 @@ use native.Mathlib.Omega.{arith}
 use lib.ListN.{length-set}
 use borrow.Author.Tests.{not-true, not-false}
 use Rattle.language.specs.Steps.{present}
+use Rattle.script.specs.Layout.{layoutOf}
 use Rattle.runner.specs.Forms.{watched, guarded}
 use Rattle.runner.proofs.Sights.{signalAt}
 use Rattle.runner.proofs.Advancing.{some-bytes}
-use Rattle.runner.proofs.Deciding.{Found, Part, front-part, rear-part, stays, signal-known, ends, shuts}
+use Rattle.runner.proofs.Deciding.{Found, Part, front-part, stays, signal-known, ends, shuts}
 use Rattle.runner.proofs.Changing.{put, length-one, one-changed, rear-after, length-two, two-changed}
 use Prim.Native.Nat.{ℕ, _<_}
 use borrow.Fn.Kinds.{In}
@@ -24,7 +25,7 @@ use Rattle.runner.proofs.instants.+change_instant.{statement}
 use Rattle.runner.proofs.instants.+change_instant.Tie.{close}
 
 abbrev μ-change-instant : Measures 4 change-instant-kinds.ps ℕ
-μ-change-instant κs a = a .1 .1 .1 .1 .1 .0
+μ-change-instant κs a = a .1 .1 .1 .1 .0
 
 abbrev change-instant-at : ℕ → In 4 change-instant-kinds.ps
 change-instant-at t =
@@ -58,7 +59,7 @@ R t = (
 found :
     (t : ℕ) (c : change-instant-lts.After-find-front (R t) (change-instant-at t) change-instant.Post) →
     let args = c .before .before .before .before .args in
-    Found (args .s .now) (args .c) (args .values .now) (args .k) (args .state .now) (c .find-front .result)
+    Found (args .s .now) (layoutOf (args .s .now)) (args .values .now) (args .k) (args .state .now) (c .find-front .result)
 found t c =
     let pre = c .before .before .before .before .pre .1 in
     record { valued = pre .0; at = pre .1 .1; front = c .find-front .ensures }
@@ -98,14 +99,14 @@ behind :
     let first = c .before .before .before .before .before in
     let front = first .before .before .before .before .before .before .before .before in
     let args = front .before .before .before .before .args in
-    let bytes = put (front .find-front .result) (args .state .now) (first .change-instant .last .1 .1 .1 .1 .0) in
+    let bytes = put (front .find-front .result) (args .state .now) (first .change-instant .last .1 .1 .1 .0) in
     Part (args .s .now) (args .k) bytes (c .find-rear .result)
 behind t c =
     let first = c .before .before .before .before .before in
     let ahead = first .before .before .before .before .before .before in
     let one = first .change-instant in
-    rear-after (found t (ahead .before .before)) (ahead .if1 .left) (one .last .1 .1 .1 .1 .0)
-    (one .kept .1 .1 .1 .1 .0) (c .before .if6 .taken) (c .find-rear .ensures)
+    rear-after (found t (ahead .before .before)) (ahead .if1 .left) (one .last .1 .1 .1 .0)
+    (one .kept .1 .1 .1 .0) (c .before .if6 .taken) (c .find-rear .ensures)
 
 change-instant-slice-read-tag :
     (t : ℕ) → change-instant-lts.Need-slice-read-tag (R t) (change-instant-at t) change-instant.Post
@@ -115,7 +116,7 @@ change-instant-find-front-requires :
     (t : ℕ) → change-instant-lts.Need-find-front-requires (R t) (change-instant-at t) change-instant.Post
 change-instant-find-front-requires t c κs =
     let pre = c .before .before .before .pre .1 in
-    (pre .0 .laid, (pre .0 .checked, (pre .1 .0, pre .1 .1 .known)))
+    (pre .0 .checked, (pre .1 .0, pre .1 .1 .known))
 
 change-instant-returns : (t : ℕ) → change-instant-lts.Need-returns (R t) (change-instant-at t) change-instant.Post
 change-instant-returns t c = sym (stays (found t (c .before .before)) (c .if1 .taken) .same)
@@ -126,7 +127,7 @@ change-instant-signal-is-present-requires t c κs =
     let front = c .before .before .before .before in
     let pre = front .before .before .before .before .pre .1 in
     let known = signal-known (found t front) (omega (arith, c .if2 .taken)) (omega (arith, c .if2 .taken)) in
-    (pre .0 .laid, (pre .1 .1 .known, known))
+    (pre .0 .checked, (pre .1 .0, (pre .1 .1 .known, known)))
 
 change-instant-slice-write-state :
     (t : ℕ) → change-instant-lts.Need-slice-write-state (R t) (change-instant-at t) change-instant.Post
@@ -150,7 +151,7 @@ change-instant-signal-is-present-requires-2 t c κs =
     let front = c .before .before .before .before .before .before in
     let pre = front .before .before .before .before .pre .1 in
     let known = signal-known (found t front) (omega (arith, c .if4 .taken)) (omega (arith, c .if4 .taken)) in
-    (pre .0 .laid, (pre .1 .1 .known, known))
+    (pre .0 .checked, (pre .1 .0, (pre .1 .1 .known, known)))
 
 change-instant-returns-3 : (t : ℕ) → change-instant-lts.Need-returns-3 (R t) (change-instant-at t) change-instant.Post
 change-instant-returns-3 t c =
@@ -183,7 +184,7 @@ change-instant-find-rear-requires :
 change-instant-find-rear-requires t c κs =
     let front = c .before .before .before .before .before .before .before .before .before .before .before .before in
     let pre = front .before .before .before .before .pre .1 in
-    ((pre .0 .laid, (pre .0 .checked, (pre .1 .0, pre .1 .1 .known))), (ap (λ f. f .form) (front .find-front .ensures), c .if6 .taken))
+    ((pre .0 .checked, (pre .1 .0, pre .1 .1 .known)), (ap (λ f. f .form) (front .find-front .ensures), c .if6 .taken))
 
 change-instant-sub-change-instant-2 :
     (t : ℕ) → change-instant-lts.Need-sub-change-instant-2 (R t) (change-instant-at t) change-instant.Post
@@ -216,8 +217,8 @@ change-instant-same-length-2 t c =
     let front = ahead .before .before in
     let one = first .change-instant in
     let two = second .change-instant2 in
-    length-two (found t front) (ahead .if1 .left) (one .last .1 .1 .1 .1 .0) (one .kept .1 .1 .1 .1 .0)
-    (both .if6 .taken) (behind-it .find-rear .ensures) (two .last .1 .1 .1 .1 .0) (two .kept .1 .1 .1 .1 .0)
+    length-two (found t front) (ahead .if1 .left) (one .last .1 .1 .1 .0) (one .kept .1 .1 .1 .0)
+    (both .if6 .taken) (behind-it .find-rear .ensures) (two .last .1 .1 .1 .0) (two .kept .1 .1 .1 .0)
 
 change-instant-returns-4 : (t : ℕ) → change-instant-lts.Need-returns-4 (R t) (change-instant-at t) change-instant.Post
 change-instant-returns-4 t c =
@@ -229,8 +230,8 @@ change-instant-returns-4 t c =
     let front = ahead .before .before in
     let one = first .change-instant in
     let two = second .change-instant2 in
-    two-changed (found t front) (ahead .if1 .left) (one .last .1 .1 .1 .1 .0) (one .kept .1 .1 .1 .1 .0)
-    (both .if6 .taken) (behind-it .find-rear .ensures) (two .last .1 .1 .1 .1 .0) (two .kept .1 .1 .1 .1 .0)
+    two-changed (found t front) (ahead .if1 .left) (one .last .1 .1 .1 .0) (one .kept .1 .1 .1 .0)
+    (both .if6 .taken) (behind-it .find-rear .ensures) (two .last .1 .1 .1 .0) (two .kept .1 .1 .1 .0)
     (one .ensures) (two .ensures)
 
 change-instant-same-length-3 :
@@ -240,7 +241,7 @@ change-instant-same-length-3 t c =
     let ahead = first .before .before .before .before .before .before in
     let front = ahead .before .before in
     let one = first .change-instant in
-    length-one (found t front) (ahead .if1 .left) (one .last .1 .1 .1 .1 .0) (one .kept .1 .1 .1 .1 .0)
+    length-one (found t front) (ahead .if1 .left) (one .last .1 .1 .1 .0) (one .kept .1 .1 .1 .0)
 
 change-instant-returns-5 : (t : ℕ) → change-instant-lts.Need-returns-5 (R t) (change-instant-at t) change-instant.Post
 change-instant-returns-5 t c =
@@ -250,7 +251,7 @@ change-instant-returns-5 t c =
     let ahead = opened .before .before in
     let front = ahead .before .before in
     let one = first .change-instant in
-    one-changed (found t front) (ahead .if1 .left) (one .last .1 .1 .1 .1 .0) (one .kept .1 .1 .1 .1 .0)
+    one-changed (found t front) (ahead .if1 .left) (one .last .1 .1 .1 .0) (one .kept .1 .1 .1 .0)
     (c .if6 .left) (silent t opened) (shown t joined) (one .ensures)
 
 pub +change-instant-spec : {M : Type 1} → statement M

@@ -1,8 +1,8 @@
 -- `expression_word`: the entry, spelled by its kind.
-use mathlib.Core.Path.{_≡_, ap, _∙_}
+use mathlib.Core.Path.{ap}
 use Prim.Native.Nat.{_+_, _<_}
 use native.Mathlib.Omega.{arith}
-use Rattle.script.specs.Entries.{partAt, partOf}
+use Rattle.script.specs.Entries.{partAt}
 use Rattle.script.proofs.Values.{word-fits}
 use Rattle.runner.proofs.Plans.{spells-constant, spells}
 use borrow.Author.Needs.{needs}

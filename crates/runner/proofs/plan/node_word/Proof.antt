@@ -7,7 +7,6 @@ use Rattle.script.specs.Entries.{partAt, partOf, node}
 use Rattle.script.specs.Tree.{processOf, size}
 use Rattle.script.proofs.Layouts.{few-bounds, nodes-are}
 use Rattle.script.proofs.Values.{word-fits}
-use Rattle.runner.specs.Plan.{formsOf, packed, Planned}
 use Rattle.runner.proofs.Reading.{node-read}
 use Rattle.runner.proofs.Fronts.{kind-known}
 use Rattle.runner.proofs.Plans.{forms-fit, planned}

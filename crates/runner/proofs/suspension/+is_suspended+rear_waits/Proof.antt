@@ -7,6 +7,7 @@ use lib.ListN.{length}
 use borrow.Author.Tests.{not-true, not-false}
 use Rattle.language.specs.Steps.{present, suspended}
 use Rattle.runner.specs.Residual.{own}
+use Rattle.script.specs.Layout.{layoutOf}
 use Rattle.runner.specs.Forms.{guarded, frontOf, partIn}
 use Rattle.runner.specs.Contracts.{left}
 use Rattle.runner.proofs.Sights.{signalAt}
@@ -28,10 +29,10 @@ use Rattle.runner.proofs.suspension.+is_suspended+rear_waits.{statement
 use Rattle.runner.proofs.suspension.+is_suspended+rear_waits.Tie.{close}
 
 abbrev μ-is-suspended : Measures 4 is-suspended-kinds.ps ℕ
-μ-is-suspended κs a = 2 * a .1 .1 .1 .1 .1 .0 + 1
+μ-is-suspended κs a = 2 * a .1 .1 .1 .1 .0 + 1
 
 abbrev μ-rear-waits : Measures 4 rear-waits-kinds.ps ℕ
-μ-rear-waits κs a = 2 * a .1 .1 .1 .1 .1 .0
+μ-rear-waits κs a = 2 * a .1 .1 .1 .1 .0
 
 abbrev is-suspended-at : ℕ → In 4 is-suspended-kinds.ps
 is-suspended-at t =
@@ -72,7 +73,7 @@ Q t = (find-rear-reads.Asked, find-rear-reads.Learnt, is-suspended-below t, is-s
 found :
     (t : ℕ) (c : is-suspended-lts.After-find-front (R t) (is-suspended-at t) is-suspended.Post) →
     let args = c .before .before .before .before .args in
-    Found (args .s .now) (args .c) (args .values .now) (args .k) (args .state .now) (c .find-front .result)
+    Found (args .s .now) (layoutOf (args .s .now)) (args .values .now) (args .k) (args .state .now) (c .find-front .result)
 found t c =
     let pre = c .before .before .before .before .pre .1 in
     record { valued = pre .0; at = pre .1 .1; front = c .find-front .ensures }
@@ -104,7 +105,7 @@ is-suspended-find-front-requires :
     (t : ℕ) → is-suspended-lts.Need-find-front-requires (R t) (is-suspended-at t) is-suspended.Post
 is-suspended-find-front-requires t c κs =
     let pre = c .before .before .before .pre .1 in
-    (pre .0 .laid, (pre .0 .checked, (pre .1 .0, pre .1 .1 .known)))
+    (pre .0 .checked, (pre .1 .0, pre .1 .1 .known))
 
 is-suspended-returns : (t : ℕ) → is-suspended-lts.Need-returns (R t) (is-suspended-at t) is-suspended.Post
 is-suspended-returns t c = sym (stays (found t (c .before .before)) (c .if1 .taken) .waits)
@@ -115,7 +116,7 @@ is-suspended-signal-is-present-requires t c κs =
     let front = c .before .before .before .before in
     let pre = front .before .before .before .before .pre .1 in
     let known = signal-known (found t front) (omega (arith, c .if2 .taken)) (omega (arith, c .if2 .taken)) in
-    (pre .0 .laid, (pre .1 .1 .known, known))
+    (pre .0 .checked, (pre .1 .0, (pre .1 .1 .known, known)))
 
 is-suspended-returns-2 : (t : ℕ) → is-suspended-lts.Need-returns-2 (R t) (is-suspended-at t) is-suspended.Post
 is-suspended-returns-2 t c =
@@ -197,7 +198,7 @@ rear-waits-find-rear-requires :
 rear-waits-find-rear-requires t c κs =
     let start = c .before .before .before .before in
     let pre = start .pre .1 .0 in
-    ((pre .0 .laid, (pre .0 .checked, (pre .1 .0, pre .1 .1 .known))), (start .pre .1 .1, c .before .if1 .left))
+    ((pre .0 .checked, (pre .1 .0, pre .1 .1 .known)), (start .pre .1 .1, c .before .if1 .left))
 
 rear-waits-sub-is-suspended : (t : ℕ) → rear-waits-lts.Need-sub-is-suspended (Q t) (rear-waits-at t) rear-waits.Post
 rear-waits-sub-is-suspended t c = behind t c .order

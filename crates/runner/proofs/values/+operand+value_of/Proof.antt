@@ -1,10 +1,10 @@
 -- `operand` and `value_of`: the operands of an expression have smaller numbers, so e falls.
 use mathlib.Core.Path.{_≡_, ap, ap₂, _∙_}
 use mathlib.Core.List.{List}
-use Prim.Native.Nat.{ℕ, _+_, _*_, _≤_, _<_}
+use Prim.Native.Nat.{ℕ, _+_, _*_, _<_}
 use native.Mathlib.Omega.{arith}
 use lib.IntN.{ℤ}
-use lib.ListN.{getD, length}
+use lib.ListN.{getD}
 use Rattle.language.specs.Values.{negation}
 use Rattle.language.specs.Steps.{value}
 use Rattle.language.proofs.Bits.{given-back}
@@ -15,7 +15,7 @@ use Rattle.script.proofs.Layouts.{few-bounds, expressions-are}
 use Rattle.runner.specs.Plan.{kindIn, operandIn, laterIn, KeepsPlan}
 use Rattle.runner.specs.Contracts.{applied, Evaluable}
 use Rattle.runner.proofs.Evaluating.{Tells, word-tells}
-use borrow.Author.Needs.{needs, fits-under}
+use borrow.Author.Needs.{fits-under}
 use borrow.Fn.Kinds.{In}
 use borrow.Fn.PlainCycle.{Measures, is, falls, and}
 use Rattle.runner.proofs.values.operand.Reads as operand

@@ -1,40 +1,54 @@
--- `signal_is_present`: the part that is read is the node.
-use mathlib.Core.Path.{_≡_, sym, ap, _∙_, subst}
+-- `signal_is_present`: field a, as the word of the node tells it.
+use mathlib.Core.Path.{_≡_, ap, _∙_}
 use Prim.Native.Nat.{_<_}
 use native.Mathlib.Omega.{arith}
-use lib.ListN.{length}
 use Rattle.language.specs.Steps.{present}
+use Rattle.script.specs.Layout.{layoutOf}
 use Rattle.script.specs.Entries.{partOf, node}
-use Rattle.script.proofs.Layouts.{nodes-are}
-use Rattle.runner.proofs.Reading.{node-read}
+use Rattle.script.proofs.Layouts.{few-bounds, nodes-are}
 use borrow.Author.Needs.{needs}
 use Rattle.runner.proofs.values.signal_is_present.Statement.{statement}
 use Rattle.runner.proofs.values.signal_is_present.Tie as tie
 
-add-part-at : tie.Need-add-part-at
-add-part-at c = search needs
+few : (c : tie.Start) → c .args .k < 256
+few c =
+    let laid = c .pre .0 .laid in
+    omega (arith, c .pre .1 .1 .0, nodes-are laid, few-bounds (layoutOf (c .args .s .now)) (laid .few))
 
-part-at-requires : tie.Need-part-at-requires
-part-at-requires c κs =
-    let start = c .before .before in
-    (start .pre .0, omega (arith, start .pre .1 .0, nodes-are (start .pre .0)))
+add-field-in : tie.Need-add-field-in
+add-field-in c = search needs
 
--- the part that was read
+mul-field-in : tie.Need-mul-field-in
+mul-field-in c = search needs
+
+element-copy-out-field-in : tie.Need-element-copy-out-field-in
+element-copy-out-field-in c = omega (arith, few (c .before))
+
+field-in-requires : tie.Need-field-in-requires
+field-in-requires c κs = search needs
+
+-- the field that was read
 read :
-    (c : tie.After-part-at) →
+    (c : tie.After-field-in) →
     let start = c .before .before .before in
-    c .part-at .result ≡ partOf (start .args .s .now) (node (start .args .s .now) (start .args .k))
-read c = node-read (c .before .before .before .args .k) (c .before .before .before .pre .0) (c .part-at .ensures)
+    c .field-in .result ≡ partOf (start .args .s .now) (node (start .args .s .now) (start .args .k)) .a
+read c =
+    let start = c .before .before .before in
+    c .field-in .ensures ∙ start .pre .1 .0 .nodes (start .args .k) (start .pre .1 .1 .0) .field
 
 is-present-requires : tie.Need-is-present-requires
-is-present-requires c κs =
-    let start = c .before .before .before in subst (λ p. p .a < length (start .args .values .now)) (sym (read c)) (start .pre .1 .1)
+is-present-requires c κs = omega (arith, read (c), c .before .before .before .pre .1 .1 .1)
 
 returns : tie.Need-returns
-returns c =
-    c .is-present .ensures
-    ∙ ap (λ p. present (c .before .before .before .before .args .values .now) (p .a)) (read (c .before))
+returns c = c .is-present .ensures ∙ ap (present (c .before .before .before .before .args .values .now)) (read ((c .before)))
 
 pub signal-is-present-spec : {M : Type 1} → statement M
 signal-is-present-spec =
-    tie.close (tie.spec add-part-at part-at-requires is-present-requires returns)
+    tie.close
+    (tie.spec
+    add-field-in
+    mul-field-in
+    element-copy-out-field-in
+    field-in-requires
+    is-present-requires
+    returns)
