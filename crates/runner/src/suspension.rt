@@ -13,7 +13,7 @@ ghost use Rattle.runner.specs.Forms.{frontOf};
 ghost use Rattle.runner.specs.Plan.{KeepsPlan};
 ghost use Rattle.runner.specs.Contracts.{Valued, At, left, RearWaits};
 
-// The part in front is asked, and of a parallel the other part, too: it is suspended if both are.
+// Of a parallel both parts are asked, first the one behind: after a move it is the one more often awake.
 pub fn is_suspended(
     s: &[u8],
     plan: &[usize; Script::MAX_PARTS],
@@ -32,12 +32,12 @@ pub fn is_suspended(
     if f.form == forms::GUARDED && !values::signal_is_present(s, plan, values, k) {
         return true;
     }
-    let from = f.from;
-    let to = f.to;
-    if !is_suspended(s, plan, values, &state[from..to], f.child) {
+    if !rear_waits(s, plan, values, state, k, f.form) {
         return false;
     }
-    rear_waits(s, plan, values, state, k, f.form)
+    let from = f.from;
+    let to = f.to;
+    is_suspended(s, plan, values, &state[from..to], f.child)
 }
 
 // Whether nothing behind the part in front of node k could move in its place: k is no parallel, or its other part

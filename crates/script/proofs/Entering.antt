@@ -3,38 +3,45 @@
 use mathlib.Core.Path.{_≡_, sym, ap, ap₂, _∙_}
 use mathlib.Core.Bool.{Bool, true, false, not, _&&_, _||_}
 use mathlib.Core.List.{List}
-use Prim.Native.Nat.{ℕ, _/_, _%_}
+use Prim.Native.Nat.{ℕ, _+_, _*_, _<_}
 use lib.Dec.{eqb}
 use Rattle.script.specs.declared.fields.Field.{Field}
 use Rattle.script.specs.Roles.{child}
 use Rattle.script.specs.Entries.{fieldCount, fieldOf}
 use Rattle.script.specs.Reach.{isUse, isNew, inReach, missesName, opens}
+use Rattle.script.proofs.Reaching.{opens-of}
 
--- the names of a set and those that field i opens
+-- the names of a set and those that field f of part q opens
 module _
-    (s : List ℕ) (i x : ℕ) (inSet : Bool)
-    (field : Field) (is : field ≡ fieldOf s (i / fieldCount) (i % fieldCount)) where
+    (s : List ℕ) (q f x : ℕ) (small : f < fieldCount) (inSet : Bool)
+    (field : Field) (is : field ≡ fieldOf s q f) where
   tests : Bool → Field → Bool
   tests t d = (t && (isNew (d .role) && eqb (d .value) x)) || inSet
 
-  pub opens-none : eqb (field .role) child ≡ false → inSet ≡ (opens s i x || inSet)
+  opens-is : tests (eqb (fieldOf s q f .role) child) (fieldOf s q 0) ≡ (opens s (fieldCount * q + f) x || inSet)
+  unfolding tests
+  opens-is = ap (λ b. b || inSet) (sym (opens-of s q f x small))
+
+  pub opens-none : eqb (field .role) child ≡ false → inSet ≡ (opens s (fieldCount * q + f) x || inSet)
   unfolding tests
   opens-none e =
-      let d : Field = fieldOf s (i / fieldCount) 0 in
-      ap (λ t. tests t d) (sym e) ∙ ap (λ (f : Field). tests (eqb (f .role) child) d) is
+      let d : Field = fieldOf s q 0 in
+      ap (λ t. tests t d) (sym e) ∙ ap (λ (z : Field). tests (eqb (z .role) child) d) is ∙ opens-is
 
   module _
-      (declared : Field) (first : declared ≡ fieldOf s (i / fieldCount) 0)
+      (declared : Field) (first : declared ≡ fieldOf s q 0)
       (e : eqb (field .role) child ≡ true) where
-    opens-declared : ((isNew (declared .role) && eqb (declared .value) x) || inSet) ≡ (opens s i x || inSet)
+    opens-declared :
+        ((isNew (declared .role) && eqb (declared .value) x) || inSet) ≡ (opens s (fieldCount * q + f) x || inSet)
     unfolding tests
     opens-declared =
-        ap (λ t. tests t declared) (sym e) ∙ ap₂ (λ (f d : Field). tests (eqb (f .role) child) d) is first
+        ap (λ t. tests t declared) (sym e) ∙ ap₂ (λ (z d : Field). tests (eqb (z .role) child) d) is first ∙ opens-is
 
-    pub opens-no-name : isNew (declared .role) ≡ false → inSet ≡ (opens s i x || inSet)
+    pub opens-no-name : isNew (declared .role) ≡ false → inSet ≡ (opens s (fieldCount * q + f) x || inSet)
     opens-no-name n = ap (λ t. (t && eqb (declared .value) x) || inSet) (sym n) ∙ opens-declared
 
-    pub opens-name : isNew (declared .role) ≡ true → (eqb (declared .value) x || inSet) ≡ (opens s i x || inSet)
+    pub opens-name :
+        isNew (declared .role) ≡ true → (eqb (declared .value) x || inSet) ≡ (opens s (fieldCount * q + f) x || inSet)
     opens-name n = ap (λ t. (t && eqb (declared .value) x) || inSet) (sym n) ∙ opens-declared
 
 module _ (s : List ℕ) (q f : ℕ) (field : Field) (is : field ≡ fieldOf s q f) where

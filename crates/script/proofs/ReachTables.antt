@@ -13,22 +13,14 @@ use Rattle.script.specs.Layout.{mostParts, nameCount, partCount}
 use Rattle.script.specs.Entries.{fieldCount, isSession}
 use Rattle.script.specs.Uses.{used, allFields}
 use Rattle.prelude.specs.Sets.{has, IsSet}
-use Rattle.script.specs.Reach.{inReach, opens, KeepsReach}
+use Rattle.script.specs.Reach.{inReach, opens, KeepsReachFrom, KeepsReach}
 use Rattle.script.specs.Refusals.{Joined}
 use Rattle.script.proofs.Reaching.{used-earlier, user, used-once, reach-used, reach-last}
-
--- the sets of the last part and of the parts that the fields from i on use are right
-pub record Filled (s : List ℕ) (i : ℕ) (sets : List ℕ) : Type 0 where
-  pub long : length sets ≡ mostParts
-  pub last : (q : ℕ) → suc q ≡ partCount s → IsSet (nameCount s) (isSession s) (getD sets q 0)
-  pub passed :
-      (k : ℕ) → i ≤ k → k < allFields s → used s k < mostParts →
-      IsSet (nameCount s) (λ x. inReach s x (used s k)) (getD sets (used s k) 0)
 
 module _ (s : List ℕ) (j : Joined s) (few : partCount s ≤ mostParts) where
   -- then so are those of all parts that only these fields can use
   pub right-from :
-      (i : ℕ) (sets : List ℕ) → Filled s i sets →
+      (i : ℕ) (sets : List ℕ) → KeepsReachFrom s i sets →
       (q : ℕ) → q < partCount s → i ≤ fieldCount * q + fieldCount →
       IsSet (nameCount s) (λ x. inReach s x q) (getD sets q 0)
   right-from i sets h q l u =
@@ -44,13 +36,13 @@ module _ (s : List ℕ) (j : Joined s) (few : partCount s ≤ mostParts) where
             λ x k. h .last q e x k ∙ sym (reach-last s j q x e k)
       ]
 
-  pub right-all : (sets : List ℕ) → Filled s 0 sets → KeepsReach s sets
+  pub right-all : (sets : List ℕ) → KeepsReachFrom s 0 sets → KeepsReach s sets
   right-all sets h q l = right-from 0 sets h q l (omega arith)
 
   -- before the first field: part v is the last one
   pub fill-last :
       (i v more : ℕ) (sets : List ℕ) → length sets ≡ mostParts → allFields s ≤ i → suc v ≡ partCount s →
-      IsSet (nameCount s) (isSession s) more → Filled s i (set sets v more)
+      IsSet (nameCount s) (isSession s) more → KeepsReachFrom s i (set sets v more)
   fill-last i v more sets n h end new =
       record {
         long = simp length-set n;
@@ -62,7 +54,7 @@ module _ (s : List ℕ) (j : Joined s) (few : partCount s ≤ mostParts) where
       }
 
   -- a field that uses no part
-  pub fill-skip : (i k : ℕ) (sets : List ℕ) → i ≤ suc k → mostParts ≤ used s k → Filled s i sets → Filled s k sets
+  pub fill-skip : (i k : ℕ) (sets : List ℕ) → i ≤ suc k → mostParts ≤ used s k → KeepsReachFrom s i sets → KeepsReachFrom s k sets
   fill-skip i k sets next none h =
       record {
         long = h .long;
@@ -79,7 +71,7 @@ module _ (s : List ℕ) (j : Joined s) (few : partCount s ≤ mostParts) where
   pub fill-more :
       (i k v more : ℕ) (sets : List ℕ) → i ≤ suc k → k < allFields s → v ≡ used s k → v < mostParts →
       IsSet (nameCount s) (λ x. opens s k x || has (getD sets (k / fieldCount) 0) x) more →
-      Filled s i sets → Filled s k (set sets v more)
+      KeepsReachFrom s i sets → KeepsReachFrom s k (set sets v more)
   fill-more i k v more sets next l e small new h =
       let uses : used s k < mostParts = omega arith in
       let earlier : used s k < k / fieldCount = used-earlier s j k l uses in

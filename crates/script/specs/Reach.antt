@@ -3,16 +3,16 @@
 use mathlib.Core.Path.{_≡_}
 use mathlib.Core.Bool.{Bool, false, not, _&&_, _||_}
 use mathlib.Core.List.{List}
-use Prim.Native.Nat.{ℕ, _+_, _*_, _/_, _%_, _<_}
+use Prim.Native.Nat.{ℕ, suc, _+_, _*_, _/_, _%_, _≤_, _<_}
 use lib.Dec.{eqb}
-use lib.ListN.{getD}
+use lib.ListN.{getD, length}
 use Rattle.prelude.specs.Search.{any}
 use Rattle.prelude.specs.Course.{entry}
 use Rattle.prelude.specs.Sets.{IsSet}
-use Rattle.script.specs.Layout.{nameCount, partCount}
+use Rattle.script.specs.Layout.{mostParts, nameCount, partCount}
 use Rattle.script.specs.Roles.{register, signal, newRegister, newSignal, child}
 use Rattle.script.specs.Entries.{nameOf, isSession, node, fieldCount, fieldOf}
-use Rattle.script.specs.Uses.{fieldAt, used}
+use Rattle.script.specs.Uses.{fieldAt, allFields, used}
 
 -- part q lies in part p: it is p, or it lies in a part that a field of p uses
 unfoldable pub within : List ℕ → ℕ → ℕ → Bool
@@ -50,6 +50,14 @@ opens s i x =
     eqb (fieldAt s i .role) child
     && (isNew (fieldOf s (i / fieldCount) 0 .role) && eqb (fieldOf s (i / fieldCount) 0 .value) x)
 
--- a table that keeps for each part the names in reach, as a set
+-- a table that keeps the names in reach in the last part, and in the parts that the fields from i on use, as a set each
+pub record KeepsReachFrom (s : List ℕ) (i : ℕ) (sets : List ℕ) : Type 0 where
+  pub long : length sets ≡ mostParts
+  pub last : (q : ℕ) → suc q ≡ partCount s → IsSet (nameCount s) (isSession s) (getD sets q 0)
+  pub passed :
+      (k : ℕ) → i ≤ k → k < allFields s → used s k < mostParts →
+      IsSet (nameCount s) (λ x. inReach s x (used s k)) (getD sets (used s k) 0)
+
+-- a table that keeps for each part the names in reach
 abbrev pub KeepsReach : List ℕ → List ℕ → Type 0
 KeepsReach s sets = (q : ℕ) → q < partCount s → IsSet (nameCount s) (λ x. inReach s x q) (getD sets q 0)

@@ -15,7 +15,7 @@ ghost use Rattle.prelude.specs.Search.{first};
 ghost use Rattle.script.specs.Layout.{Laid, mostNames};
 ghost use Rattle.script.specs.Entries.{isSession, fieldCount};
 ghost use Rattle.prelude.specs.Sets.{has, IsSet};
-ghost use Rattle.script.specs.Reach.{isUse, missesName, isOutOfReach, opens, KeepsReach};
+ghost use Rattle.script.specs.Reach.{isUse, missesName, isOutOfReach, opens, KeepsReachFrom, KeepsReach};
 ghost use Rattle.script.specs.Refusals.{Sound, Joined};
 
 // Name x is in the set: bit x.
@@ -52,14 +52,13 @@ fn session_names(s: &[u8], c: Script) -> u64
     set
 }
 
-// The names in reach in the part that field i uses, where `set` is in reach in the part that has the field:
+// The names in reach in the part that field f of part q uses, where `set` is in reach in part q:
 // in the body of a declaration the declared name is, too.
-fn entered(s: &[u8], c: Script, i: usize, set: u64) -> u64
-    requires { ⌜ Laid (now s) c × (Sound (now s) × (i < fieldCount * (c .expressions + c .nodes))) ⌝ }
-    ensures { λ r. ⌜ IsSet (c .names) (λ x. opens (now (s .entry)) i x || has set x) r ⌝ }
+fn entered(s: &[u8], c: Script, q: usize, f: usize, set: u64) -> u64
+    requires { ⌜ Laid (now s) c × (Sound (now s) × ((q < c .expressions + c .nodes) × (f < fieldCount))) ⌝ }
+    ensures { λ r. ⌜ IsSet (c .names) (λ x. opens (now (s .entry)) (fieldCount * q + f) x || has set x) r ⌝ }
 {
-    let q = i / Part::FIELDS;
-    let field = field_at(s, c, q, i % Part::FIELDS);
+    let field = field_at(s, c, q, f);
     if field.role != roles::CHILD {
         return set;
     }
@@ -70,7 +69,22 @@ fn entered(s: &[u8], c: Script, i: usize, set: u64) -> u64
     with_name(set, declared.value)
 }
 
-// For each part the names in reach. A part is used by a later one, so this goes from the last field to the first.
+// Finds the names in reach in the parts that the fields of part q use, where those of the later parts are found.
+fn enter_fields(s: &[u8], c: Script, q: usize, sets: &mut [u64; Script::MAX_PARTS])
+    requires { ⌜ Laid (now s) c × (Joined (now s) × ((q < c .expressions + c .nodes) × KeepsReachFrom (now s) (fieldCount * (q + 1)) (now sets))) ⌝ }
+    ensures { λ r. ⌜ KeepsReachFrom (now (s .entry)) (fieldCount * q) (now (sets .exit)) ⌝ }
+{
+    let mut f = Part::FIELDS;
+    while 0 < f {
+        f -= 1;
+        let part = used_at(s, c, q, f);
+        if part < Script::MAX_PARTS {
+            sets[part] = entered(s, c, q, f, sets[q]);
+        }
+    }
+}
+
+// For each part the names in reach. A part is used by a later one, so this goes from the last part to the first.
 pub fn find_reach(s: &[u8], c: Script) -> [u64; Script::MAX_PARTS]
     requires { ⌜ Laid (now s) c × Joined (now s) ⌝ }
     ensures { λ r. ⌜ KeepsReach (now (s .entry)) r ⌝ }
@@ -78,13 +92,10 @@ pub fn find_reach(s: &[u8], c: Script) -> [u64; Script::MAX_PARTS]
     let mut sets = [0u64; Script::MAX_PARTS];
     let n = c.expressions + c.nodes;
     sets[n - 1] = session_names(s, c);
-    let mut i = Part::FIELDS * n;
-    while 0 < i {
-        i -= 1;
-        let q = used_at(s, c, i);
-        if q < Script::MAX_PARTS {
-            sets[q] = entered(s, c, i, sets[i / Part::FIELDS]);
-        }
+    let mut q = n;
+    while 0 < q {
+        q -= 1;
+        enter_fields(s, c, q, &mut sets);
     }
     sets
 }

@@ -12,7 +12,7 @@ ghost use Prim.Native.Nat.{_+_, _*_, _<_, _≤_};
 ghost use Rattle.prelude.specs.Search.{first};
 ghost use Rattle.script.specs.Layout.{mostParts, Laid};
 ghost use Rattle.script.specs.Entries.{fieldCount};
-ghost use Rattle.script.specs.Uses.{usedBy, used, KeepsTimes};
+ghost use Rattle.script.specs.Uses.{usedBy, used, KeepsTimes, KeepsTimesTo};
 
 // The part that a field uses, or MAX_PARTS.
 fn used_by(c: Script, field: Field) -> usize
@@ -28,12 +28,27 @@ fn used_by(c: Script, field: Field) -> usize
     Script::MAX_PARTS
 }
 
-// The part that field i of all fields uses, or MAX_PARTS.
-pub fn used_at(s: &[u8], c: Script, i: usize) -> usize
-    requires { ⌜ Laid (now s) c × (i < fieldCount * (c .expressions + c .nodes)) ⌝ }
-    ensures { λ r. ⌜ r ≡ used (now (s .entry)) i ⌝ }
+// The part that field f of part q uses, or MAX_PARTS.
+pub fn used_at(s: &[u8], c: Script, q: usize, f: usize) -> usize
+    requires { ⌜ Laid (now s) c × ((q < c .expressions + c .nodes) × (f < fieldCount)) ⌝ }
+    ensures { λ r. ⌜ r ≡ used (now (s .entry)) (fieldCount * q + f) ⌝ }
 {
-    used_by(c, field_at(s, c, i / Part::FIELDS, i % Part::FIELDS))
+    used_by(c, field_at(s, c, q, f))
+}
+
+// Counts what the fields of part q use, where those of the parts before it are counted.
+fn count_fields(s: &[u8], c: Script, q: usize, times: &mut [u16; Script::MAX_PARTS])
+    requires { ⌜ Laid (now s) c × ((q < c .expressions + c .nodes) × KeepsTimesTo (now s) (fieldCount * q) (now times)) ⌝ }
+    ensures { λ r. ⌜ KeepsTimesTo (now (s .entry)) (fieldCount * (q + 1)) (now (times .exit)) ⌝ }
+{
+    let mut f: usize = 0;
+    while f < Part::FIELDS {
+        let part = used_at(s, c, q, f);
+        if part < Script::MAX_PARTS {
+            times[part] = times[part] + 1;
+        }
+        f += 1;
+    }
 }
 
 // For each part how often it is used.
@@ -42,14 +57,11 @@ pub fn count_uses(s: &[u8], c: Script) -> [u16; Script::MAX_PARTS]
     ensures { λ r. ⌜ KeepsTimes (now (s .entry)) r ⌝ }
 {
     let mut times = [0u16; Script::MAX_PARTS];
-    let n = Part::FIELDS * (c.expressions + c.nodes);
-    let mut i: usize = 0;
-    while i < n {
-        let q = used_at(s, c, i);
-        if q < Script::MAX_PARTS {
-            times[q] = times[q] + 1;
-        }
-        i += 1;
+    let n = c.expressions + c.nodes;
+    let mut q: usize = 0;
+    while q < n {
+        count_fields(s, c, q, &mut times);
+        q += 1;
     }
     times
 }

@@ -1,10 +1,8 @@
 -- `entered`: each way out decides one test of the definition.
 use mathlib.Core.Path.{_≡_, sym, ap, _∙_}
 use mathlib.Core.Bool.{true}
-use Prim.Native.Nat.{_/_}
 use native.Mathlib.Omega.{arith}
 use borrow.Author.Tests.{eq-eqb, ne-eqb, not-true, not-false}
-use Rattle.script.specs.Entries.{fieldCount}
 use Rattle.script.specs.Reach.{isNew}
 use Rattle.script.proofs.Layouts.{few-bounds, names-are, parts-are}
 use Rattle.script.proofs.Reaching.{named-new}
@@ -20,7 +18,7 @@ returns : tie.Need-returns
 returns c =
     let start = c .before .before .before .before in
     λ x h.
-    opens-none (start .args .s .now) (start .args .i) x _ _ (c .before .before .field-at .ensures)
+    opens-none (start .args .s .now) (start .args .q) (start .args .f) x (start .pre .1 .1 .1) _ _ (c .before .before .field-at .ensures)
     (ne-eqb _ _ (c .if1 .taken))
 
 field-at-requires-2 : tie.Need-field-at-requires-2
@@ -33,7 +31,7 @@ returns-2 : tie.Need-returns-2
 returns-2 c =
     let start = c .before .before .before .before .before .before .before in
     λ x h.
-    opens-no-name (start .args .s .now) (start .args .i) x _ _
+    opens-no-name (start .args .s .now) (start .args .q) (start .args .f) x (start .pre .1 .1 .1) _ _
     (c .before .before .before .before .before .field-at .ensures) _ (c .before .before .field-at2 .ensures)
     (eq-eqb _ _ (c .before .before .before .if1 .left))
     (sym (c .before .is-new .ensures) ∙ not-true _ (c .if2 .taken))
@@ -48,7 +46,7 @@ with-name-requires c κs =
     let laid = start .pre .0 in
     let field = c .before .before .field-at2 .ensures in
     let name =
-    named-new (start .args .s .now) (start .pre .1 .0) (start .args .i / fieldCount) 0
+    named-new (start .args .s .now) (start .pre .1 .0) (start .args .q) 0
     (omega (arith, parts-are laid))
     (omega arith)
     (ap (λ f. isNew (f .role)) (sym field) ∙ new c) in
@@ -59,7 +57,7 @@ returns-3 c =
     let start = c .before .before .before .before .before .before .before .before in
     λ x h.
     c .with-name .ensures x (omega (arith, few-bounds (start .args .c) (start .pre .0 .few)))
-    ∙ opens-name (start .args .s .now) (start .args .i) x _ _
+    ∙ opens-name (start .args .s .now) (start .args .q) (start .args .f) x (start .pre .1 .1 .1) _ _
     (c .before .before .before .before .before .before .field-at .ensures) _ (c .before .before .before .field-at2 .ensures)
     (eq-eqb _ _ (c .before .before .before .before .if1 .left))
     (new (c .before))

@@ -1,11 +1,9 @@
 -- `used_at`: the calls give the definition.
-use mathlib.Core.Path.{_∙_}
-use Prim.Native.Nat.{_/_, _%_}
+use mathlib.Core.Path.{sym, _∙_}
 use native.Mathlib.Omega.{arith}
-use Rattle.script.specs.Entries.{fieldCount}
-use Rattle.script.specs.Uses.{used}
 use Rattle.script.proofs.Layouts.{few-bounds, expressions-are}
 use Rattle.script.proofs.Values.{value-fits}
+use Rattle.script.proofs.Reaching.{used-of}
 use borrow.Author.Needs.{needs}
 use Rattle.script.proofs.uses.used_at.Statement.{statement}
 use Rattle.script.proofs.uses.used_at.Tie as tie
@@ -19,13 +17,15 @@ used-by-requires c κs =
     let bytes = c .before .shared-slice-known .given in (
       omega (arith, few-bounds (start .args .c) (start .pre .0 .few)),
       rw (c .field-at .ensures)
-          (value-fits (start .args .s .now) bytes (start .args .i / fieldCount) (start .args .i % fieldCount)),
+          (value-fits (start .args .s .now) bytes (start .args .q) (start .args .f)),
     )
 
 returns : tie.Need-returns
-unfolding used
 returns c =
-    c .used-by .ensures ∙ rw (c .before .field-at .ensures, expressions-are (c .before .before .before .pre .0))
+    let start = c .before .before .before in
+    c .used-by .ensures
+    ∙ rw (c .before .field-at .ensures, expressions-are (start .pre .0))
+    (sym (used-of (start .args .s .now) (start .args .q) (start .args .f) (start .pre .1 .1)))
 
 pub used-at-spec : {M : Type 1} → statement M
 used-at-spec = tie.close (tie.spec field-at-requires used-by-requires returns)
