@@ -1,7 +1,7 @@
 -- What the form of a node tells: its parts, and by them whether it is suspended and what an instant change makes of it.
 -- Assumes nothing.
 use mathlib.Core.Path.{_≡_, refl, sym, _∙_, subst}
-use mathlib.Core.Bool.{Bool, true, false}
+use mathlib.Core.Bool.{Bool, true, false, and-true, and-false, false≢true}
 use mathlib.Core.Logic.{_⊎_, inl, inr, ⊎-elim}
 use mathlib.Core.List.{List}
 use Prim.Native.Nat.{ℕ, _-_, _≤_, _<_}
@@ -209,15 +209,6 @@ module _ {s : List ℕ} {c : Script} {values : List ℤ} {k : ℕ} {st : List �
     abbrev front : Proc ℕ
     front = left s (f .child) (partIn f st)
 
-    -- the part in front is awake
-    pub awake-front : suspended front values ≡ false → suspended (left s k st) values ≡ false
-    unfolding suspended
-    awake-front w =
-        elim (decLt (f .form) beside) [
-          | yes l ↦ let a = ahead h l in rw (a .inside .whole, a .waits on front) w
-          | no n ↦ rw (rear-part (omega arith) .whole, w)
-        ]
-
     -- it waits, and so does the node if nothing behind it could move
     pub waiting-front :
         {waits : Bool} → suspended front values ≡ true → RearWaits s k st values (f .form) waits →
@@ -227,4 +218,22 @@ module _ {s : List ℕ} {c : Script} {values : List ℤ} {k : ℕ} {st : List �
         elim (decLt (f .form) beside) [
           | yes l ↦ let a = ahead h l in rw (a .inside .whole, a .waits on front, w) (b .none l)
           | no n ↦ rw (rear-part (omega arith) .whole, w) (b .other (omega arith))
+        ]
+
+    -- behind it is a part that could move
+    pub awake-rear : RearWaits s k st values (f .form) false → suspended (left s k st) values ≡ false
+    unfolding suspended
+    awake-rear b =
+        elim (decLt (f .form) beside) [
+          | yes l ↦ absurd (false≢true (b .none l))
+          | no n ↦ rw (rear-part (omega arith) .whole, ← b .other (omega arith)) (and-false (suspended front values))
+        ]
+
+    -- nothing behind it could move: the part in front decides
+    pub waiting-rear : RearWaits s k st values (f .form) true → suspended front values ≡ suspended (left s k st) values
+    unfolding suspended
+    waiting-rear b =
+        elim (decLt (f .form) beside) [
+          | yes l ↦ let a = ahead h l in rw (a .inside .whole, a .waits on front)
+          | no n ↦ rw (rear-part (omega arith) .whole, ← b .other (omega arith)) (sym (and-true (suspended front values)))
         ]

@@ -1,5 +1,5 @@
 -- `is_suspended` and `rear_waits`: by the form of the node, its part in front decides, or the part behind it.
-use mathlib.Core.Path.{_≡_, refl, sym, ap, _∙_}
+use mathlib.Core.Path.{_≡_, refl, sym, ap, _∙_, subst}
 use mathlib.Core.Bool.{true}
 use mathlib.Core.Logic.{⊎-elim}
 use native.Mathlib.Omega.{arith}
@@ -9,10 +9,10 @@ use Rattle.language.specs.Steps.{present, suspended}
 use Rattle.runner.specs.Residual.{own}
 use Rattle.script.specs.Layout.{layoutOf}
 use Rattle.runner.specs.Forms.{guarded, frontOf, partIn}
-use Rattle.runner.specs.Contracts.{left}
+use Rattle.runner.specs.Contracts.{left, RearWaits}
 use Rattle.runner.proofs.Sights.{signalAt}
 use Rattle.runner.proofs.Advancing.{some-bytes}
-use Rattle.runner.proofs.Deciding.{Found, Part, Rear, front-part, rear-part, stays, signal-known, shuts, awake-front, waiting-front}
+use Rattle.runner.proofs.Deciding.{Found, Part, Rear, front-part, rear-part, stays, signal-known, shuts, awake-rear, waiting-rear}
 use Prim.Native.Nat.{ℕ, _+_, _*_, _<_}
 use borrow.Fn.Kinds.{In}
 use borrow.Fn.PlainCycle.{Measures, is, falls, and}
@@ -60,10 +60,10 @@ R t = (
   find-front-reads.Learnt,
   signal-is-present-reads.Asked,
   signal-is-present-reads.Learnt,
-  is-suspended-below t,
-  is-suspended.Post,
   rear-waits-below t,
   rear-waits.Post,
+  is-suspended-below t,
+  is-suspended.Post,
 )
 
 abbrev Q : ℕ → rear-waits-lts.Claims
@@ -126,49 +126,54 @@ is-suspended-returns-2 t c =
     let absent = sym (signal .signal-is-present .ensures) ∙ not-true _ (c .if3 .taken) in
     sym (shuts (found t front) (opened .if2 .taken) absent .waits)
 
+is-suspended-rear-waits-requires :
+    (t : ℕ) → is-suspended-lts.Need-rear-waits-requires (R t) (is-suspended-at t) is-suspended.Post
+is-suspended-rear-waits-requires t c κs =
+    let front = c .before .before .before .before in
+    let pre = front .before .before .before .before .pre in
+    (omega (arith, pre .0), (pre .1, ap (λ f. f .form) (front .find-front .ensures)))
+
+is-suspended-returns-3 : (t : ℕ) → is-suspended-lts.Need-returns-3 (R t) (is-suspended-at t) is-suspended.Post
+is-suspended-returns-3 t c =
+    let opened = c .before .before in
+    let front = c .before .before .before .before .before .before in
+    let args = front .before .before .before .before .args in
+    sym
+    (awake-rear (found t front) (c .before .before .before .before .if1 .left) (shown t opened)
+    (subst
+    (RearWaits (args .s .now) (args .k) (args .state .now) (args .values .now) (front .find-front .result .form))
+    (not-true _ (c .if4 .taken))
+    (c .before .rear-waits .ensures)))
+
 is-suspended-sub-is-suspended :
     (t : ℕ) → is-suspended-lts.Need-sub-is-suspended (R t) (is-suspended-at t) is-suspended.Post
-is-suspended-sub-is-suspended t c = part t c .order
+is-suspended-sub-is-suspended t c = part t (c .before .before) .order
 
 is-suspended-part-is-suspended-start :
     (t : ℕ) → is-suspended-lts.Need-part-is-suspended-start (R t) (is-suspended-at t) is-suspended.Post
-is-suspended-part-is-suspended-start t c = part t c .order
+is-suspended-part-is-suspended-start t c = part t (c .before .before) .order
 
 is-suspended-part-is-suspended-end :
     (t : ℕ) → is-suspended-lts.Need-part-is-suspended-end (R t) (is-suspended-at t) is-suspended.Post
-is-suspended-part-is-suspended-end t c = part t c .within
+is-suspended-part-is-suspended-end t c = part t (c .before .before) .within
 
 is-suspended-is-suspended-requires :
     (t : ℕ) → is-suspended-lts.Need-is-suspended-requires (R t) (is-suspended-at t) is-suspended.Post
 is-suspended-is-suspended-requires t c κs =
-    let pre = c .before .before .before .before .before .before .before .before .before .pre in
-    (omega (arith, pre .0, part t (c .before) .earlier), (pre .1 .0, (pre .1 .1 .0, part t (c .before) .at)))
-
-is-suspended-returns-3 : (t : ℕ) → is-suspended-lts.Need-returns-3 (R t) (is-suspended-at t) is-suspended.Post
-is-suspended-returns-3 t c =
-    let asked = c .before in
-    let opened = asked .before .before in
-    let ahead = opened .before .before in
-    let front = ahead .before .before in
-    let awake = sym (asked .is-suspended .ensures) ∙ not-true _ (c .if4 .taken) in
-    sym (awake-front (found t front) (ahead .if1 .left) (shown t opened) awake)
-
-is-suspended-rear-waits-requires :
-    (t : ℕ) → is-suspended-lts.Need-rear-waits-requires (R t) (is-suspended-at t) is-suspended.Post
-is-suspended-rear-waits-requires t c κs =
-    let front = c .before .before .before .before .before .before .before in
-    let pre = front .before .before .before .before .pre in
-    (omega (arith, pre .0), (pre .1, ap (λ f. f .form) (front .find-front .ensures)))
+    let pre = c .before .before .before .before .before .before .before .before .before .before .before .pre in
+    (omega (arith, pre .0, part t (c .before .before .before) .earlier), (pre .1 .0, (pre .1 .1 .0, part t (c .before .before .before) .at)))
 
 is-suspended-returns-4 : (t : ℕ) → is-suspended-lts.Need-returns-4 (R t) (is-suspended-at t) is-suspended.Post
 is-suspended-returns-4 t c =
-    let joined = c .before in
-    let asked = joined .before in
-    let opened = asked .before .before in
-    let ahead = opened .before .before in
-    let front = ahead .before .before in
-    let waits = sym (asked .is-suspended .ensures) ∙ not-false _ (joined .if4 .left) in
-    waiting-front (found t front) (ahead .if1 .left) (shown t opened) waits (c .rear-waits .ensures)
+    let opened = c .before .before .before .before in
+    let front = c .before .before .before .before .before .before .before .before in
+    let args = front .before .before .before .before .args in
+    c .is-suspended .ensures
+    ∙ waiting-rear (found t front) (c .before .before .before .before .before .before .if1 .left) (shown t opened)
+    (subst
+    (RearWaits (args .s .now) (args .k) (args .state .now) (args .values .now) (front .find-front .result .form))
+    (not-false _ (c .before .before .if4 .left))
+    (c .before .before .before .rear-waits .ensures))
 
 -- the node is a parallel
 rear :
@@ -241,12 +246,12 @@ pub +is-suspended+rear-waits-spec : {M : Type 1} → statement M
     (is-suspended-returns t)
     (is-suspended-signal-is-present-requires t)
     (is-suspended-returns-2 t)
+    (is-suspended-rear-waits-requires t)
+    (is-suspended-returns-3 t)
     (is-suspended-sub-is-suspended t)
     (is-suspended-part-is-suspended-start t)
     (is-suspended-part-is-suspended-end t)
     (is-suspended-is-suspended-requires t)
-    (is-suspended-returns-3 t)
-    (is-suspended-rear-waits-requires t)
     (is-suspended-returns-4 t))
     λ t. rear-waits-lts.spec
     (Q t)
