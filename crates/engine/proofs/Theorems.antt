@@ -69,7 +69,7 @@ module _ (b s : List ℕ) where
       books.isAccepted b ≡ true → scripts.isAccepted s (count b) ≡ true → LevelsAgree 𝓛 (namesOf s) (session s) (tree s)
   levels k h =
       language.levels-agree 𝓛 (book-laws b k) (namesOf s) (tree s) (isSessionName s)
-          (tree-named s (checked b s h) .scoped)
+      (tree-named s (checked b s h) .scoped)
 
   -- the rules give the script some pair
   abbrev Typable : Type 0
@@ -149,8 +149,11 @@ module _ (b s : List ℕ) (reader : ℕ) (values : List ℤ) (limit : ℕ) (log 
       record {
         scoped = t .scoped;
         once = t .once;
-        sessions = λ x h. (and-right (ltb x (nameCount s)) _ h, ltb-true x (nameCount s)
-            (and-left (ltb x (nameCount s)) _ h));
+        sessions = λ x h. (
+          and-right (ltb x (nameCount s)) _ h,
+          ltb-true x (nameCount s)
+              (and-left (ltb x (nameCount s)) _ h),
+        );
         declared = t .declared;
       }
 
@@ -188,7 +191,7 @@ records-agree :
     (b s : List ℕ) (reader n m : ℕ) (values₁ values₂ : List ℤ) (log₁ log₂ : List ℕ) → n ≤ m →
     length log₁ ≡ length log₂ → Accepted b s → StartsAgree (bookLattice b) (namesOf s) reader values₁ values₂ →
     RecordsAgree (bookLattice b) (namesOf s) reader n m (runOf b s reader values₁ n log₁)
-        (runOf b s reader values₂ m log₂)
+    (runOf b s reader values₂ m log₂)
 records-agree b s reader n m values₁ values₂ log₁ log₂ l same-length a same =
     let names : Names ℕ = namesOf s in
     let sees : ℕ → Bool = readable (bookLattice b) names reader in

@@ -118,10 +118,10 @@ module _ {L : Type 0} (names : Names L) (n : ℕ) where
   -- a move that makes no name
   plain :
       {F : Kind → ℕ → Bool} {ρ origin : Renaming} {p rest : Proc L} {s values : List ℤ} {out O : Output}
-          {Γ : Environment L}
+      {Γ : Environment L}
       {S′ : ℕ → ℤ} {E′ : ℕ → Bool} {P′ : Proc L} →
       inplace.Move s p out rest values → SameOutput F ρ out O → Renamed ρ rest P′ →
-          Agree names n F ρ origin values Γ S′ E′ →
+      Agree names n F ρ origin values Γ S′ E′ →
       ((k : Kind) (y : ℕ) → Free k y rest → F k y ≡ true) → Carries rest → Kept p rest →
       Moved F ρ origin p s Γ O Γ S′ E′ P′
   plain {F} {ρ} {origin} {p} {rest} {s} {values} {out} {Γ = Γ} m w r g d c k =
@@ -146,7 +146,7 @@ module _ {L : Type 0} (names : Names L) (n : ℕ) where
 
   value-there :
       {F : Kind → ℕ → Bool} {ρ origin : Renaming} {s : List ℤ} {Γ : Environment L} {S : ℕ → ℤ} {E : ℕ → Bool}
-          (e e′ : Exp) →
+      (e e′ : Exp) →
       Agree names n F ρ origin s Γ S E → e′ ≡ renamedIn (ρ var) e → ((x : ℕ) → Occurs x e → F var x ≡ true) →
       value e s ≡ evaluate e′ S
   unfolding value
@@ -162,7 +162,7 @@ module _ {L : Type 0} (names : Names L) (n : ℕ) where
       let v = value-there e e′ g q′ (λ y o. m var y (inr (refl, o))) in
       let h = m var x (inl (same-self var x)) in
       plain {rest = nil} inplace.ASSIGN-OP (an-assignment h q v) r-nil (agree-assign g x x′ _ _ h q v)
-          (λ k y. absurd) tt (kept-nil _)
+      (λ k y. absurd) tt (kept-nil _)
   back SEQ-OP₁ (r-sequence r-nil d) g m c l =
       plain inplace.SEQ-OP₁ no-output d g (λ k y f. m k y (inr f)) (l .1)
       (record { decl = λ k y z. inr z; free = λ k y f. inl (inr f); clean = c .2 })
@@ -283,7 +283,7 @@ module _ {L : Type 0} (names : Names L) (n : ℕ) where
       }
   back {E = E} (WHEN-OP₁ h) (r-when {a = a} q r-nil) g m c l =
       plain {rest = nil} (inplace.WHEN-OP₁
-          (g .signals a (m sig a (inl (same-self sig a))) ∙ ap E (sym q) ∙ h)) no-output r-nil g
+      (g .signals a (m sig a (inl (same-self sig a))) ∙ ap E (sym q) ∙ h)) no-output r-nil g
       (λ k y. absurd) tt (kept-nil _)
   back {E = E} (WHEN-OP₂ h f) (r-when {a = a} q d) g m c l =
       let u = back f d g (λ k y z. m k y (inr z)) (c .1) l in

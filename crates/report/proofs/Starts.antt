@@ -66,7 +66,7 @@ module _ {L : Type 0} (names : Names L) where
   -- a name that is free in the body of a declaration, and is not the declared one, is in the scope outside
   outside :
       (scope : ℕ → Bool) (j : Kind) (x : ℕ) (k : Kind) (y : ℕ) → isOf j (names .isSignal x) ≡ true →
-          same j x k y ≡ false →
+      same j x k y ≡ false →
       In (withName scope x) k y → In scope k y
   outside scope j x k y o n i =
       let kind : isOf k (names .isSignal y) ≡ true = and-right (eqb x y || scope y) _ i in

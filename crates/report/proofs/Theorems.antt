@@ -137,7 +137,7 @@ module _ {L : Type 0} (names : Names L) where
           let v = step-back names n (u .alive .step) j in
           let o = one-step (v .step) d in
           let w = find r (subst (λ z. Joined names n (v .F′) (v .ρ′) (v .origin′) z (u .alive .next)) (o .1)
-              (v .joined)) (suc b) (u .names) in
+          (v .joined)) (suc b) (u .names) in
           record { lines = _; last = w .last; path = more (u .alive .step) (w .path) }
 
       -- where they have come to is alike
@@ -166,7 +166,7 @@ module _ {L : Type 0} (names : Names L) where
       -- why a run ends, of the configuration beside it
       ends-of :
           {F : Kind → ℕ → Bool} {ρ origin : Renaming} {limit room made lines : ℕ} {how : Ending} {at : System L}
-              {C : Configuration L} (b : ℕ) →
+          {C : Configuration L} (b : ℕ) →
           NamesBelow b (C .environment) → Joined names n F ρ origin at C → Fixed names n below Γ F ρ at →
           paths.Ends names (sees names n below Γ) limit room at how made lines → EndsAs below how C made limit
       unfolding Option·toList
@@ -244,11 +244,11 @@ module _
                 λ ms D f x δ h.
                 the-same ms D f .store x δ h
                 ∙ sym (ap (λ v. held v x) (run .values) ∙ given-back-session names (run .last .values) x
-                    (in-session var x δ h));
+                (in-session var x δ h));
             signals =
                 λ ms D f a δ h.
                 the-same ms D f .signals a δ h
                 ∙ sym (ap (λ v. present v a) (run .values) ∙ ap holds
-                    (given-back-session names (run .last .values) a (in-session sig a δ h)));
+                (given-back-session names (run .last .values) a (in-session sig a δ h)));
             ends = ending;
           }

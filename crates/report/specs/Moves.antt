@@ -33,7 +33,7 @@ pub data Move {L : Type 0} (Γ : Environment L) (S : ℕ → ℤ) (E : ℕ → B
     COND-OP₂ : {e : Exp} {p q : Proc L} → holds (evaluate e S) ≡ false → Move Γ S E (ifThenElse e p q) silent Γ S E q
     WHILE-OP₁ :
         {e : Exp} {p : Proc L} → holds (evaluate e S) ≡ true → Move Γ S E (while e p) silent Γ S E
-            (sequence p (while e p))
+        (sequence p (while e p))
     WHILE-OP₂ : {e : Exp} {p : Proc L} → holds (evaluate e S) ≡ false → Move Γ S E (while e p) silent Γ S E nil
     -- Figure 3: reactive constructs
     EMIT-OP : {a : ℕ} → Move Γ S E (emit a) (emitted a) Γ S (update E a true) nil

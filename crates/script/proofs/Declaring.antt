@@ -65,7 +65,7 @@ module _ (s : List ℕ) (ok : Checked s) where
         let place : at / fieldCount ≡ node s k = omega (arith, d .inside) in
         let up =
         within-up s (ok .joined) at (omega (arith, d .inside)) (omega (arith, d .uses, d .before, few))
-            (suc (node s i)) (node s i)
+        (suc (node s i)) (node s i)
         (omega arith) (omega (arith, c .before))
         (subst (λ u. within s (node s i) u ≡ true) (sym (d .uses)) w)
         (λ e. ne (same-field e))
@@ -104,7 +104,7 @@ module _ (s : List ℕ) (ok : Checked s) where
             inr
             (subst (λ z. within s b z ≡ true) place
             (within-up s (ok .joined) (fieldCount * a + f) (omega (arith, i, ha)) (omega (arith, v, ha, few)) (suc b) b
-                (omega arith) hb x ne))
+            (omega arith) hb x ne))
       ])
       (one-in-other n c b d (omega (arith, v, l)) (omega (arith, v, ha)) hb t w))
 
@@ -115,7 +115,7 @@ module _ (s : List ℕ) (ok : Checked s) where
     apart-at {f} {g} {i} {j} q ne c d u w =
         ⊎-elim (siblings h ne c d) (siblings h (λ e. ne (sym e)) d c)
         (one-in-other (suc (node s i)) (node s i) (node s j) q (omega arith) (omega (arith, c .before))
-            (omega (arith, d .before)) u w)
+        (omega (arith, d .before)) u w)
 
   -- the owner of a name that a process declares lies in its node
   pub record Owned (k y : ℕ) : Type 0 where
@@ -143,7 +143,7 @@ module _ (s : List ℕ) (ok : Checked s) where
   declared-view k h go (anAssign e q x z) i y d = absurd (rw q at d)
   declared-view k h go (aLet e q x z p) i y d =
       ⊎-elim (owned-here var i y x)
-          (λ b. owned-in h (child-at k h 2 e 2 (omega arith) refl (p .before)) (go _ (p .before) i y b)) (rw q at d)
+      (λ b. owned-in h (child-at k h 2 e 2 (omega arith) refl (p .before)) (go _ (p .before) i y b)) (rw q at d)
   declared-view k h go (anIf e q z p r) i y d =
       ⊎-elim
       (λ b. owned-in h (child-at k h 3 e 1 (omega arith) refl (p .before)) (go _ (p .before) i y b))
@@ -159,7 +159,7 @@ module _ (s : List ℕ) (ok : Checked s) where
   declared-view k h go (anEmit e q x) i y d = absurd (rw q at d)
   declared-view k h go (aLocal e q x p) i y d =
       ⊎-elim (owned-here sig i y x)
-          (λ b. owned-in h (child-at k h 7 e 1 (omega arith) refl (p .before)) (go _ (p .before) i y b)) (rw q at d)
+      (λ b. owned-in h (child-at k h 7 e 1 (omega arith) refl (p .before)) (go _ (p .before) i y b)) (rw q at d)
   declared-view k h go (aWatching e q x p) i y d =
       owned-in h (child-at k h 8 e 1 (omega arith) refl (p .before)) (go _ (p .before) i y (rw q at d))
   declared-view k h go (aWhen e q x p) i y d =

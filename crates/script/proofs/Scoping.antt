@@ -111,7 +111,7 @@ module _ (s : List ℕ) (ok : Checked s) where
       scoped-view scope k h c
       (λ j new u.
       scoped-node n j (λ x. new x || scope x) (omega (arith, u .before)) (omega (arith, u .before))
-          (covers-part (u .part) c))
+      (covers-part (u .part) c))
       (node-view s ok k h)
 
   -- in any scope that has the session's names
