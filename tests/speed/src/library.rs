@@ -1,22 +1,16 @@
-//! The library's two calls, as they are.
+//! The library's two calls, through the safe crate, with their answers as numbers.
 
-use station::raw;
+use station::{Ending, Refusal};
 
 /// Number, place, W, T.
 pub fn check(book: &[u8], script: &[u8]) -> [u32; 4] {
-    let mut out = [0; 4];
-    // SAFETY: each pointer is that of a live slice and its length follows it.
-    unsafe {
-        raw::station_check(
-            book.as_ptr(),
-            book.len(),
-            script.as_ptr(),
-            script.len(),
-            out.as_mut_ptr(),
-            out.len(),
-        );
+    match station::check(book, script) {
+        Ok(levels) => [0, 0, levels.write, levels.test],
+        Err(refusal) => {
+            let [number, place] = numbers(refusal);
+            [number, place, 0, 0]
+        }
     }
-    out
 }
 
 /// Number, place, ending, steps, instants, lines.
@@ -28,23 +22,28 @@ pub fn run(
     limit: u32,
     log: &mut [u32],
 ) -> [u32; 6] {
-    let mut out = [0; 6];
-    // SAFETY: each pointer is that of a live slice and its length follows it; no two of the mutable ones overlap.
-    unsafe {
-        raw::station_run(
-            book.as_ptr(),
-            book.len(),
-            script.as_ptr(),
-            script.len(),
-            reader,
-            values.as_mut_ptr(),
-            values.len(),
-            limit,
-            log.as_mut_ptr(),
-            log.len(),
-            out.as_mut_ptr(),
-            out.len(),
-        );
+    match station::run(book, script, reader, values, limit, log) {
+        Ok(run) => {
+            let ending = ending_number(run.ending);
+            [0, 0, ending, run.steps, run.instants, run.lines as u32]
+        }
+        Err(refusal) => {
+            let [number, place] = numbers(refusal);
+            [number, place, 0, 0, 0, 0]
+        }
     }
-    out
+}
+
+fn numbers(refusal: Refusal) -> [u32; 2] {
+    [refusal.reason.number(), refusal.place]
+}
+
+fn ending_number(ending: Ending) -> u32 {
+    match ending {
+        Ending::Finished => 0,
+        Ending::Spent => 1,
+        Ending::LogFull => 2,
+        Ending::Unknown(number) => number,
+        _ => u32::MAX,
+    }
 }
