@@ -3,6 +3,8 @@
 # The last line is 'N passed, M failed'.
 set -u
 cd "$(dirname "$0")/.."
+# where rustup puts cargo, if that folder is not on the path
+command -v cargo >/dev/null || PATH="$PATH:${HOME:-}/.cargo/bin"
 library=target/staticlib/libengine.a
 log=target/library.log
 passed=0
