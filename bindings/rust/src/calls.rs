@@ -31,6 +31,16 @@ pub enum Ending {
 }
 
 impl Ending {
+    /// The number that the C interface returns for it.
+    pub fn number(self) -> u32 {
+        match self {
+            Ending::Finished => 0,
+            Ending::Spent => 1,
+            Ending::LogFull => 2,
+            Ending::Unknown(number) => number,
+        }
+    }
+
     fn from_number(number: u32) -> Ending {
         match number {
             0 => Ending::Finished,

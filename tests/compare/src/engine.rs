@@ -2,7 +2,6 @@
 
 use crate::raw;
 use reference::Rules;
-use station::Ending;
 
 /// One call's arguments, beside the level book and the script file.
 pub struct RunArguments<'a> {
@@ -53,29 +52,11 @@ impl Engine for Wrapper {
         let answer = match station::run(book, script, reader, values, limit, log) {
             Ok(run) => {
                 let lines = run.lines.try_into().unwrap_or(u32::MAX);
-                [
-                    0,
-                    0,
-                    ending_number(run.ending),
-                    run.steps,
-                    run.instants,
-                    lines,
-                ]
+                [0, 0, run.ending.number(), run.steps, run.instants, lines]
             }
             Err(refusal) => [refusal.reason.number(), refusal.place, 0, 0, 0, 0],
         };
         put(out, &answer);
-    }
-}
-
-/// 01's number of an ending.
-fn ending_number(ending: Ending) -> u32 {
-    match ending {
-        Ending::Finished => 0,
-        Ending::Spent => 1,
-        Ending::LogFull => 2,
-        Ending::Unknown(number) => number,
-        _ => u32::MAX,
     }
 }
 

@@ -1,6 +1,6 @@
 //! The library's two calls, through the safe crate, with their answers as numbers.
 
-use station::{Ending, Refusal};
+use station::Refusal;
 
 /// Number, place, W, T.
 pub fn check(book: &[u8], script: &[u8]) -> [u32; 4] {
@@ -24,7 +24,7 @@ pub fn run(
 ) -> [u32; 6] {
     match station::run(book, script, reader, values, limit, log) {
         Ok(run) => {
-            let ending = ending_number(run.ending);
+            let ending = run.ending.number();
             [0, 0, ending, run.steps, run.instants, run.lines as u32]
         }
         Err(refusal) => {
@@ -36,14 +36,4 @@ pub fn run(
 
 fn numbers(refusal: Refusal) -> [u32; 2] {
     [refusal.reason.number(), refusal.place]
-}
-
-fn ending_number(ending: Ending) -> u32 {
-    match ending {
-        Ending::Finished => 0,
-        Ending::Spent => 1,
-        Ending::LogFull => 2,
-        Ending::Unknown(number) => number,
-        _ => u32::MAX,
-    }
 }

@@ -1,6 +1,6 @@
 //! Refusal 7: wrong expressions.
 
-use super::{find, not_zero, Draft, Sort};
+use super::{find, not_zero, past, Draft, Sort};
 use crate::file::{Entry, File};
 use crate::rng::Rng;
 
@@ -55,13 +55,7 @@ pub const SORTS: &[Sort] = &[
     }),
     Sort::new(7, "operand past the expressions", |draft, rng| {
         let count = draft.file.expressions.len();
-        operand(draft, rng, |_, rng| {
-            if rng.chance(1, 2) {
-                count
-            } else {
-                rng.between(count, 65535)
-            }
-        })
+        operand(draft, rng, |_, rng| past(rng, count))
     }),
     Sort::new(7, "register field names a signal", |draft, rng| {
         let names = &draft.file.names;
@@ -78,11 +72,7 @@ pub const SORTS: &[Sort] = &[
             rng,
             |e| e.kind == 1,
             |e, rng| {
-                e.a = if rng.chance(1, 2) {
-                    count
-                } else {
-                    rng.between(count, 65535)
-                } as u16;
+                e.a = past(rng, count) as u16;
             },
         )
     }),

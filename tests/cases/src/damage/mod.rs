@@ -103,3 +103,11 @@ fn not_zero(rng: &mut Rng) -> u16 {
         false => number.max(1),
     }
 }
+
+/// A number that none of `count` entries has: often the first such.
+fn past(rng: &mut Rng, count: usize) -> usize {
+    match rng.chance(1, 2) {
+        true => count,
+        false => rng.between(count, 65535),
+    }
+}

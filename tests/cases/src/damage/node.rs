@@ -1,6 +1,6 @@
 //! Refusal 8: wrong nodes.
 
-use super::{find, not_zero, Draft, Sort};
+use super::{find, not_zero, past, Draft, Sort};
 use crate::file::{Entry, File, SESSION};
 use crate::rng::Rng;
 
@@ -59,13 +59,7 @@ pub const SORTS: &[Sort] = &[
     }),
     Sort::new(8, "child past the nodes", |draft, rng| {
         let count = draft.file.nodes.len();
-        child(draft, rng, |_, rng| {
-            if rng.chance(1, 2) {
-                count
-            } else {
-                rng.between(count, 65535)
-            }
-        })
+        child(draft, rng, |_, rng| past(rng, count))
     }),
     Sort::new(8, "expression past the expressions", |draft, rng| {
         let count = draft.file.expressions.len();
@@ -73,12 +67,7 @@ pub const SORTS: &[Sort] = &[
             File::expression_field(node.kind).is_some()
         })?;
         let field = File::expression_field(draft.file.nodes[place].kind)?;
-        let past = if rng.chance(1, 2) {
-            count
-        } else {
-            rng.between(count, 65535)
-        };
-        *draft.file.nodes[place].field_mut(field) = past as u16;
+        *draft.file.nodes[place].field_mut(field) = past(rng, count) as u16;
         Some(())
     }),
     Sort::new(8, "assign to a signal", |draft, rng| {
@@ -97,11 +86,7 @@ pub const SORTS: &[Sort] = &[
         let count = draft.file.names.len();
         let uses = |node: &Entry| matches!(node.kind, 1 | 6 | 8 | 9);
         change(draft, rng, uses, |node, rng| {
-            node.a = if rng.chance(1, 2) {
-                count
-            } else {
-                rng.between(count, 65535)
-            } as u16;
+            node.a = past(rng, count) as u16;
         })
     }),
     Sort::new(8, "declares a session name", |draft, rng| {
