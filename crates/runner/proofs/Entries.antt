@@ -9,13 +9,15 @@ use native.Mathlib.Omega.{arith}
 use lib.ListN.{length}
 use Rattle.language.specs.Syntax.{isNil}
 use Rattle.language.specs.Steps.{present}
-use Rattle.runner.specs.declared.forms.Front.{Front}
-use Rattle.runner.specs.Residual.{own}
-use Rattle.runner.specs.Forms.{gone, mover, guarded, frontOf}
-use Rattle.runner.specs.Moves.{Running, Ends, waits, spent, full}
-use Rattle.runner.specs.Moves as moves
-use Rattle.runner.specs.Contracts.{left, into, Advances, Enters}
-use Rattle.runner.proofs.Sights.{signalAt, Sight, sees-gone, sees-mover, sees-alone, sees-before, sees-watched, sees-guarded, sees-beside}
+use Rattle.plan.specs.declared.forms.Front.{Front}
+use Rattle.residual.specs.Residual.{own}
+use Rattle.plan.specs.Forms.{gone, mover, guarded, frontOf}
+use Rattle.moves.specs.Moves.{Running, Ends, waits, spent, full}
+use Rattle.moves.specs.Moves as moves
+use Rattle.residual.specs.Nodes.{left}
+use Rattle.runner.specs.Contracts.{into, Enters}
+use Rattle.moves.specs.Contracts.{Advances}
+use Rattle.residual.proofs.Sights.{signalAt, Sight, sees-gone, sees-mover, sees-alone, sees-before, sees-watched, sees-guarded, sees-beside}
 
 module _ {seen : ℕ → Bool} {limit room : ℕ} {s : List ℕ} {k : ℕ} {st st′ : List ℕ} {at to : Running ℕ} {why : ℕ} {f : Front} where
   -- it has made a move, or there is none

@@ -15,11 +15,11 @@ use Rattle.language.specs.Values.{holds}
 use Rattle.language.specs.Syntax.{Names, Proc, nil, assign, letIn, ifThenElse, while, sequence, emit, local, watching, when, parallel}
 use Rattle.language.specs.Scope.{withName, Scoped}
 use Rattle.language.specs.Steps.{held, present, suspended, change, instantStart}
-use Rattle.runner.specs.Residual.{own, firstOf, secondOf, residual}
-use Rattle.runner.specs.Moves.{Running}
+use Rattle.residual.specs.Residual.{own, firstOf, secondOf, residual}
+use Rattle.moves.specs.Moves.{Running}
 use Rattle.runner.specs.Outcome.{outcome}
-use Rattle.runner.specs.Contracts.{isPresentSignal, someSignalPresent}
-use Rattle.runner.proofs.Clearing.{Renewed, renewed-none, renewed-kept, renewed-all}
+use Rattle.instants.specs.Contracts.{isPresentSignal, someSignalPresent}
+use Rattle.instants.proofs.Clearing.{Renewed, renewed-none, renewed-kept, renewed-all}
 use Rattle.runner.proofs.Outcomes.{outcome-changes}
 
 zero-of : (z : ℤ) → holds z ≡ false → z ≡ pos 0

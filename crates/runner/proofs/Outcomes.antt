@@ -15,9 +15,9 @@ use borrow.Author.Tests.{ltb-true, ltb-false}
 use Rattle.language.specs.Syntax.{Names, Proc, isNil}
 use Rattle.language.specs.Steps.{Outcome as Left, leaves, suspended, move, change, instantStart, step}
 use Rattle.language.specs.Calls.{Line, Ending, finished, spent, logFull, Run, calledFor, givenBack, stops, logged, run}
-use Rattle.runner.specs.Moves.{Running, system, putLine, logAfter, linesAfter, hasRoom, nextLine, moved, changed, Live, Path, stays, moves}
+use Rattle.moves.specs.Moves.{Running, system, putLine, logAfter, linesAfter, hasRoom, nextLine, moved, changed, Live, Path, stays, moves}
 use Rattle.runner.specs.Outcome.{Outcome, written, words, recorded, outcome, stopped}
-use Rattle.runner.proofs.Framing.{waits-some}
+use Rattle.moves.proofs.Framing.{waits-some}
 
 -- a step that calls for this line, where there is room for it, and where there is none
 logged-on :

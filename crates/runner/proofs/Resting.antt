@@ -10,14 +10,16 @@ use lib.IntN.{ℤ}
 use lib.ListN.{length, set}
 use Rattle.language.specs.Syntax.{Proc, parallel, isNil}
 use Rattle.language.specs.Steps.{present, suspended}
-use Rattle.runner.specs.declared.forms.Front.{Front}
-use Rattle.runner.specs.Residual.{own}
-use Rattle.runner.specs.Forms.{mover, before, guarded, beside, frontOf, partIn}
-use Rattle.runner.specs.Frames.{besideThe}
-use Rattle.runner.specs.Moves.{Silent, isGone, isSuspended}
-use Rattle.runner.specs.Contracts.{left, Byte, byteAfter, RearWaits, Rests}
-use Rattle.runner.proofs.Framing.{drop-before, drop-watched, drop-guarded, drop-beside, trade}
-use Rattle.runner.proofs.Sights.{signalAt, Inside, Sight, sees-gone, sees-mover, sees-alone, sees-before, sees-watched, sees-guarded, sees-beside, part-set}
+use Rattle.plan.specs.declared.forms.Front.{Front}
+use Rattle.residual.specs.Residual.{own}
+use Rattle.plan.specs.Forms.{mover, before, guarded, beside, frontOf, partIn}
+use Rattle.residual.specs.Frames.{besideThe}
+use Rattle.moves.specs.Moves.{Silent, isGone, isSuspended}
+use Rattle.residual.specs.Nodes.{left}
+use Rattle.runner.specs.Contracts.{Byte, byteAfter, Rests}
+use Rattle.instants.specs.Contracts.{RearWaits}
+use Rattle.moves.proofs.Framing.{drop-before, drop-watched, drop-guarded, drop-beside, trade}
+use Rattle.residual.proofs.Sights.{signalAt, Inside, Sight, sees-gone, sees-mover, sees-alone, sees-before, sees-watched, sees-guarded, sees-beside, part-set}
 
 module _ (s : List ℕ) (k : ℕ) (st : List ℕ) (f : Front) (vs : List ℤ) where
   -- what is left of the part in front

@@ -15,15 +15,17 @@ use Rattle.language.specs.Syntax.{Proc, isNil}
 use Rattle.language.specs.Steps.{present, suspended}
 use Rattle.script.specs.declared.layout.Script.{Script}
 use Rattle.script.specs.Layout.{layoutOf}
-use Rattle.runner.specs.declared.forms.Front.{Front}
-use Rattle.runner.specs.Residual.{own}
-use Rattle.runner.specs.Forms.{mover, guarded, frontOf, partIn}
-use Rattle.runner.specs.Frames.{Frame, alone, beforeThe, watchedBy, guardedBy, besideThe, Open}
-use Rattle.runner.specs.Moves.{Running, isGone, isSuspended, isSpent, Path, stays, Ends, gone, waits, spent, full}
-use Rattle.runner.specs.Contracts.{mostSteps, Valued, At, Counted, left, runningAt, Advances, Rests, Settles, restsOn, atLimit, makesMove}
-use Rattle.runner.proofs.Framing.{joined, open-path, lift, ends-around}
-use Rattle.runner.proofs.Advancing.{ended, again}
-use Rattle.runner.proofs.Sights.{signalAt, Inside, Sight, sees-gone, sees-mover, sees-alone, sees-before, sees-watched, sees-guarded, sees-beside, own-put, length-put, part-put}
+use Rattle.plan.specs.declared.forms.Front.{Front}
+use Rattle.residual.specs.Residual.{own}
+use Rattle.plan.specs.Forms.{mover, guarded, frontOf, partIn}
+use Rattle.residual.specs.Frames.{Frame, alone, beforeThe, watchedBy, guardedBy, besideThe, Open}
+use Rattle.moves.specs.Moves.{Running, isGone, isSuspended, isSpent, Path, stays, Ends, gone, waits, spent, full}
+use Rattle.moves.specs.Contracts.{mostSteps, Counted, runningAt, Advances}
+use Rattle.residual.specs.Nodes.{Valued, At, left}
+use Rattle.runner.specs.Contracts.{Rests, Settles, restsOn, atLimit, makesMove}
+use Rattle.moves.proofs.Framing.{joined, open-path, lift, ends-around}
+use Rattle.moves.proofs.Advancing.{ended, again}
+use Rattle.residual.proofs.Sights.{signalAt, Inside, Sight, sees-gone, sees-mover, sees-alone, sees-before, sees-watched, sees-guarded, sees-beside, own-put, length-put, part-put}
 
 -- a checked script is laid out as it says
 pub relaid : {s : List ℕ} {c : Script} {values : List ℤ} → Valued s c values → Valued s (layoutOf s) values

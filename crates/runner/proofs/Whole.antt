@@ -17,11 +17,13 @@ use Rattle.script.specs.Checked.{Checked}
 use Rattle.script.specs.Tree.{tree}
 use Rattle.script.proofs.NodeSizes.{whole-size}
 use Rattle.runner.specs.declared.Ran.{Ran}
-use Rattle.runner.specs.Moves.{Running, isSuspended, Ends, gone, waits, spent, full}
+use Rattle.moves.specs.Moves.{Running, isSuspended, Ends, gone, waits, spent, full}
 use Rattle.runner.specs.Outcome.{outcome, stopped}
-use Rattle.runner.specs.Contracts.{mostSteps, Valued, Counted, left, Advances, endingNumber, endingOf, Gives}
-use Rattle.runner.proofs.Framing.{waits-some}
-use Rattle.runner.proofs.Residuals.{zeros}
+use Rattle.moves.specs.Contracts.{mostSteps, Counted, Advances}
+use Rattle.residual.specs.Nodes.{Valued, left}
+use Rattle.runner.specs.Contracts.{endingNumber, endingOf, Gives}
+use Rattle.moves.proofs.Framing.{waits-some}
+use Rattle.residual.proofs.Residuals.{zeros}
 use Rattle.runner.proofs.Idling.{outcome-idle}
 use Rattle.runner.proofs.Outcomes.{outcome-moves, outcome-finished, outcome-spent, outcome-full, outcome-changes}
 

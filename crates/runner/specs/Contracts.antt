@@ -19,111 +19,14 @@ use Rattle.script.specs.Layout.{nameCount, expressionCount, nodeCount, Laid}
 use Rattle.script.specs.Entries.{partOf, node}
 use Rattle.script.specs.Tree.{expressionOf, processOf, tree, size}
 use Rattle.script.specs.Checked.{Checked}
-use Rattle.runner.specs.declared.forms.Front.{Front}
-use Rattle.runner.specs.declared.log.Noted.{Noted}
+use Rattle.plan.specs.declared.forms.Front.{Front}
+use Rattle.moves.specs.declared.log.Noted.{Noted}
 use Rattle.runner.specs.declared.Ran.{Ran}
-use Rattle.runner.specs.Residual.{own, residual}
-use Rattle.runner.specs.Forms.{mover, before, watched, guarded, beside, frontOf, partIn}
-use Rattle.runner.specs.Plan.{kindIn, constantIn, operandIn, KeepsPlan}
-use Rattle.runner.specs.Moves.{Running, logAfter, linesAfter, hasRoom, Live, Silent, isGone, isSuspended, isSpent, isFull, Path, Ends}
+use Rattle.residual.specs.Residual.{own, residual}
+use Rattle.plan.specs.Forms.{mover, before, watched, guarded, beside, frontOf, partIn}
+use Rattle.plan.specs.Plan.{kindIn, constantIn, operandIn, KeepsPlan}
+use Rattle.moves.specs.Moves.{Running, logAfter, linesAfter, hasRoom, Live, Silent, isGone, isSuspended, isSpent, isFull, Path, Ends}
 use Rattle.runner.specs.Outcome.{Outcome}
-
--- 'a step limit to 1,000,000'
-abbrev pub mostSteps : ℕ
-mostSteps = 1000000
-
--- a checked script, with a value for each name
-pub record Valued (s : List ℕ) (c : Script) (values : List ℤ) : Type 0 where
-  pub laid : Laid s c
-  pub checked : Checked s
-  pub named : length values ≡ nameCount s
-
--- node k with its bytes
-pub record At (s : List ℕ) (k : ℕ) (st : List ℕ) : Type 0 where
-  pub known : k < nodeCount s
-  pub whole : length st ≡ size (processOf s k)
-
--- what has been counted is within the limits
-pub record Counted (limit : ℕ) (log : List ℕ) (steps lines : ℕ) : Type 0 where
-  pub time : steps ≤ limit
-  pub most : limit ≤ mostSteps
-  pub space : 4 * lines ≤ length log
-
--- what is left of node k
-abbrev pub left : List ℕ → ℕ → List ℕ → Proc ℕ
-left s k st = residual (processOf s k) st
-
--- a table that has 1 for each name that the reader sees
-abbrev pub seenIn : List ℕ → ℕ → Bool
-seenIn seen x = eqb (getD seen x 0) 1
-
--- the operators of expressions, by their kinds
-abbrev pub operatorOf : ℕ → Operator
-operatorOf kind = getD (equal ∷ equal ∷ add ∷ subtract ∷ multiply ∷ divide ∷ less ∷ []) kind equal
-
-abbrev pub applied : ℕ → ℤ → ℤ → ℤ
-applied kind a b = apply (operatorOf kind) a b
-
--- the value of a constant or a register, by the word of its expression
-abbrev pub leafValue : List ℤ → ℕ → ℤ
-leafValue values w = cond (eqb (kindIn w) 0) (toZ w32 (constantIn w)) (held values (operandIn w))
-
--- expression e of a checked script that has this plan, with a value for each name
-pub record Evaluable (plan : List ℕ) (values : List ℤ) (e : ℕ) : Type 0 where
-  pub script : List ℕ
-  pub checked : Checked script
-  pub kept : KeepsPlan script plan
-  pub named : length values ≡ nameCount script
-  pub known : e < expressionCount script
-
--- v is the value of expression e, whatever checked script has this plan
-abbrev pub IsValue : List ℕ → List ℤ → ℕ → ℤ → Type 0
-IsValue plan values e v =
-    (s : List ℕ) → Checked s → KeepsPlan s plan → e < expressionCount s → v ≡ value (expressionOf s e) values
-
--- the line of a step that gives x this value, if it is seen
-abbrev pub lineOf : List ℕ → ℕ → ℕ → ℕ → ℤ → Option Line
-lineOf seen steps instant x v =
-    cond (seenIn seen x) (some (record { step = suc steps; instant = instant; name = x; value = v })) none
-
--- a line is written if there is room for it
-pub record Notes (room : ℕ) (l : Option Line) (n : ℕ) (log : List ℕ) (r : Noted) (after : List ℕ) : Type 0 where
-  pub fits : r .fits ≡ hasRoom room l n
-  pub written : r .fits ≡ true → after ≡ logAfter l n log
-  pub lines : r .fits ≡ true → r .lines ≡ linesAfter l n
-  pub full : r .fits ≡ false → after ≡ log
-
--- let, if, while and local write no line
-abbrev pub IsSilent : ℕ → Type 0
-IsSilent kind = (kind ≡ 2) ⊎ ((kind ≡ 3) ⊎ ((kind ≡ 4) ⊎ (kind ≡ 7)))
-
--- a move that gives x this value and leaves nil: an assignment or an emission
-pub record Writes (p : Proc ℕ) (s : List ℤ) (x : ℕ) (v : ℤ) : Type 0 where
-  pub live : Live p s
-  pub process : move p s .process ≡ nil
-  pub values : move p s .values ≡ set s x v
-  pub line : (seen : ℕ → Bool) (at : System ℕ) → calledFor seen at (move p s .output) ≡ lineFor seen at x v
-
--- node k, with its bytes, values and log, and what has been counted
-abbrev pub runningAt : List ℕ → ℕ → List ℕ → List ℤ → List ℕ → ℕ → ℕ → ℕ → Running ℕ
-runningAt s k st values log steps instant lines =
-    record {
-      process = left s k st;
-      values = values;
-      log = log;
-      steps = steps;
-      instants = instant;
-      lines = lines;
-    }
-
--- A node has made moves: why is 0 if it can go on, or else why there is no move.
-pub record Advances (seen : ℕ → Bool) (limit room : ℕ) (at to : Running ℕ) (why : ℕ) : Type 0 where
-  pub path : Path seen limit room at to
-  pub later : at .steps ≤ to .steps
-  pub time : to .steps ≤ limit
-  pub space : to .lines ≤ room
-  pub again : why ≡ 0 → at .steps < to .steps
-  pub ends : (why ≡ 0 → ⊥) → Ends seen limit room to why
 
 -- a node is to be gone into
 abbrev pub into : ℕ
@@ -138,16 +41,6 @@ pub record Enters
   pub front : why ≡ into → f ≡ frontOf s k (own st′) (length st′)
   pub part : why ≡ into → mover < f .form
   pub shown : why ≡ into → f .form ≡ guarded → present (to .values) (partOf s (node s k) .a) ≡ true
-
--- Of a node with this form nothing behind the part in front could move in its place.
-pub record RearWaits (s : List ℕ) (k : ℕ) (st : List ℕ) (values : List ℤ) (form : ℕ) (waits : Bool) : Type 0 where
-  pub none : form < beside → waits ≡ true
-  pub other :
-      beside ≤ form →
-      waits
-      ≡ suspended
-      (left s (frontOf s k (1 - own st) (length st) .child) (partIn (frontOf s k (1 - own st) (length st)) st))
-      values
 
 -- the own byte of a node with a part in front that is neither alone, nor under a watching or a when
 abbrev pub Byte : ℕ → ℕ → Type 0
@@ -181,13 +74,6 @@ pub data Settles
   makesMove :
       how ≡ 0 → steps′ ≡ suc steps → lines′ ≡ lines → steps < limit → Silent p s p′ s →
       Settles limit p s p′ steps lines why how steps′ lines′
-
--- a signal that is present, and whether there is one
-abbrev pub isPresentSignal : Names ℕ → List ℤ → ℕ → Bool
-isPresentSignal names values x = names .isSignal x && present values x
-
-abbrev pub someSignalPresent : Names ℕ → List ℤ → Bool
-someSignalPresent names values = any (isPresentSignal names values) (length values)
 
 -- a script at its start, with nothing counted
 abbrev pub starting : List ℕ → List ℤ → List ℕ → Running ℕ

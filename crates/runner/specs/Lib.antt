@@ -1,8 +1,3 @@
--- What the runner keeps of a running script, and what it does to it.
-pub mod Residual
-pub mod Forms
-pub mod Plan
-pub mod Frames
-pub mod Moves
+-- What comes of a whole run, and what its functions ask for and promise.
 pub mod Outcome
 pub mod Contracts

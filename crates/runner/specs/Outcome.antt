@@ -8,7 +8,7 @@ use mir.Syntax.{w32}
 use mir.Val.{ofZ}
 use Rattle.language.specs.Syntax.{Names}
 use Rattle.language.specs.Calls.{Line, Ending, Run, givenBack, run}
-use Rattle.runner.specs.Moves.{Running, system, putLine}
+use Rattle.moves.specs.Moves.{Running, system, putLine}
 
 pub record Outcome : Type 0 where
   pub ending : Ending

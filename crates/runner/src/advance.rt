@@ -1,22 +1,22 @@
 // A node is run as far as it goes within the instant: it is entered, its part in front is advanced, and it is left or
 // entered again.
-use crate::forms;
-use crate::forms::Front;
-use crate::moves;
-use crate::moves::Counts;
-use crate::moves::Done;
-use crate::moves::Limits;
-use crate::suspension;
-use crate::values;
+use instants::suspension;
+use moves::Counts;
+use moves::Done;
+use moves::Limits;
+use plan::forms;
+use plan::forms::Front;
 use script::layout::Script;
 ghost use mathlib.Core.Path.{_≡_};
 ghost use Prim.Native.Nat.{_/_, _≤_, _<_};
 ghost use lib.ListN.{length};
 ghost use Rattle.script.specs.Layout.{layoutOf};
-ghost use Rattle.runner.specs.Residual.{own};
-ghost use Rattle.runner.specs.Forms.{frontOf};
-ghost use Rattle.runner.specs.Plan.{KeepsPlan};
-ghost use Rattle.runner.specs.Contracts.{mostSteps, Valued, At, Counted, left, seenIn, runningAt, Advances, Enters, Byte, byteAfter, Rests, Settles};
+ghost use Rattle.residual.specs.Residual.{own};
+ghost use Rattle.plan.specs.Forms.{frontOf};
+ghost use Rattle.plan.specs.Plan.{KeepsPlan};
+ghost use Rattle.moves.specs.Contracts.{mostSteps, Counted, seenIn, runningAt, Advances};
+ghost use Rattle.residual.specs.Nodes.{Valued, At, left};
+ghost use Rattle.runner.specs.Contracts.{Enters, Byte, byteAfter, Rests, Settles};
 
 // The part in front is to be advanced.
 const INTO: u8 = 5;
@@ -60,7 +60,7 @@ fn enter(
             front: f,
         };
     }
-    if f.form == forms::GUARDED && !values::signal_is_present(s, plan, values, k) {
+    if f.form == forms::GUARDED && !evaluation::signal_is_present(s, plan, values, k) {
         return Entered {
             why: moves::SUSPENDED,
             at,

@@ -1,15 +1,8 @@
 // Runs a checked script, as far as the step limit and the log let it.
-mod forms; // forms.rt: the form that a node has come to
-pub mod plan; // plan.rt: what a run goes by of each node
-mod values; // values.rt: what the names hold, and the values of expressions
-mod log; // log.rt: the lines of the log
-mod moves; // moves.rt: a node's own moves
-mod suspension; // suspension.rt: whether what is left of a node is suspended
-mod instants; // instants.rt: instant changes, and what an instant begins with
 mod advance; // advance.rt: a node is run as far as it goes within the instant
 
-use crate::moves::Counts;
-use crate::moves::Limits;
+use moves::Counts;
+use moves::Limits;
 use script::layout::Script;
 ghost use mathlib.Core.Path.{_≡_};
 ghost use Prim.Native.Nat.{_/_, _≤_};
@@ -17,8 +10,10 @@ ghost use lib.ListN.{length, replicate};
 ghost use Rattle.script.specs.Layout.{nodeCount};
 ghost use Rattle.script.specs.Tree.{namesOf};
 ghost use Rattle.runner.specs.Outcome.{outcome};
-ghost use Rattle.runner.specs.Plan.{KeepsPlan};
-ghost use Rattle.runner.specs.Contracts.{mostSteps, Valued, seenIn, starting, endingOf, Gives};
+ghost use Rattle.plan.specs.Plan.{KeepsPlan};
+ghost use Rattle.moves.specs.Contracts.{mostSteps, seenIn};
+ghost use Rattle.residual.specs.Nodes.{Valued};
+ghost use Rattle.runner.specs.Contracts.{starting, endingOf, Gives};
 
 // How a run ended, and what it counted.
 pub struct Ran {

@@ -17,9 +17,11 @@ use Rattle.script.specs.Tree.{namesOf, processOf, size}
 use Rattle.script.proofs.Layouts.{few-bounds, nodes-are}
 use Rattle.script.proofs.NodeSizes.{whole-size}
 use Rattle.script.proofs.Scoping.{tree-scoped}
-use Rattle.runner.specs.Moves.{waits}
+use Rattle.moves.specs.Moves.{waits}
 use Rattle.runner.specs.Outcome.{outcome}
-use Rattle.runner.specs.Contracts.{At, seenIn, runningAt, starting}
+use Rattle.residual.specs.Nodes.{At}
+use Rattle.moves.specs.Contracts.{seenIn, runningAt}
+use Rattle.runner.specs.Contracts.{starting}
 use Rattle.runner.proofs.Whole.{Comes, counted, valued, comes-on, comes-ends, comes-changed, comes-idle, stops, gives, fresh}
 use Rattle.runner.proofs.Idling.{residual-stays, values-stay}
 use Rattle.runner.proofs.Turning.{relaid, ended-waits}

@@ -5,10 +5,10 @@ use native.Mathlib.Omega.{arith}
 use borrow.Rule.Slice.PartMut.{putMid}
 use denote.Ref.{now}
 use lib.ListN.{length}
-use Rattle.runner.specs.Moves.{Running, isGone, isSuspended}
-use Rattle.runner.specs.Contracts.{seenIn, runningAt, Advances}
-use Rattle.runner.proofs.Sights.{part-length}
-use Rattle.runner.proofs.Deciding.{sees}
+use Rattle.moves.specs.Moves.{Running, isGone, isSuspended}
+use Rattle.moves.specs.Contracts.{seenIn, runningAt, Advances}
+use Rattle.residual.proofs.Sights.{part-length}
+use Rattle.instants.proofs.Deciding.{sees}
 use Rattle.runner.proofs.Turning.{relaid, Going, going, Turn, begins, same-turn, counted, valued, at-node, turns-on, turns-end, part-turn, part-ends, part-rests, front-kept, settled}
 use Prim.Native.Nat.{ℕ, _-_, _/_, _<_}
 use borrow.Fn.Kinds.{In}

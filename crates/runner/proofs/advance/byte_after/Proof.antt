@@ -7,8 +7,8 @@ use native.Mathlib.Omega.{arith}
 use lib.Dec.{eqb}
 use borrow.Author.Tests.{eq-eqb, ne-eqb, eqb-false}
 use Rattle.prelude.proofs.Bools.{or-first, or-true}
-use Rattle.runner.specs.Forms.{before, watched, guarded}
-use Rattle.runner.specs.Moves.{isSuspended}
+use Rattle.plan.specs.Forms.{before, watched, guarded}
+use Rattle.moves.specs.Moves.{isSuspended}
 use Rattle.runner.proofs.advance.byte_after.Statement.{statement}
 use Rattle.runner.proofs.advance.byte_after.Tie as tie
 

@@ -5,12 +5,13 @@ use Prim.Native.Nat.{ℕ, _<_}
 use native.Mathlib.Omega.{arith}
 use denote.Ref.{now}
 use borrow.Author.Tests.{not-true, not-false}
-use Rattle.runner.specs.declared.forms.Front.{Front}
-use Rattle.runner.specs.Forms.{mover}
-use Rattle.runner.specs.Moves.{gone, waits}
-use Rattle.runner.proofs.Deciding.{Found, sees, signal-known, shuts}
+use Rattle.plan.specs.declared.forms.Front.{Front}
+use Rattle.plan.specs.Forms.{mover}
+use Rattle.moves.specs.Moves.{gone, waits}
+use Rattle.instants.proofs.Deciding.{Found, sees, signal-known, shuts}
 use Rattle.runner.proofs.Entries.{ends-here, goes-in, nil-seen, not-into}
-use Rattle.runner.proofs.Advancing.{some-bytes, ended}
+use Rattle.residual.proofs.Residuals.{some-bytes}
+use Rattle.moves.proofs.Advancing.{ended}
 use borrow.Author.Needs.{needs}
 use Rattle.runner.proofs.advance.enter.Statement.{statement}
 use Rattle.runner.proofs.advance.enter.Tie as tie

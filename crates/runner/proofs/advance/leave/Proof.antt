@@ -7,12 +7,14 @@ use native.Mathlib.Omega.{arith}
 use denote.Ref.{now}
 use lib.ListN.{set}
 use Rattle.script.specs.Layout.{layoutOf}
-use Rattle.runner.specs.declared.forms.Front.{Front}
-use Rattle.runner.specs.Residual.{own}
-use Rattle.runner.specs.Moves.{Silent}
-use Rattle.runner.specs.Contracts.{left, byteAfter, RearWaits, restsOn, atLimit, makesMove}
-use Rattle.runner.proofs.Deciding.{Found, sees, waiting-front}
-use Rattle.runner.proofs.Advancing.{some-bytes}
+use Rattle.plan.specs.declared.forms.Front.{Front}
+use Rattle.residual.specs.Residual.{own}
+use Rattle.moves.specs.Moves.{Silent}
+use Rattle.residual.specs.Nodes.{left}
+use Rattle.runner.specs.Contracts.{byteAfter, restsOn, atLimit, makesMove}
+use Rattle.instants.specs.Contracts.{RearWaits}
+use Rattle.instants.proofs.Deciding.{Found, sees, waiting-front}
+use Rattle.residual.proofs.Residuals.{some-bytes}
 use Rattle.runner.proofs.Resting.{rests-alone, settles, byte-bound}
 use borrow.Author.Needs.{needs}
 use Rattle.runner.proofs.advance.leave.Statement.{statement}

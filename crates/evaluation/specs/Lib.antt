@@ -1,0 +1,2 @@
+-- The values of expressions, by the plan.
+pub mod Evaluation

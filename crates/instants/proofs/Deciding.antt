@@ -1,0 +1,239 @@
+-- What the form of a node tells: its parts, and by them whether it is suspended and what an instant change makes of it.
+-- Assumes nothing.
+use mathlib.Core.Path.{_≡_, refl, sym, _∙_, subst}
+use mathlib.Core.Bool.{Bool, true, false, and-true, and-false, false≢true}
+use mathlib.Core.Logic.{_⊎_, inl, inr, ⊎-elim}
+use mathlib.Core.List.{List}
+use Prim.Native.Nat.{ℕ, _-_, _≤_, _<_}
+use native.Mathlib.Decide.{decLt}
+use native.Mathlib.Omega.{arith}
+use lib.IntN.{ℤ}
+use lib.ListN.{length, set, length-set}
+use lib.Seq.{set-getD}
+use Rattle.language.specs.Syntax.{Proc, parallel}
+use Rattle.language.specs.Steps.{present, suspended, change}
+use Rattle.script.specs.Layout.{nameCount}
+use Rattle.script.specs.Entries.{partOf, node}
+use Rattle.script.proofs.Views.{NodeView, aNil, anAssign, aLet, anIf, aWhile, aSequence, anEmit, aLocal, aWatching, aWhen, aParallel, node-view}
+use Rattle.plan.specs.declared.forms.Front.{Front}
+use Rattle.residual.specs.Residual.{own, residual}
+use Rattle.plan.specs.Forms.{mover, first, second, before, watched, guarded, beside, turned, frontOf, partIn}
+use Rattle.residual.specs.Frames.{Frame, around}
+use Rattle.residual.specs.Nodes.{Valued, At, left}
+use Rattle.instants.specs.Contracts.{RearWaits}
+use Rattle.residual.proofs.Sights.{Inside, signalAt, Mover, no-mover, Sight, sees-gone, sees-mover, sees-alone, sees-before, sees-watched, sees-guarded, sees-beside, sight, part-length}
+
+-- the forms of a part alone, and of a parallel
+alone-within : {n : ℕ} → (n ≡ first) ⊎ (n ≡ second) → (mover < n) × (n < before)
+alone-within = ⊎-elim (λ e. (omega arith, omega arith)) (λ e. (omega arith, omega arith))
+
+beside-above : {n : ℕ} → (n ≡ beside) ⊎ (n ≡ turned) → guarded < n
+beside-above = ⊎-elim (λ e. omega arith) (λ e. omega arith)
+
+-- node k with its bytes, and its front
+pub record Found (s : List ℕ) (values : List ℤ) (k : ℕ) (st : List ℕ) (f : Front) : Type 0 where
+  pub valued : Valued s values
+  pub at : At s k st
+  pub front : f ≡ frontOf s k (own st) (length st)
+
+-- a part of it, which is a node with its own bytes
+pub record Part (s : List ℕ) (k : ℕ) (st : List ℕ) (f : Front) : Type 0 where
+  pub earlier : f .child < k
+  pub starts : 1 ≤ f .from
+  pub order : f .from ≤ f .to
+  pub within : f .to ≤ length st
+  pub at : At s (f .child) (partIn f st)
+
+-- the part of a parallel that is not in front
+abbrev pub rearOf : List ℕ → ℕ → List ℕ → Front
+rearOf s k st = frontOf s k (1 - own st) (length st)
+
+-- node k is a parallel
+pub record Rear (s : List ℕ) (k : ℕ) (st : List ℕ) (f : Front) : Type 0 where
+  pub byte : own st ≤ 1
+  pub part : Part s k st (rearOf s k st)
+  pub whole :
+      left s k st
+      ≡ parallel (left s (f .child) (partIn f st)) (left s (rearOf s k st .child) (partIn (rearOf s k st) st))
+
+-- p is suspended or not, and an instant change leaves it as it is
+pub record Stays (p : Proc ℕ) (values : List ℤ) (waiting : Bool) : Type 0 where
+  pub waits : suspended p values ≡ waiting
+  pub same : change p values ≡ p
+
+-- a frame that asks the part in front alone, if no signal ends it or shuts it
+pub record Ahead (s : List ℕ) (k : ℕ) (st : List ℕ) (f : Front) (values : List ℤ) : Type 0 where
+  pub frame : Frame ℕ
+  pub inside : Inside s k st f frame
+  pub waits :
+      (f .form ≡ guarded → present values (signalAt s k) ≡ true) →
+      (p : Proc ℕ) → suspended (around frame p) values ≡ suspended p values
+  pub changes :
+      (f .form ≡ watched → present values (signalAt s k) ≡ false) →
+      (f .form ≡ guarded → present values (signalAt s k) ≡ true) →
+      (p : Proc ℕ) → change (around frame p) values ≡ around frame (change p values)
+
+-- a frame with a signal
+record Signalled (s : List ℕ) (k : ℕ) (st : List ℕ) (f : Front) (values : List ℤ) : Type 0 where
+  pub known : signalAt s k < nameCount s
+  pub ends :
+      f .form ≡ watched → present values (signalAt s k) ≡ true → left s k (set st 0 4) ≡ change (left s k st) values
+  pub shuts : f .form ≡ guarded → present values (signalAt s k) ≡ false → Stays (left s k st) values true
+
+-- the bytes of a part, whatever the node's own byte is
+module _ {s : List ℕ} {k : ℕ} {st : List ℕ} (at : At s k st) (f : Front) (F : Frame ℕ) where
+  inside-part : (v : ℕ) → Inside s k (set st 0 v) f F → Part s k st f
+  inside-part v i =
+      let within : f .to ≤ length st = rw (length-set st 0 v) at (i .within) in
+      record {
+        earlier = i .earlier;
+        starts = i .starts;
+        order = i .order;
+        within = within;
+        at = record { known = omega (arith, i .earlier, at .known); whole = part-length f st within ∙ i .fits };
+      }
+
+  part-of : Inside s k st f F → Part s k st f
+  part-of i = inside-part (own st) (rw (set-getD st 0 0) i)
+
+mover-stays :
+    {s : List ℕ} {k : ℕ} (st : List ℕ) (values : List ℤ) → NodeView s k → own st ≡ 0 →
+    Mover (partOf s (node s k) .kind) → Stays (left s k st) values false
+unfolding residual suspended change
+mover-stays st values (aNil e q) o m = rw q (record { waits = refl; same = refl })
+mover-stays st values (anAssign e q x y) o m = rw (q, o) (record { waits = refl; same = refl })
+mover-stays st values (aLet e q x y p) o m = rw (q, o) (record { waits = refl; same = refl })
+mover-stays st values (anIf e q y p r) o m = rw (q, o) (record { waits = refl; same = refl })
+mover-stays st values (aWhile e q y p) o m = rw (q, o) (record { waits = refl; same = refl })
+mover-stays st values (aSequence e q p r) o m = absurd (no-mover m e (inr (inl refl)))
+mover-stays st values (anEmit e q x) o m = rw (q, o) (record { waits = refl; same = refl })
+mover-stays st values (aLocal e q x p) o m = rw (q, o) (record { waits = refl; same = refl })
+mover-stays st values (aWatching e q x p) o m = absurd (no-mover m e (inr (inr (omega arith))))
+mover-stays st values (aWhen e q x p) o m = absurd (no-mover m e (inr (inr (omega arith))))
+mover-stays st values (aParallel e q p r) o m = absurd (no-mover m e (inr (inr (omega arith))))
+
+module _ {s : List ℕ} {values : List ℤ} {k : ℕ} {st : List ℕ} {f : Front}
+    (found : Found s values k st f) where
+  pub sees : Sight s k st f
+  sees =
+      let at = found .at in
+      subst (Sight s k st) (sym (found .front)) (sight s (found .valued .checked) k (at .known) st (at .whole))
+
+  pub front-part : mover < f .form → Part s k st f
+  front-part = part sees
+    where
+      part : Sight s k st f → mover < f .form → Part s k st f
+      part (sees-gone e q) h = absurd (omega arith)
+      part (sees-mover e o m) h = absurd (omega arith)
+      part (sees-alone e i) h = part-of (found .at) f _ i
+      part (sees-before e o q i z) h = part-of (found .at) f _ i
+      part (sees-watched e n i z) h = part-of (found .at) f _ i
+      part (sees-guarded e n l i z) h = part-of (found .at) f _ i
+      part (sees-beside e o g u i j z) h = part-of (found .at) f _ i
+
+  pub rear-part : beside ≤ f .form → Rear s k st f
+  rear-part = part sees
+    where
+      part : Sight s k st f → beside ≤ f .form → Rear s k st f
+      part (sees-gone e q) h = absurd (omega arith)
+      part (sees-mover e o m) h = absurd (omega arith)
+      part (sees-alone e i) h = absurd (omega (arith, alone-within e))
+      part (sees-before e o q i z) h = absurd (omega arith)
+      part (sees-watched e n i z) h = absurd (omega arith)
+      part (sees-guarded e n l i z) h = absurd (omega arith)
+      part (sees-beside e o g u i j z) h =
+          record { byte = o; part = rw (← u) (inside-part (found .at) g _ (1 - own st) j); whole = rw (← u) (i .whole) }
+
+  pub ahead : mover < f .form → f .form < beside → Ahead s k st f values
+  unfolding suspended change
+  ahead = part sees
+    where
+      part : Sight s k st f → mover < f .form → f .form < beside → Ahead s k st f values
+      part (sees-gone e q) h l = absurd (omega arith)
+      part (sees-mover e o m) h l = absurd (omega arith)
+      part (sees-alone e i) h l =
+          record { frame = _; inside = i; waits = λ on p. refl; changes = λ off on p. refl }
+      part (sees-before e o q i z) h l =
+          record { frame = _; inside = i; waits = λ on p. refl; changes = λ off on p. refl }
+      part (sees-watched e n i z) h l =
+          record { frame = _; inside = i; waits = λ on p. refl; changes = λ off on p. rw (off e) }
+      part (sees-guarded e n a i z) h l =
+          record { frame = _; inside = i; waits = λ on p. rw (on e); changes = λ off on p. rw (on e) }
+      part (sees-beside e o g u i j z) h l = absurd (omega (arith, beside-above e))
+
+  signalled : watched ≤ f .form → f .form ≤ guarded → Signalled s k st f values
+  unfolding suspended change
+  signalled = part sees
+    where
+      part : Sight s k st f → watched ≤ f .form → f .form ≤ guarded → Signalled s k st f values
+      part (sees-gone e q) h l = absurd (omega arith)
+      part (sees-mover e o m) h l = absurd (omega arith)
+      part (sees-alone e i) h l = absurd (omega (arith, alone-within e))
+      part (sees-before e o q i z) h l = absurd (omega arith)
+      part (sees-watched e n i z) h l =
+          record { known = n; ends = λ u on. rw (i .whole, on) z; shuts = λ u off. absurd (omega arith) }
+      part (sees-guarded e n a i z) h l =
+          record {
+            known = n;
+            ends = λ u on. absurd (omega arith);
+            shuts = λ u off. record { waits = rw (i .whole, off); same = rw (i .whole, off) };
+          }
+      part (sees-beside e o g u i j z) h l = absurd (omega (arith, beside-above e))
+
+  pub signal-known : watched ≤ f .form → f .form ≤ guarded → signalAt s k < length values
+  signal-known h l = omega (arith, signalled h l .known, found .valued .named)
+
+  pub ends :
+      f .form ≡ watched → present values (signalAt s k) ≡ true → left s k (set st 0 4) ≡ change (left s k st) values
+  ends e = signalled (omega arith) (omega arith) .ends e
+
+  pub shuts : f .form ≡ guarded → present values (signalAt s k) ≡ false → Stays (left s k st) values true
+  shuts e = signalled (omega arith) (omega arith) .shuts e
+
+  pub stays : f .form ≤ mover → Stays (left s k st) values false
+  unfolding suspended change
+  stays = part sees
+    where
+      part : Sight s k st f → f .form ≤ mover → Stays (left s k st) values false
+      part (sees-gone e q) h = rw q (record { waits = refl; same = refl })
+      part (sees-mover e o m) h =
+          mover-stays st values (node-view s (found .valued .checked) k (found .at .known)) o m
+      part (sees-alone e i) h = absurd (omega (arith, alone-within e))
+      part (sees-before e o q i z) h = absurd (omega arith)
+      part (sees-watched e n i z) h = absurd (omega arith)
+      part (sees-guarded e n l i z) h = absurd (omega arith)
+      part (sees-beside e o g u i j z) h = absurd (omega (arith, beside-above e))
+
+  -- whether it is suspended, where no when is shut
+  module _ (h : mover < f .form) (on : f .form ≡ guarded → present values (signalAt s k) ≡ true) where
+    abbrev front : Proc ℕ
+    front = left s (f .child) (partIn f st)
+
+    -- it waits, and so does the node if nothing behind it could move
+    pub waiting-front :
+        {waits : Bool} → suspended front values ≡ true → RearWaits s k st values (f .form) waits →
+        waits ≡ suspended (left s k st) values
+    unfolding suspended
+    waiting-front w b =
+        elim (decLt (f .form) beside) [
+          | yes l ↦ let a = ahead h l in rw (a .inside .whole, a .waits on front, w) (b .none l)
+          | no n ↦ rw (rear-part (omega arith) .whole, w) (b .other (omega arith))
+        ]
+
+    -- behind it is a part that could move
+    pub awake-rear : RearWaits s k st values (f .form) false → suspended (left s k st) values ≡ false
+    unfolding suspended
+    awake-rear b =
+        elim (decLt (f .form) beside) [
+          | yes l ↦ absurd (false≢true (b .none l))
+          | no n ↦ rw (rear-part (omega arith) .whole, ← b .other (omega arith)) (and-false (suspended front values))
+        ]
+
+    -- nothing behind it could move: the part in front decides
+    pub waiting-rear : RearWaits s k st values (f .form) true → suspended front values ≡ suspended (left s k st) values
+    unfolding suspended
+    waiting-rear b =
+        elim (decLt (f .form) beside) [
+          | yes l ↦ let a = ahead h l in rw (a .inside .whole, a .waits on front)
+          | no n ↦ rw (rear-part (omega arith) .whole, ← b .other (omega arith)) (sym (and-true (suspended front values)))
+        ]

@@ -1,0 +1,2 @@
+-- Suspension, and instant changes.
+pub mod Contracts

@@ -1,0 +1,111 @@
+// Instant changes, and what an instant begins with.
+pub mod suspension; // suspension.rt: whether what is left of a node is suspended
+
+use plan::forms;
+use plan::forms::find_front;
+use plan::forms::find_rear;
+use script::layout::Script;
+ghost use mathlib.Core.Path.{_≡_};
+ghost use Prim.Native.Nat.{_<_};
+ghost use lib.ListN.{length};
+ghost use Rattle.language.specs.Steps.{change, instantStart};
+ghost use Rattle.language.specs.Calls.{givenBack};
+ghost use Rattle.script.specs.Layout.{Laid};
+ghost use Rattle.script.specs.Tree.{namesOf};
+ghost use Rattle.plan.specs.Plan.{KeepsPlan};
+ghost use Rattle.residual.specs.Nodes.{Valued, At, left};
+ghost use Rattle.instants.specs.Contracts.{isPresentSignal, someSignalPresent};
+
+// The instant change of node k, which goes into what is in front and reads the signals of the instant that ends.
+pub fn change_instant(
+    s: &&[u8],
+    plan: &[usize; Script::MAX_PARTS],
+    values: &[i32],
+    state: &mut [u8],
+    k: usize,
+)
+    requires { ⌜ Valued (now (now s)) (now values) × (KeepsPlan (now (now s)) (now plan) × At (now (now s)) k (now state)) ⌝ }
+    ensures { λ _. ⌜ left (now (now (s .entry))) k (now (state .exit)) ≡ change (left (now (now (s .entry))) k (now (state .entry))) (now (values .entry)) ⌝ }
+{
+    let tag = state[0];
+    let len = state.len();
+    let f = find_front(s, plan, k, tag, len);
+    if f.form <= forms::MOVER {
+        return;
+    }
+    if f.form == forms::WATCHED && evaluation::signal_is_present(s, plan, values, k) {
+        state[0] = forms::NIL;
+        return;
+    }
+    if f.form == forms::GUARDED && !evaluation::signal_is_present(s, plan, values, k) {
+        return;
+    }
+    let from = f.from;
+    let to = f.to;
+    change_instant(s, plan, values, &mut state[from..to], f.child);
+    if forms::BESIDE <= f.form {
+        let g = find_rear(s, plan, k, tag, len, f.form);
+        let start = g.from;
+        let end = g.to;
+        change_instant(s, plan, values, &mut state[start..end], g.child);
+    }
+}
+
+// Name x is a signal, and present.
+fn is_present_signal(s: &[u8], c: Script, values: &[i32], x: usize) -> bool
+    requires { ⌜ Laid (now s) c × (Valued (now s) (now values) × (x < length (now values))) ⌝ }
+    ensures { λ r. ⌜ r ≡ isPresentSignal (namesOf (now (s .entry))) (now (values .entry)) x ⌝ }
+{
+    let name = script::entries::name_at(s, c, x);
+    if name.kind != 1 {
+        return false;
+    }
+    evaluation::is_present(values, x)
+}
+
+pub fn some_signal_present(s: &[u8], c: Script, values: &[i32]) -> bool
+    requires { ⌜ Laid (now s) c × Valued (now s) (now values) ⌝ }
+    ensures { λ r. ⌜ r ≡ someSignalPresent (namesOf (now (s .entry))) (now (values .entry)) ⌝ }
+{
+    let n = c.names;
+    let mut x: usize = 0;
+    while x < n {
+        if is_present_signal(s, c, values, x) {
+            return true;
+        }
+        x += 1;
+    }
+    false
+}
+
+// Every signal is absent.
+pub fn clear_signals(s: &[u8], c: Script, values: &mut [i32])
+    requires { ⌜ Laid (now s) c × Valued (now s) (now values) ⌝ }
+    ensures { λ _. ⌜ now (values .exit) ≡ instantStart (namesOf (now (s .entry))) (now (values .entry)) ⌝ }
+{
+    let n = c.names;
+    let mut x: usize = 0;
+    while x < n {
+        let name = script::entries::name_at(s, c, x);
+        if name.kind == 1 {
+            values[x] = 0;
+        }
+        x += 1;
+    }
+}
+
+// Every owned name is 0.
+pub fn clear_owned(s: &[u8], c: Script, values: &mut [i32])
+    requires { ⌜ Laid (now s) c × Valued (now s) (now values) ⌝ }
+    ensures { λ _. ⌜ now (values .exit) ≡ givenBack (namesOf (now (s .entry))) (now (values .entry)) ⌝ }
+{
+    let n = c.names;
+    let mut x: usize = 0;
+    while x < n {
+        let name = script::entries::name_at(s, c, x);
+        if name.owner != script::entries::SESSION {
+            values[x] = 0;
+        }
+        x += 1;
+    }
+}

@@ -1,0 +1,97 @@
+-- `note`: a line is written where a reader sees the name and there is room.
+use mathlib.Core.Path.{_≡_, refl, sym, ap, ap₂, _∙_}
+use mathlib.Core.Bool.{true≢false, false≢true}
+use mathlib.Core.List.{List}
+use Prim.Native.Nat.{ℕ, suc, _+_, _*_}
+use native.Mathlib.Numerals.{add-one}
+use lib.IntN.{ℤ}
+use mir.Syntax.{w32}
+use mir.Val.{SFits, ofZ}
+use mir.Facts.{toZ-ofZ}
+use borrow.Author.Tests.{lt-ltb, le-ltb, eq-eqb, ne-eqb}
+use Rattle.language.proofs.Signed.{readBack}
+use Rattle.moves.specs.Moves.{putWords, putLine}
+use borrow.Author.Needs.{needs}
+use Rattle.moves.proofs.log.note.Statement.{statement}
+use Rattle.moves.proofs.log.note.Tie as tie
+
+shared-slice-read-if1 : tie.Need-shared-slice-read-if1
+shared-slice-read-if1 c = search needs
+
+returns : tie.Need-returns
+returns c =
+    rw (ne-eqb _ _ (c .if1 .taken)) (record {
+      fits = refl;
+      written = λ _. refl;
+      lines = λ _. refl;
+      full = λ _. refl;
+    })
+
+returns-2 : tie.Need-returns-2
+returns-2 c =
+    rw (eq-eqb _ _ (c .before .if1 .left)) (record {
+      fits = sym (le-ltb _ _ (c .if2 .taken));
+      written = λ e. absurd (false≢true e);
+      lines = λ e. absurd (false≢true e);
+      full = λ _. refl;
+    })
+
+word-of-requires : tie.Need-word-of-requires
+word-of-requires c κs = search needs
+
+mul-put-line : tie.Need-mul-put-line
+mul-put-line c = search needs
+
+add-put-line : tie.Need-add-put-line
+add-put-line c = search needs
+
+cast-put-line : tie.Need-cast-put-line
+cast-put-line c = search needs
+
+put-line-requires : tie.Need-put-line-requires
+put-line-requires c κs = search needs
+
+add-t13 : tie.Need-add-t13
+add-t13 c = search needs
+
+same-length : tie.Need-same-length
+same-length c = search needs
+
+-- the words that are put are those of the line
+put :
+    (log : List ℕ) (n steps instant x w : ℕ) {v : ℤ} → SFits w32 v → w ≡ ofZ w32 (readBack w32 v) →
+    {after : List ℕ} → after ≡ putWords log (4 * n) (steps + 1) instant x w →
+    after ≡ putLine (record { step = suc steps; instant = instant; name = x; value = v }) n log
+put log n steps instant x w f e q =
+    q ∙ ap₂ (λ m u. putWords log (4 * n) m instant x u) (add-one steps) (e ∙ ap (ofZ w32) (toZ-ofZ f))
+
+returns-3 : tie.Need-returns-3
+returns-3 c =
+    let start = c .before .before .before .before .before .before .before .before .before .before in
+    rw (eq-eqb _ _ (c .before .before .before .before .before .before .if1 .left)) (record {
+      fits = sym (lt-ltb _ _ (c .before .before .before .before .before .if2 .left));
+      written =
+          λ _.
+          put (start .args .log .now) (start .args .lines) (start .args .steps) (start .args .instant) (start .args .x) _
+          (start .fits .value)
+          (c .before .before .before .before .word-of .ensures)
+          (c .before .before .put-line .ensures);
+      lines = λ _. add-one (start .args .lines);
+      full = λ e. absurd (true≢false e);
+    })
+
+pub note-spec : {M : Type 1} → statement M
+note-spec =
+    tie.close
+    (tie.spec
+    shared-slice-read-if1
+    returns
+    returns-2
+    word-of-requires
+    mul-put-line
+    add-put-line
+    cast-put-line
+    put-line-requires
+    add-t13
+    same-length
+    returns-3)

@@ -1,0 +1,93 @@
+-- `move_silently`: by the kind.
+use mathlib.Core.Path.{sym, _∙_}
+use mathlib.Core.Logic.{⊎-elim}
+use borrow.Author.Needs.{needs}
+use Rattle.moves.proofs.move_silently.Statement.{statement}
+use Rattle.moves.proofs.move_silently.Tie as tie
+
+move-let-requires : tie.Need-move-let-requires
+move-let-requires c κs =
+    let pre = c .before .before .before .before .before .pre .0 in
+    (pre .0, (pre .1 .0, (pre .1 .1 .0, (sym (pre .1 .1 .1 .0) ∙ c .before .before .if1 .taken, pre .1 .1 .1 .1))))
+
+move-if-requires : tie.Need-move-if-requires
+move-if-requires c κs =
+    let pre = c .before .before .before .before .before .before .pre .0 in
+    (pre .0, (pre .1 .0, (pre .1 .1 .0, (sym (pre .1 .1 .1 .0) ∙ c .before .before .if2 .taken, pre .1 .1 .1 .1))))
+
+move-while-requires : tie.Need-move-while-requires
+move-while-requires c κs =
+    let pre = c .before .before .before .before .before .before .before .pre .0 in
+    (pre .0, (pre .1 .0, (pre .1 .1 .0, (sym (pre .1 .1 .1 .0) ∙ c .before .before .if3 .taken, pre .1 .1 .1 .1))))
+
+move-local-requires : tie.Need-move-local-requires
+move-local-requires c κs =
+    let start = c .before .before .before .before .before .before .before in (
+      start .pre .0 .0,
+      (
+        start .pre .0 .1 .1 .0,
+        (
+          sym (start .pre .0 .1 .1 .1 .0)
+              ∙ ⊎-elim (λ e. absurd (c .before .before .before .before .if1 .left e)) (⊎-elim (λ e. absurd (c .before .before .before .if2 .left e)) (⊎-elim (λ e. absurd (c .before .before .if3 .left e)) (λ e. e)))
+              (start .pre .1),
+          start .pre .0 .1 .1 .1 .1,
+        ),
+      ),
+    )
+
+same-length : tie.Need-same-length
+same-length c = search needs
+
+same-length-2 : tie.Need-same-length-2
+same-length-2 c = search needs
+
+returns : tie.Need-returns
+returns c = search needs
+
+same-length-3 : tie.Need-same-length-3
+same-length-3 c = search needs
+
+same-length-4 : tie.Need-same-length-4
+same-length-4 c = search needs
+
+returns-2 : tie.Need-returns-2
+returns-2 c = search needs
+
+same-length-5 : tie.Need-same-length-5
+same-length-5 c = search needs
+
+same-length-6 : tie.Need-same-length-6
+same-length-6 c = search needs
+
+returns-3 : tie.Need-returns-3
+returns-3 c = search needs
+
+same-length-7 : tie.Need-same-length-7
+same-length-7 c = search needs
+
+same-length-8 : tie.Need-same-length-8
+same-length-8 c = search needs
+
+returns-4 : tie.Need-returns-4
+returns-4 c = search needs
+
+pub move-silently-spec : {M : Type 1} → statement M
+move-silently-spec =
+    tie.close
+    (tie.spec
+    move-let-requires
+    move-if-requires
+    move-while-requires
+    move-local-requires
+    same-length
+    same-length-2
+    returns
+    same-length-3
+    same-length-4
+    returns-2
+    same-length-5
+    same-length-6
+    returns-3
+    same-length-7
+    same-length-8
+    returns-4)

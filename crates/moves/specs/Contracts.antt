@@ -1,0 +1,74 @@
+-- What the functions that make moves ask for and promise.
+use mathlib.Core.Path.{_≡_}
+use mathlib.Core.Bool.{Bool, true, false, cond}
+use mathlib.Core.Logic.{_⊎_}
+use mathlib.Core.Option.{Option, none, some}
+use mathlib.Core.List.{List}
+use Prim.Native.Nat.{ℕ, suc, _*_, _≤_, _<_}
+use lib.Dec.{eqb}
+use lib.IntN.{ℤ}
+use lib.ListN.{getD, set, length}
+use Rattle.language.specs.Syntax.{Proc, nil}
+use Rattle.language.specs.Steps.{move}
+use Rattle.language.specs.Calls.{Line, System, lineFor, calledFor}
+use Rattle.residual.specs.Nodes.{left}
+use Rattle.moves.specs.declared.log.Noted.{Noted}
+use Rattle.moves.specs.Moves.{Running, logAfter, linesAfter, hasRoom, Live, Path, Ends}
+
+-- 'a step limit to 1,000,000'
+abbrev pub mostSteps : ℕ
+mostSteps = 1000000
+
+-- what has been counted is within the limits
+pub record Counted (limit : ℕ) (log : List ℕ) (steps lines : ℕ) : Type 0 where
+  pub time : steps ≤ limit
+  pub most : limit ≤ mostSteps
+  pub space : 4 * lines ≤ length log
+
+-- a table that has 1 for each name that the reader sees
+abbrev pub seenIn : List ℕ → ℕ → Bool
+seenIn seen x = eqb (getD seen x 0) 1
+
+-- the line of a step that gives x this value, if it is seen
+abbrev pub lineOf : List ℕ → ℕ → ℕ → ℕ → ℤ → Option Line
+lineOf seen steps instant x v =
+    cond (seenIn seen x) (some (record { step = suc steps; instant = instant; name = x; value = v })) none
+
+-- a line is written if there is room for it
+pub record Notes (room : ℕ) (l : Option Line) (n : ℕ) (log : List ℕ) (r : Noted) (after : List ℕ) : Type 0 where
+  pub fits : r .fits ≡ hasRoom room l n
+  pub written : r .fits ≡ true → after ≡ logAfter l n log
+  pub lines : r .fits ≡ true → r .lines ≡ linesAfter l n
+  pub full : r .fits ≡ false → after ≡ log
+
+-- let, if, while and local write no line
+abbrev pub IsSilent : ℕ → Type 0
+IsSilent kind = (kind ≡ 2) ⊎ ((kind ≡ 3) ⊎ ((kind ≡ 4) ⊎ (kind ≡ 7)))
+
+-- a move that gives x this value and leaves nil: an assignment or an emission
+pub record Writes (p : Proc ℕ) (s : List ℤ) (x : ℕ) (v : ℤ) : Type 0 where
+  pub live : Live p s
+  pub process : move p s .process ≡ nil
+  pub values : move p s .values ≡ set s x v
+  pub line : (seen : ℕ → Bool) (at : System ℕ) → calledFor seen at (move p s .output) ≡ lineFor seen at x v
+
+-- node k, with its bytes, values and log, and what has been counted
+abbrev pub runningAt : List ℕ → ℕ → List ℕ → List ℤ → List ℕ → ℕ → ℕ → ℕ → Running ℕ
+runningAt s k st values log steps instant lines =
+    record {
+      process = left s k st;
+      values = values;
+      log = log;
+      steps = steps;
+      instants = instant;
+      lines = lines;
+    }
+
+-- A node has made moves: why is 0 if it can go on, or else why there is no move.
+pub record Advances (seen : ℕ → Bool) (limit room : ℕ) (at to : Running ℕ) (why : ℕ) : Type 0 where
+  pub path : Path seen limit room at to
+  pub later : at .steps ≤ to .steps
+  pub time : to .steps ≤ limit
+  pub space : to .lines ≤ room
+  pub again : why ≡ 0 → at .steps < to .steps
+  pub ends : (why ≡ 0 → ⊥) → Ends seen limit room to why

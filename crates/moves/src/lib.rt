@@ -1,0 +1,219 @@
+// A node's own moves: assign, let, if, while, emit, local.
+mod log; // log.rt: the lines of the log
+
+use plan::forms;
+use script::layout::Script;
+ghost use mathlib.Core.Path.{_≡_};
+ghost use Prim.Native.Nat.{_/_, _≤_, _<_};
+ghost use lib.ListN.{length, replicate};
+ghost use Rattle.script.specs.Entries.{partOf, node};
+ghost use Rattle.residual.specs.Residual.{own};
+ghost use Rattle.plan.specs.Forms.{mover, frontOf};
+ghost use Rattle.plan.specs.Plan.{KeepsPlan};
+ghost use Rattle.moves.specs.Moves.{Silent};
+ghost use Rattle.residual.specs.Nodes.{Valued, At, left};
+ghost use Rattle.moves.specs.Contracts.{Counted, seenIn, IsSilent, Writes, runningAt, Advances};
+
+// Why a node made no further move: it has made one and can go on; it is nil; it is suspended; the limit is reached;
+// the next line has no room.
+pub const AGAIN: u8 = 0;
+
+pub const GONE: u8 = 1;
+
+pub const SUSPENDED: u8 = 2;
+
+pub const SPENT: u8 = 3;
+
+pub const FULL: u8 = 4;
+
+// The steps and the lines that are counted.
+pub struct Counts {
+    pub steps: u32,
+    pub lines: usize,
+}
+
+pub struct Done {
+    pub why: u8,
+    pub at: Counts,
+}
+
+// The step limit, and the instant.
+pub struct Limits {
+    pub steps: u32,
+    pub instant: u32,
+}
+
+fn clear(state: &mut [u8])
+    ensures { λ _. ⌜ now (state .exit) ≡ replicate (length (now (state .entry))) 0 ⌝ }
+{
+    let mut i: usize = 0;
+    while i < state.len() {
+        state[i] = 0;
+        i += 1;
+    }
+}
+
+// A let sets its name and leaves its body.
+fn move_let(
+    s: &[u8],
+    c: Script,
+    plan: &[usize; Script::MAX_PARTS],
+    values: &mut [i32],
+    state: &mut [u8],
+    k: usize,
+)
+    requires { ⌜ Valued (now s) c (now values) × (KeepsPlan (now s) (now plan) × (At (now s) k (now state) × ((partOf (now s) (node (now s) k) .kind ≡ 2) × (own (now state) ≡ 0)))) ⌝ }
+    ensures { λ _. ⌜ Silent (left (now (s .entry)) k (now (state .entry))) (now (values .entry)) (left (now (s .entry)) k (now (state .exit))) (now (values .exit)) ⌝ }
+{
+    let p = script::entries::part_at(s, c, c.expressions + k);
+    let x = p.a;
+    let v = evaluation::value_of(plan, values, p.b);
+    values[x] = v;
+    state[0] = 1;
+}
+
+// A local makes its signal absent and leaves its body.
+fn move_local(s: &[u8], c: Script, values: &mut [i32], state: &mut [u8], k: usize)
+    requires { ⌜ Valued (now s) c (now values) × (At (now s) k (now state) × ((partOf (now s) (node (now s) k) .kind ≡ 7) × (own (now state) ≡ 0))) ⌝ }
+    ensures { λ _. ⌜ Silent (left (now (s .entry)) k (now (state .entry))) (now (values .entry)) (left (now (s .entry)) k (now (state .exit))) (now (values .exit)) ⌝ }
+{
+    let p = script::entries::part_at(s, c, c.expressions + k);
+    let a = p.a;
+    values[a] = 0;
+    state[0] = 1;
+}
+
+// An if leaves a branch.
+fn move_if(
+    s: &[u8],
+    c: Script,
+    plan: &[usize; Script::MAX_PARTS],
+    values: &[i32],
+    state: &mut [u8],
+    k: usize,
+)
+    requires { ⌜ Valued (now s) c (now values) × (KeepsPlan (now s) (now plan) × (At (now s) k (now state) × ((partOf (now s) (node (now s) k) .kind ≡ 3) × (own (now state) ≡ 0)))) ⌝ }
+    ensures { λ _. ⌜ Silent (left (now (s .entry)) k (now (state .entry))) (now (values .entry)) (left (now (s .entry)) k (now (state .exit))) (now (values .entry)) ⌝ }
+{
+    let p = script::entries::part_at(s, c, c.expressions + k);
+    if evaluation::test_holds(s, plan, values, p.a) {
+        state[0] = 1;
+    } else {
+        state[0] = 2;
+    }
+}
+
+// A while leaves its body, as it is written, and then itself; or nil.
+fn move_while(
+    s: &[u8],
+    c: Script,
+    plan: &[usize; Script::MAX_PARTS],
+    values: &[i32],
+    state: &mut [u8],
+    k: usize,
+)
+    requires { ⌜ Valued (now s) c (now values) × (KeepsPlan (now s) (now plan) × (At (now s) k (now state) × ((partOf (now s) (node (now s) k) .kind ≡ 4) × (own (now state) ≡ 0)))) ⌝ }
+    ensures { λ _. ⌜ Silent (left (now (s .entry)) k (now (state .entry))) (now (values .entry)) (left (now (s .entry)) k (now (state .exit))) (now (values .entry)) ⌝ }
+{
+    let p = script::entries::part_at(s, c, c.expressions + k);
+    if evaluation::test_holds(s, plan, values, p.a) {
+        state[0] = 1;
+        clear(&mut state[1..]);
+    } else {
+        state[0] = forms::NIL;
+    }
+}
+
+// The moves of let, if, while and local write no line.
+fn move_silently(
+    s: &[u8],
+    c: Script,
+    plan: &[usize; Script::MAX_PARTS],
+    values: &mut [i32],
+    state: &mut [u8],
+    k: usize,
+    kind: usize,
+)
+    requires { ⌜ Valued (now s) c (now values) × (KeepsPlan (now s) (now plan) × (At (now s) k (now state) × ((kind ≡ partOf (now s) (node (now s) k) .kind) × (own (now state) ≡ 0)))) ⌝ }
+    requires { ⌜ IsSilent kind ⌝ }
+    ensures { λ _. ⌜ Silent (left (now (s .entry)) k (now (state .entry))) (now (values .entry)) (left (now (s .entry)) k (now (state .exit))) (now (values .exit)) ⌝ }
+{
+    if kind == 2 {
+        move_let(s, c, plan, values, state, k);
+    } else if kind == 3 {
+        move_if(s, c, plan, values, state, k);
+    } else if kind == 4 {
+        move_while(s, c, plan, values, state, k);
+    } else {
+        move_local(s, c, values, state, k);
+    }
+}
+
+// An assignment or an emission gives x this value and leaves nil.
+fn write(
+    s: &[u8],
+    seen: &[u8],
+    values: &mut [i32],
+    state: &mut [u8],
+    log: &mut [u32],
+    limits: Limits,
+    at: Counts,
+    k: usize,
+    x: usize,
+    value: i32,
+) -> Done
+    requires { ⌜ At (now s) k (now state) × (Writes (left (now s) k (now state)) (now values) x value × (Counted (limits .steps) (now log) (at .steps) (at .lines) × ((at .steps < limits .steps) × ((x < length (now values)) × ((x < 65536) × (x < length (now seen))))))) ⌝ }
+    ensures { λ r. ⌜ Advances (seenIn (now (seen .entry))) (limits .steps) (length (now (log .entry)) / 4) (runningAt (now (s .entry)) k (now (state .entry)) (now (values .entry)) (now (log .entry)) (at .steps) (limits .instant) (at .lines)) (runningAt (now (s .entry)) k (now (state .exit)) (now (values .exit)) (now (log .exit)) (r .at .steps) (limits .instant) (r .at .lines)) (r .why) ⌝ }
+{
+    let noted = log::note(seen, log, at.steps, limits.instant, at.lines, x, value);
+    if !noted.fits {
+        return Done { why: FULL, at };
+    }
+    values[x] = value;
+    state[0] = forms::NIL;
+    Done {
+        why: GONE,
+        at: Counts {
+            steps: at.steps + 1,
+            lines: noted.lines,
+        },
+    }
+}
+
+// Node k makes its own move.
+pub fn move_own(
+    s: &[u8],
+    c: Script,
+    plan: &[usize; Script::MAX_PARTS],
+    seen: &[u8],
+    values: &mut [i32],
+    state: &mut [u8],
+    log: &mut [u32],
+    limits: Limits,
+    at: Counts,
+    k: usize,
+) -> Done
+    requires { ⌜ Valued (now s) c (now values) × (KeepsPlan (now s) (now plan) × (At (now s) k (now state) × (Counted (limits .steps) (now log) (at .steps) (at .lines) × ((length (now values) ≤ length (now seen)) × (frontOf (now s) k (own (now state)) (length (now state)) .form ≡ mover))))) ⌝ }
+    ensures { λ r. ⌜ Advances (seenIn (now (seen .entry))) (limits .steps) (length (now (log .entry)) / 4) (runningAt (now (s .entry)) k (now (state .entry)) (now (values .entry)) (now (log .entry)) (at .steps) (limits .instant) (at .lines)) (runningAt (now (s .entry)) k (now (state .exit)) (now (values .exit)) (now (log .exit)) (r .at .steps) (limits .instant) (r .at .lines)) (r .why) ⌝ }
+{
+    if limits.steps <= at.steps {
+        return Done { why: SPENT, at };
+    }
+    let p = script::entries::part_at(s, c, c.expressions + k);
+    let x = p.a;
+    if p.kind == 1 {
+        let v = evaluation::value_of(plan, values, p.b);
+        return write(s, seen, values, state, log, limits, at, k, x, v);
+    }
+    if p.kind == 6 {
+        return write(s, seen, values, state, log, limits, at, k, x, 1);
+    }
+    move_silently(s, c, plan, values, state, k, p.kind);
+    Done {
+        why: AGAIN,
+        at: Counts {
+            steps: at.steps + 1,
+            lines: at.lines,
+        },
+    }
+}

@@ -1,0 +1,49 @@
+// The log: four words make a line.
+ghost use mathlib.Core.Path.{_≡_};
+ghost use Prim.Native.Nat.{_*_, _/_, _+_, _≤_, _<_};
+ghost use lib.ListN.{length};
+ghost use Rattle.moves.specs.Moves.{putWords};
+ghost use Rattle.moves.specs.Contracts.{lineOf, Notes};
+
+fn put_line(log: &mut [u32], at: usize, step: u32, instant: u32, name: u32, value: u32)
+    requires { ⌜ at + 4 ≤ length (now log) ⌝ }
+    ensures { λ _. ⌜ now (log .exit) ≡ putWords (now (log .entry)) at step instant name value ⌝ }
+{
+    log[at] = step;
+    log[at + 1] = instant;
+    log[at + 2] = name;
+    log[at + 3] = value;
+}
+
+// Whether there was room, and how many lines there are now.
+pub struct Noted {
+    pub fits: bool,
+    pub lines: usize,
+}
+
+// Writes the line that a step calls for which gives x this value, if a reader sees x and there is room.
+pub fn note(
+    seen: &[u8],
+    log: &mut [u32],
+    steps: u32,
+    instant: u32,
+    lines: usize,
+    x: usize,
+    value: i32,
+) -> Noted
+    requires { ⌜ (x < length (now seen)) × ((x < 65536) × ((steps < 1000000) × (4 * lines ≤ length (now log)))) ⌝ }
+    ensures { λ r. ⌜ Notes (length (now (log .entry)) / 4) (lineOf (now (seen .entry)) steps instant x value) lines (now (log .entry)) r (now (log .exit)) ⌝ }
+{
+    if seen[x] != 1 {
+        return Noted { fits: true, lines };
+    }
+    if log.len() / 4 <= lines {
+        return Noted { fits: false, lines };
+    }
+    let word = language::words::word_of(value);
+    put_line(log, 4 * lines, steps + 1, instant, x as u32, word);
+    Noted {
+        fits: true,
+        lines: lines + 1,
+    }
+}

@@ -1,0 +1,4 @@
+-- Laws that the proofs of several functions use.
+pub mod Reading
+pub mod Fronts
+pub mod Plans

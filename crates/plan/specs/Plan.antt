@@ -1,0 +1,89 @@
+-- The plan of a run: a word for each expression and for each node, with what the run goes by.
+use mathlib.Core.Path.{_≡_}
+use mathlib.Core.List.{List}
+use Prim.Native.Nat.{ℕ, _+_, _*_, _/_, _%_, _^_, _<_}
+use lib.ListN.{getD}
+use Rattle.script.specs.Layout.{mostExpressions, expressionCount, nodeCount}
+use Rattle.script.specs.Entries.{partOf, node, firstChild, secondChild}
+use Rattle.script.specs.Tree.{processOf, size}
+use Rattle.plan.specs.Forms.{formOf}
+
+-- what the word of an expression tells: its kind; a constant's word; its name or first operand; its second operand
+abbrev pub kindIn : ℕ → ℕ
+kindIn w = w / 2 ^ 32
+
+abbrev pub constantIn : ℕ → ℕ
+constantIn w = w % 2 ^ 32
+
+abbrev pub operandIn : ℕ → ℕ
+operandIn w = w % 2 ^ 16
+
+abbrev pub laterIn : ℕ → ℕ
+laterIn w = w / 2 ^ 16 % 2 ^ 16
+
+-- a word that tells these
+abbrev pub spelled : ℕ → ℕ → ℕ → ℕ
+spelled kind later operand = 2 ^ 32 * kind + (2 ^ 16 * later + operand)
+
+-- the word of expression e
+pub record Spelled (s : List ℕ) (e w : ℕ) : Type 0 where
+  pub kind : kindIn w ≡ partOf s e .kind
+  pub constant : partOf s e .kind ≡ 0 → constantIn w ≡ 2 ^ 16 * partOf s e .b + partOf s e .c
+  pub operand : (partOf s e .kind ≡ 0 → ⊥) → operandIn w ≡ partOf s e .a
+  pub later : laterIn w ≡ partOf s e .b
+
+-- what the word of a node tells: the form by its own byte, fields a and b, the first and the second child, the size of
+-- the first, the kind
+abbrev pub formIn : ℕ → ℕ → ℕ
+formIn w tag = w / 2 ^ (4 * tag) % 16
+
+abbrev pub aIn : ℕ → ℕ
+aIn w = w / 2 ^ 16 % 256
+
+abbrev pub bIn : ℕ → ℕ
+bIn w = w / 2 ^ 24 % 256
+
+abbrev pub firstIn : ℕ → ℕ
+firstIn w = w / 2 ^ 32 % 256
+
+abbrev pub secondIn : ℕ → ℕ
+secondIn w = w / 2 ^ 40 % 256
+
+abbrev pub sizeIn : ℕ → ℕ
+sizeIn w = w / 2 ^ 48 % 256
+
+abbrev pub nodeKindIn : ℕ → ℕ
+nodeKindIn w = w / 2 ^ 56
+
+-- a word that tells these, and the forms of a kind, as they stand in it
+abbrev pub packedFields : ℕ → ℕ → ℕ → ℕ → ℕ → ℕ
+packedFields a b first second size =
+    a % 256 + 256 * (b % 256 + 256 * (first % 256 + 256 * (second % 256 + 256 * (size % 256))))
+
+abbrev pub packed : ℕ → ℕ → ℕ → ℕ
+packed forms fields kind = forms + 2 ^ 16 * (fields + 2 ^ 40 * kind)
+
+abbrev pub formsOf : ℕ → ℕ
+formsOf kind = formOf kind 0 + 16 * formOf kind 1 + 256 * formOf kind 2 + 4096 * formOf kind 3
+
+-- the word of node k; of fields past 255, and of children that a node has not, what it tells is of no meaning
+pub record Planned (s : List ℕ) (k w : ℕ) : Type 0 where
+  pub forms : (tag : ℕ) → tag < 4 → formIn w tag ≡ formOf (partOf s (node s k) .kind) tag
+  pub kind : nodeKindIn w ≡ partOf s (node s k) .kind
+  pub a : partOf s (node s k) .a < 256 → aIn w ≡ partOf s (node s k) .a
+  pub b : partOf s (node s k) .b < 256 → bIn w ≡ partOf s (node s k) .b
+  pub first : firstChild (partOf s (node s k)) < k → firstIn w ≡ firstChild (partOf s (node s k))
+  pub second : secondChild (partOf s (node s k)) < k → secondIn w ≡ secondChild (partOf s (node s k))
+  pub size : firstChild (partOf s (node s k)) < k → sizeIn w ≡ size (processOf s (firstChild (partOf s (node s k))))
+
+-- the words of the first n expressions stand first, those of nodes after the place of the last expression
+abbrev pub KeepsExpressions : List ℕ → ℕ → List ℕ → Type 0
+KeepsExpressions s n plan = (e : ℕ) → e < n → Spelled s e (getD plan e 0)
+
+abbrev pub KeepsNodes : List ℕ → ℕ → List ℕ → Type 0
+KeepsNodes s n plan = (k : ℕ) → k < n → Planned s k (getD plan (mostExpressions + k) 0)
+
+-- the plan of a script; what stands past its expressions and past its nodes is left free
+pub record KeepsPlan (s plan : List ℕ) : Type 0 where
+  pub expressions : KeepsExpressions s (expressionCount s) plan
+  pub nodes : KeepsNodes s (nodeCount s) plan

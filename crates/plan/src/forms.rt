@@ -1,0 +1,142 @@
+// The form that a node has come to: what is in front, and what stands around it.
+use crate::words;
+use script::layout::Script;
+ghost use mathlib.Core.Path.{_≡_};
+ghost use Prim.Native.Nat.{_-_, _≤_, _<_};
+ghost use Rattle.script.specs.Layout.{nodeCount};
+ghost use Rattle.script.specs.Checked.{Checked};
+ghost use Rattle.plan.specs.Forms.{beside, formOf, frontOf};
+ghost use Rattle.plan.specs.Plan.{KeepsPlan};
+
+// Nil.
+pub const GONE: u8 = 0;
+// The node's own move is next.
+pub const MOVER: u8 = 1;
+// The first part alone, or the second.
+pub const FIRST: u8 = 2;
+
+pub const SECOND: u8 = 3;
+// The first part, and after it something else.
+pub const BEFORE: u8 = 4;
+// The first part, watching a signal, or under a when.
+pub const WATCHED: u8 = 5;
+
+pub const GUARDED: u8 = 6;
+// The first part in parallel with the second, or the other way round.
+pub const BESIDE: u8 = 7;
+
+pub const TURNED: u8 = 8;
+
+// The forms of each kind of node, by the node's own byte of state. Past them a node is nil.
+const FORM_ROWS: [[u8; 4]; 11] = [
+    [GONE, GONE, GONE, GONE],
+    [MOVER, GONE, GONE, GONE],
+    [MOVER, FIRST, GONE, GONE],
+    [MOVER, FIRST, SECOND, GONE],
+    [MOVER, BEFORE, GONE, GONE],
+    [BEFORE, SECOND, GONE, GONE],
+    [MOVER, GONE, GONE, GONE],
+    [MOVER, FIRST, GONE, GONE],
+    [WATCHED, GONE, GONE, GONE],
+    [GUARDED, GONE, GONE, GONE],
+    [BESIDE, TURNED, FIRST, SECOND],
+];
+
+// A byte past all forms: the node is nil.
+pub const NIL: u8 = 4;
+
+// The part in front: its node, and where its bytes stand among those of its parent.
+pub struct Front {
+    pub form: u8,
+    pub child: usize,
+    pub from: usize,
+    pub to: usize,
+}
+
+pub fn form_of(kind: usize, tag: u8) -> u8
+    requires { ⌜ kind < 11 ⌝ }
+    ensures { λ r. ⌜ r ≡ formOf kind tag ⌝ }
+{
+    if NIL <= tag {
+        return GONE;
+    }
+    let t = prelude::wide(tag);
+    FORM_ROWS[kind][t]
+}
+
+// The form of node k whose own byte is `tag` and which has so many bytes.
+pub fn find_front(
+    s: &&[u8],
+    plan: &[usize; Script::MAX_PARTS],
+    k: usize,
+    tag: u8,
+    len: usize,
+) -> Front
+    requires { ⌜ Checked (now (now s)) × (KeepsPlan (now (now s)) (now plan) × (k < nodeCount (now (now s)))) ⌝ }
+    ensures { λ r. ⌜ r ≡ frontOf (now (now (s .entry))) k tag len ⌝ }
+{
+    if NIL <= tag {
+        return Front {
+            form: GONE,
+            child: 0,
+            from: 0,
+            to: 0,
+        };
+    }
+    let w = crate::word_at(s, plan, k);
+    let form = words::form_in(w, prelude::wide(tag)) as u8;
+    if form <= MOVER {
+        return Front {
+            form,
+            child: 0,
+            from: 0,
+            to: 0,
+        };
+    }
+    let middle = 1 + words::size_in(w);
+    if form == SECOND || form == TURNED {
+        return Front {
+            form,
+            child: words::second_in(w),
+            from: middle,
+            to: len,
+        };
+    }
+    Front {
+        form,
+        child: words::first_in(w),
+        from: 1,
+        to: middle,
+    }
+}
+
+// The other part of a parallel whose part in front has this form.
+pub fn find_rear(
+    s: &&[u8],
+    plan: &[usize; Script::MAX_PARTS],
+    k: usize,
+    tag: u8,
+    len: usize,
+    form: u8,
+) -> Front
+    requires { ⌜ Checked (now (now s)) × (KeepsPlan (now (now s)) (now plan) × (k < nodeCount (now (now s)))) ⌝ }
+    requires { ⌜ (form ≡ frontOf (now (now s)) k tag len .form) × (beside ≤ form) ⌝ }
+    ensures { λ r. ⌜ r ≡ frontOf (now (now (s .entry))) k (1 - tag) len ⌝ }
+{
+    let w = crate::word_at(s, plan, k);
+    let middle = 1 + words::size_in(w);
+    if form == BESIDE {
+        return Front {
+            form: TURNED,
+            child: words::second_in(w),
+            from: middle,
+            to: len,
+        };
+    }
+    Front {
+        form: BESIDE,
+        child: words::first_in(w),
+        from: 1,
+        to: middle,
+    }
+}
