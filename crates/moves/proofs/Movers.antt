@@ -14,10 +14,11 @@ use lib.Seq.{length-take-le, drop-set-lt}
 use Rattle.language.specs.Syntax.{Proc, assign, letIn, ifThenElse, while, emit, local, isNil}
 use Rattle.language.specs.Steps.{value, test, suspended, move}
 use Rattle.language.specs.Calls.{calledFor}
-use Rattle.script.specs.Layout.{nameCount, nodeCount}
+use Rattle.script.specs.Layout.{nameCount, expressionCount, nodeCount, layoutOf}
 use Rattle.script.specs.Entries.{nameOf, partOf, node}
 use Rattle.script.specs.Checked.{Checked}
 use Rattle.script.specs.Tree.{expressionOf, processOf, size}
+use Rattle.script.proofs.Layouts.{few-bounds}
 use Rattle.script.proofs.Views.{UsesExpression, NodeView, aNil, anAssign, aLet, anIf, aWhile, aSequence, anEmit, aLocal, aWatching, aWhen, aParallel, node-view}
 use Rattle.plan.specs.declared.forms.Front.{Front}
 use Rattle.plan.specs.Forms.{mover}
@@ -74,6 +75,13 @@ module _ (s : List ℕ) (k : ℕ) where
   known-of (aWatching e q x y) = subst KnownAt (sym e) tt
   known-of (aWhen e q x y) = subst KnownAt (sym e) tt
   known-of (aParallel e q x y) = subst KnownAt (sym e) tt
+
+-- 'At most 64 names, 256 expressions'
+pub few-names : {s : List ℕ} → Checked s → nameCount s ≤ 64
+few-names {s} ok = few-bounds (layoutOf s) (ok .laid .few) .0
+
+pub few-expressions : {s : List ℕ} → Checked s → expressionCount s ≤ 256
+few-expressions {s} ok = few-bounds (layoutOf s) (ok .laid .few) .1 .0
 
 pub known : (s : List ℕ) → Checked s → (k : ℕ) → k < nodeCount s → {n : ℕ} → kind s k ≡ n → KnownAt s k n
 known s ok k h e = subst (KnownAt s k) e (known-of s k (node-view s ok k h))

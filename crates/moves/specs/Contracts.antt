@@ -11,6 +11,8 @@ use lib.ListN.{getD, set, length}
 use Rattle.language.specs.Syntax.{Proc, nil}
 use Rattle.language.specs.Steps.{move}
 use Rattle.language.specs.Calls.{Line, System, lineFor, calledFor}
+use Rattle.script.specs.Entries.{partOf, node}
+use Rattle.residual.specs.Residual.{own}
 use Rattle.residual.specs.Nodes.{left}
 use Rattle.moves.specs.declared.log.Noted.{Noted}
 use Rattle.moves.specs.Moves.{Running, logAfter, linesAfter, hasRoom, Live, Path, Ends}
@@ -45,12 +47,21 @@ pub record Notes (room : ℕ) (l : Option Line) (n : ℕ) (log : List ℕ) (r : 
 abbrev pub IsSilent : ℕ → Type 0
 IsSilent kind = (kind ≡ 2) ⊎ ((kind ≡ 3) ⊎ ((kind ≡ 4) ⊎ (kind ≡ 7)))
 
+-- assignments and emissions write one
+abbrev pub IsWriter : ℕ → Type 0
+IsWriter kind = (kind ≡ 1) ⊎ (kind ≡ 6)
+
 -- a move that gives x this value and leaves nil: an assignment or an emission
 pub record Writes (p : Proc ℕ) (s : List ℤ) (x : ℕ) (v : ℤ) : Type 0 where
   pub live : Live p s
   pub process : move p s .process ≡ nil
   pub values : move p s .values ≡ set s x v
   pub line : (seen : ℕ → Bool) (at : System ℕ) → calledFor seen at (move p s .output) ≡ lineFor seen at x v
+
+-- what node k, an assignment or an emission whose move is next, gives its name
+abbrev pub Written : List ℕ → ℕ → List ℤ → ℤ → Type 0
+Written s k values v =
+    (st : List ℕ) → 1 ≤ length st → own st ≡ 0 → Writes (left s k st) values (partOf s (node s k) .a) v
 
 -- node k, with its bytes, values and log, and what has been counted
 abbrev pub runningAt : List ℕ → ℕ → List ℕ → List ℤ → List ℕ → ℕ → ℕ → ℕ → Running ℕ

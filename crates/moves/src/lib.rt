@@ -6,13 +6,14 @@ use script::layout::Script;
 ghost use mathlib.Core.Path.{_≡_};
 ghost use Prim.Native.Nat.{_/_, _≤_, _<_};
 ghost use lib.ListN.{length, replicate};
+ghost use Rattle.script.specs.Layout.{nodeCount};
 ghost use Rattle.script.specs.Entries.{partOf, node};
 ghost use Rattle.residual.specs.Residual.{own};
 ghost use Rattle.plan.specs.Forms.{mover, frontOf};
 ghost use Rattle.plan.specs.Plan.{KeepsPlan};
 ghost use Rattle.moves.specs.Moves.{Silent};
 ghost use Rattle.residual.specs.Nodes.{Valued, At, left};
-ghost use Rattle.moves.specs.Contracts.{Counted, seenIn, IsSilent, Writes, runningAt, Advances};
+ghost use Rattle.moves.specs.Contracts.{Counted, seenIn, IsSilent, IsWriter, Writes, Written, runningAt, Advances};
 
 // Why a node made no further move: it has made one and can go on; it is nil; it is suspended; the limit is reached;
 // the next line has no room.
@@ -55,48 +56,49 @@ fn clear(state: &mut [u8])
 
 // A let sets its name and leaves its body.
 fn move_let(
-    s: &[u8],
-    c: Script,
+    s: &&[u8],
     plan: &[usize; Script::MAX_PARTS],
     values: &mut [i32],
     state: &mut [u8],
     k: usize,
 )
-    requires { ⌜ Valued (now s) c (now values) × (KeepsPlan (now s) (now plan) × (At (now s) k (now state) × ((partOf (now s) (node (now s) k) .kind ≡ 2) × (own (now state) ≡ 0)))) ⌝ }
-    ensures { λ _. ⌜ Silent (left (now (s .entry)) k (now (state .entry))) (now (values .entry)) (left (now (s .entry)) k (now (state .exit))) (now (values .exit)) ⌝ }
+    requires { ⌜ Valued (now (now s)) (now values) × (KeepsPlan (now (now s)) (now plan) × (At (now (now s)) k (now state) × ((partOf (now (now s)) (node (now (now s)) k) .kind ≡ 2) × (own (now state) ≡ 0)))) ⌝ }
+    ensures { λ _. ⌜ Silent (left (now (now (s .entry))) k (now (state .entry))) (now (values .entry)) (left (now (now (s .entry))) k (now (state .exit))) (now (values .exit)) ⌝ }
 {
-    let p = script::entries::part_at(s, c, c.expressions + k);
-    let x = p.a;
-    let v = evaluation::value_of(plan, values, p.b);
+    let x = plan::a_at(s, plan, k);
+    let v = evaluation::value_of(plan, values, plan::b_at(s, plan, k));
     values[x] = v;
     state[0] = 1;
 }
 
 // A local makes its signal absent and leaves its body.
-fn move_local(s: &[u8], c: Script, values: &mut [i32], state: &mut [u8], k: usize)
-    requires { ⌜ Valued (now s) c (now values) × (At (now s) k (now state) × ((partOf (now s) (node (now s) k) .kind ≡ 7) × (own (now state) ≡ 0))) ⌝ }
-    ensures { λ _. ⌜ Silent (left (now (s .entry)) k (now (state .entry))) (now (values .entry)) (left (now (s .entry)) k (now (state .exit))) (now (values .exit)) ⌝ }
+fn move_local(
+    s: &&[u8],
+    plan: &[usize; Script::MAX_PARTS],
+    values: &mut [i32],
+    state: &mut [u8],
+    k: usize,
+)
+    requires { ⌜ Valued (now (now s)) (now values) × (KeepsPlan (now (now s)) (now plan) × (At (now (now s)) k (now state) × ((partOf (now (now s)) (node (now (now s)) k) .kind ≡ 7) × (own (now state) ≡ 0)))) ⌝ }
+    ensures { λ _. ⌜ Silent (left (now (now (s .entry))) k (now (state .entry))) (now (values .entry)) (left (now (now (s .entry))) k (now (state .exit))) (now (values .exit)) ⌝ }
 {
-    let p = script::entries::part_at(s, c, c.expressions + k);
-    let a = p.a;
+    let a = plan::a_at(s, plan, k);
     values[a] = 0;
     state[0] = 1;
 }
 
 // An if leaves a branch.
 fn move_if(
-    s: &[u8],
-    c: Script,
+    s: &&[u8],
     plan: &[usize; Script::MAX_PARTS],
     values: &[i32],
     state: &mut [u8],
     k: usize,
 )
-    requires { ⌜ Valued (now s) c (now values) × (KeepsPlan (now s) (now plan) × (At (now s) k (now state) × ((partOf (now s) (node (now s) k) .kind ≡ 3) × (own (now state) ≡ 0)))) ⌝ }
-    ensures { λ _. ⌜ Silent (left (now (s .entry)) k (now (state .entry))) (now (values .entry)) (left (now (s .entry)) k (now (state .exit))) (now (values .entry)) ⌝ }
+    requires { ⌜ Valued (now (now s)) (now values) × (KeepsPlan (now (now s)) (now plan) × (At (now (now s)) k (now state) × ((partOf (now (now s)) (node (now (now s)) k) .kind ≡ 3) × (own (now state) ≡ 0)))) ⌝ }
+    ensures { λ _. ⌜ Silent (left (now (now (s .entry))) k (now (state .entry))) (now (values .entry)) (left (now (now (s .entry))) k (now (state .exit))) (now (values .entry)) ⌝ }
 {
-    let p = script::entries::part_at(s, c, c.expressions + k);
-    if evaluation::test_holds(s, plan, values, p.a) {
+    if evaluation::test_holds(s, plan, values, plan::a_at(s, plan, k)) {
         state[0] = 1;
     } else {
         state[0] = 2;
@@ -105,18 +107,16 @@ fn move_if(
 
 // A while leaves its body, as it is written, and then itself; or nil.
 fn move_while(
-    s: &[u8],
-    c: Script,
+    s: &&[u8],
     plan: &[usize; Script::MAX_PARTS],
     values: &[i32],
     state: &mut [u8],
     k: usize,
 )
-    requires { ⌜ Valued (now s) c (now values) × (KeepsPlan (now s) (now plan) × (At (now s) k (now state) × ((partOf (now s) (node (now s) k) .kind ≡ 4) × (own (now state) ≡ 0)))) ⌝ }
-    ensures { λ _. ⌜ Silent (left (now (s .entry)) k (now (state .entry))) (now (values .entry)) (left (now (s .entry)) k (now (state .exit))) (now (values .entry)) ⌝ }
+    requires { ⌜ Valued (now (now s)) (now values) × (KeepsPlan (now (now s)) (now plan) × (At (now (now s)) k (now state) × ((partOf (now (now s)) (node (now (now s)) k) .kind ≡ 4) × (own (now state) ≡ 0)))) ⌝ }
+    ensures { λ _. ⌜ Silent (left (now (now (s .entry))) k (now (state .entry))) (now (values .entry)) (left (now (now (s .entry))) k (now (state .exit))) (now (values .entry)) ⌝ }
 {
-    let p = script::entries::part_at(s, c, c.expressions + k);
-    if evaluation::test_holds(s, plan, values, p.a) {
+    if evaluation::test_holds(s, plan, values, plan::a_at(s, plan, k)) {
         state[0] = 1;
         clear(&mut state[1..]);
     } else {
@@ -126,33 +126,49 @@ fn move_while(
 
 // The moves of let, if, while and local write no line.
 fn move_silently(
-    s: &[u8],
-    c: Script,
+    s: &&[u8],
     plan: &[usize; Script::MAX_PARTS],
     values: &mut [i32],
     state: &mut [u8],
     k: usize,
     kind: usize,
 )
-    requires { ⌜ Valued (now s) c (now values) × (KeepsPlan (now s) (now plan) × (At (now s) k (now state) × ((kind ≡ partOf (now s) (node (now s) k) .kind) × (own (now state) ≡ 0)))) ⌝ }
+    requires { ⌜ Valued (now (now s)) (now values) × (KeepsPlan (now (now s)) (now plan) × (At (now (now s)) k (now state) × ((kind ≡ partOf (now (now s)) (node (now (now s)) k) .kind) × (own (now state) ≡ 0)))) ⌝ }
     requires { ⌜ IsSilent kind ⌝ }
-    ensures { λ _. ⌜ Silent (left (now (s .entry)) k (now (state .entry))) (now (values .entry)) (left (now (s .entry)) k (now (state .exit))) (now (values .exit)) ⌝ }
+    ensures { λ _. ⌜ Silent (left (now (now (s .entry))) k (now (state .entry))) (now (values .entry)) (left (now (now (s .entry))) k (now (state .exit))) (now (values .exit)) ⌝ }
 {
-    if kind == 2 {
-        move_let(s, c, plan, values, state, k);
+    if kind == 4 {
+        move_while(s, plan, values, state, k);
     } else if kind == 3 {
-        move_if(s, c, plan, values, state, k);
-    } else if kind == 4 {
-        move_while(s, c, plan, values, state, k);
+        move_if(s, plan, values, state, k);
+    } else if kind == 2 {
+        move_let(s, plan, values, state, k);
     } else {
-        move_local(s, c, values, state, k);
+        move_local(s, plan, values, state, k);
     }
+}
+
+// What node k, an assignment or an emission, gives its name.
+fn written(
+    s: &&[u8],
+    plan: &[usize; Script::MAX_PARTS],
+    values: &[i32],
+    k: usize,
+    kind: usize,
+) -> i32
+    requires { ⌜ Valued (now (now s)) (now values) × (KeepsPlan (now (now s)) (now plan) × ((k < nodeCount (now (now s))) × ((kind ≡ partOf (now (now s)) (node (now (now s)) k) .kind) × IsWriter kind))) ⌝ }
+    ensures { λ r. ⌜ Written (now (now (s .entry))) k (now (values .entry)) r ⌝ }
+{
+    if kind == 6 {
+        return 1;
+    }
+    evaluation::value_of(plan, values, plan::b_at(s, plan, k))
 }
 
 // An assignment or an emission gives x this value and leaves nil.
 fn write(
-    s: &[u8],
-    seen: &[u8],
+    s: &&[u8],
+    seen: &[u8; Script::MAX_NAMES],
     values: &mut [i32],
     state: &mut [u8],
     log: &mut [u32],
@@ -162,8 +178,8 @@ fn write(
     x: usize,
     value: i32,
 ) -> Done
-    requires { ⌜ At (now s) k (now state) × (Writes (left (now s) k (now state)) (now values) x value × (Counted (limits .steps) (now log) (at .steps) (at .lines) × ((at .steps < limits .steps) × ((x < length (now values)) × ((x < 65536) × (x < length (now seen))))))) ⌝ }
-    ensures { λ r. ⌜ Advances (seenIn (now (seen .entry))) (limits .steps) (length (now (log .entry)) / 4) (runningAt (now (s .entry)) k (now (state .entry)) (now (values .entry)) (now (log .entry)) (at .steps) (limits .instant) (at .lines)) (runningAt (now (s .entry)) k (now (state .exit)) (now (values .exit)) (now (log .exit)) (r .at .steps) (limits .instant) (r .at .lines)) (r .why) ⌝ }
+    requires { ⌜ At (now (now s)) k (now state) × (Writes (left (now (now s)) k (now state)) (now values) x value × (Counted (limits .steps) (now log) (at .steps) (at .lines) × ((at .steps < limits .steps) × ((x < length (now values)) × (x < 64))))) ⌝ }
+    ensures { λ r. ⌜ Advances (seenIn (now (seen .entry))) (limits .steps) (length (now (log .entry)) / 4) (runningAt (now (now (s .entry))) k (now (state .entry)) (now (values .entry)) (now (log .entry)) (at .steps) (limits .instant) (at .lines)) (runningAt (now (now (s .entry))) k (now (state .exit)) (now (values .exit)) (now (log .exit)) (r .at .steps) (limits .instant) (r .at .lines)) (r .why) ⌝ }
 {
     let noted = log::note(seen, log, at.steps, limits.instant, at.lines, x, value);
     if !noted.fits {
@@ -182,10 +198,9 @@ fn write(
 
 // Node k makes its own move.
 pub fn move_own(
-    s: &[u8],
-    c: Script,
+    s: &&[u8],
     plan: &[usize; Script::MAX_PARTS],
-    seen: &[u8],
+    seen: &[u8; Script::MAX_NAMES],
     values: &mut [i32],
     state: &mut [u8],
     log: &mut [u32],
@@ -193,22 +208,19 @@ pub fn move_own(
     at: Counts,
     k: usize,
 ) -> Done
-    requires { ⌜ Valued (now s) c (now values) × (KeepsPlan (now s) (now plan) × (At (now s) k (now state) × (Counted (limits .steps) (now log) (at .steps) (at .lines) × ((length (now values) ≤ length (now seen)) × (frontOf (now s) k (own (now state)) (length (now state)) .form ≡ mover))))) ⌝ }
-    ensures { λ r. ⌜ Advances (seenIn (now (seen .entry))) (limits .steps) (length (now (log .entry)) / 4) (runningAt (now (s .entry)) k (now (state .entry)) (now (values .entry)) (now (log .entry)) (at .steps) (limits .instant) (at .lines)) (runningAt (now (s .entry)) k (now (state .exit)) (now (values .exit)) (now (log .exit)) (r .at .steps) (limits .instant) (r .at .lines)) (r .why) ⌝ }
+    requires { ⌜ Valued (now (now s)) (now values) × (KeepsPlan (now (now s)) (now plan) × (At (now (now s)) k (now state) × (Counted (limits .steps) (now log) (at .steps) (at .lines) × (frontOf (now (now s)) k (own (now state)) (length (now state)) .form ≡ mover)))) ⌝ }
+    ensures { λ r. ⌜ Advances (seenIn (now (seen .entry))) (limits .steps) (length (now (log .entry)) / 4) (runningAt (now (now (s .entry))) k (now (state .entry)) (now (values .entry)) (now (log .entry)) (at .steps) (limits .instant) (at .lines)) (runningAt (now (now (s .entry))) k (now (state .exit)) (now (values .exit)) (now (log .exit)) (r .at .steps) (limits .instant) (r .at .lines)) (r .why) ⌝ }
 {
     if limits.steps <= at.steps {
         return Done { why: SPENT, at };
     }
-    let p = script::entries::part_at(s, c, c.expressions + k);
-    let x = p.a;
-    if p.kind == 1 {
-        let v = evaluation::value_of(plan, values, p.b);
+    let kind = plan::kind_at(s, plan, k);
+    if kind == 1 || kind == 6 {
+        let x = plan::a_at(s, plan, k);
+        let v = written(s, plan, values, k, kind);
         return write(s, seen, values, state, log, limits, at, k, x, v);
     }
-    if p.kind == 6 {
-        return write(s, seen, values, state, log, limits, at, k, x, 1);
-    }
-    move_silently(s, c, plan, values, state, k, p.kind);
+    move_silently(s, plan, values, state, k, kind);
     Done {
         why: AGAIN,
         at: Counts {

@@ -1,4 +1,5 @@
 // The log: four words make a line.
+use script::layout::Script;
 ghost use mathlib.Core.Path.{_≡_};
 ghost use Prim.Native.Nat.{_*_, _/_, _+_, _≤_, _<_};
 ghost use lib.ListN.{length};
@@ -23,7 +24,7 @@ pub struct Noted {
 
 // Writes the line that a step calls for which gives x this value, if a reader sees x and there is room.
 pub fn note(
-    seen: &[u8],
+    seen: &[u8; Script::MAX_NAMES],
     log: &mut [u32],
     steps: u32,
     instant: u32,
@@ -31,7 +32,7 @@ pub fn note(
     x: usize,
     value: i32,
 ) -> Noted
-    requires { ⌜ (x < length (now seen)) × ((x < 65536) × ((steps < 1000000) × (4 * lines ≤ length (now log)))) ⌝ }
+    requires { ⌜ (x < 64) × ((steps < 1000000) × (4 * lines ≤ length (now log))) ⌝ }
     ensures { λ r. ⌜ Notes (length (now (log .entry)) / 4) (lineOf (now (seen .entry)) steps instant x value) lines (now (log .entry)) r (now (log .exit)) ⌝ }
 {
     if seen[x] != 1 {

@@ -1,95 +1,68 @@
 -- `move_if`: the node's byte says which branch is left.
-use mathlib.Core.Path.{_≡_, sym, ap, _∙_, subst}
-use Prim.Native.Nat.{_<_}
+use mathlib.Core.Path.{_≡_, sym, ap, _∙_}
 use native.Mathlib.Omega.{arith}
-use denote.Ref.{now}
-use Rattle.script.specs.declared.entries.Part.{Part}
-use Rattle.script.specs.Layout.{expressionCount}
-use Rattle.script.specs.Entries.{partOf, node}
-use Rattle.script.proofs.Layouts.{nodes-are}
-use Rattle.plan.proofs.Reading.{node-read}
-use Rattle.residual.proofs.Residuals.{some-bytes}
 use Rattle.language.specs.Steps.{test}
+use Rattle.script.specs.Entries.{partOf, node}
 use Rattle.script.specs.Tree.{expressionOf}
-use Rattle.moves.proofs.Movers.{known, then-moves, else-moves}
+use Rattle.residual.proofs.Residuals.{some-bytes}
+use Rattle.moves.proofs.Movers.{known, few-expressions, then-moves, else-moves}
 use borrow.Author.Needs.{needs}
 use Rattle.moves.proofs.move_if.Statement.{statement}
 use Rattle.moves.proofs.move_if.Tie as tie
 
--- the entry that was read
-read :
-    (c : tie.After-part-at) →
-    let start = c .before .before .before .before in
-    c .part-at .result ≡ partOf (now (start .args .s)) (node (now (start .args .s)) (start .args .k))
-read c = let start = c .before .before .before .before in node-read (start .args .k) (start .pre .0 .laid) (c .part-at .ensures)
-
 -- the test that was made
 tested :
     (c : tie.After-test-holds) →
-    let start = c .before .before .before .before .before in
-    c .test-holds .result
-    ≡ test (expressionOf (now (start .args .s)) (partOf (now (start .args .s)) (node (now (start .args .s)) (start .args .k)) .a)) (now (start .args .values))
-tested c =
-    let start = c .before .before .before .before .before in
-    c .test-holds .ensures
-    ∙ ap (λ (p : Part). test (expressionOf (now (start .args .s)) (p .a)) (now (start .args .values))) (read ((c .before)))
-
-add-part-at : tie.Need-add-part-at
-add-part-at c = search needs
-
-part-at-requires : tie.Need-part-at-requires
-part-at-requires c κs =
     let start = c .before .before .before in
-    (start .pre .0 .laid, omega (arith, start .pre .1 .1 .0 .known, nodes-are (start .pre .0 .laid)))
+    c .test-holds .result
+    ≡ test (expressionOf (start .args .s .now .now) (partOf (start .args .s .now .now) (node (start .args .s .now .now) (start .args .k)) .a)) (start .args .values .now)
+tested c =
+    let start = c .before .before .before in
+    c .test-holds .ensures ∙ ap (λ e. test (expressionOf (start .args .s .now .now) e) (start .args .values .now)) (c .before .a-at .ensures)
+
+a-at-requires : tie.Need-a-at-requires
+a-at-requires c κs =
+    let start = c .before in
+    (start .pre .0 .checked, (start .pre .1 .0, (start .pre .1 .1 .0 .known, omega (arith, known (start .args .s .now .now) (start .pre .0 .checked) (start .args .k) (start .pre .1 .1 .0 .known) (start .pre .1 .1 .1 .0) .1 .known, few-expressions (start .pre .0 .checked)))))
 
 test-holds-requires : tie.Need-test-holds-requires
 test-holds-requires c κs =
-    let start = c .before .before .before .before in (
-      start .pre .0 .checked,
-      (
-        start .pre .1 .0,
-        (
-          start .pre .0 .named,
-          subst (λ (p : Part). p .a < expressionCount (now (start .args .s))) (sym (read c))
-              (known (now (start .args .s)) (start .pre .0 .checked) (start .args .k) (start .pre .1 .1 .0 .known) (start .pre .1 .1 .1 .0) .1 .known),
-        ),
-      ),
-    )
+    let start = c .before .before in
+    (start .pre .0 .checked, (start .pre .1 .0, (start .pre .0 .named, omega (arith, c .a-at .ensures, known (start .args .s .now .now) (start .pre .0 .checked) (start .args .k) (start .pre .1 .1 .0 .known) (start .pre .1 .1 .1 .0) .1 .known))))
 
 slice-write-state : tie.Need-slice-write-state
 slice-write-state c =
-    some-bytes (c .before .before .before .before .before .before .pre .1 .1 .0)
+    let start = c .before .before .before .before in
+    some-bytes (start .pre .1 .1 .0)
 
 slice-write-state-2 : tie.Need-slice-write-state-2
 slice-write-state-2 c =
-    some-bytes (c .before .before .before .before .before .before .pre .1 .1 .0)
+    let start = c .before .before .before .before in
+    some-bytes (start .pre .1 .1 .0)
 
 same-length : tie.Need-same-length
 same-length c = search needs
 
 returns : tie.Need-returns
 returns c =
-    let start = c .before .before .before .before .before .before in
-    then-moves (now (start .args .s)) (start .pre .0 .checked) (start .args .k) (start .pre .1 .1 .0 .known)
-    (now (start .args .state)) (some-bytes (start .pre .1 .1 .0)) (start .pre .1 .1 .1 .1) (now (start .args .values))
-    (start .pre .1 .1 .1 .0) (sym (tested ((c .before))) ∙ c .if1 .taken)
+    let start = c .before .before .before .before in
+    then-moves (start .args .s .now .now) (start .pre .0 .checked) (start .args .k) (start .pre .1 .1 .0 .known)
+    (start .args .state .now) (some-bytes (start .pre .1 .1 .0)) (start .pre .1 .1 .1 .1) (start .args .values .now) (start .pre .1 .1 .1 .0) (sym (tested (c .before)) ∙ c .if1 .taken)
 
 same-length-2 : tie.Need-same-length-2
 same-length-2 c = search needs
 
 returns-2 : tie.Need-returns-2
 returns-2 c =
-    let start = c .before .before .before .before .before .before in
-    else-moves (now (start .args .s)) (start .pre .0 .checked) (start .args .k) (start .pre .1 .1 .0 .known)
-    (now (start .args .state)) (some-bytes (start .pre .1 .1 .0)) (start .pre .1 .1 .1 .1) (now (start .args .values))
-    (start .pre .1 .1 .1 .0) (sym (tested ((c .before))) ∙ c .if1 .left)
+    let start = c .before .before .before .before in
+    else-moves (start .args .s .now .now) (start .pre .0 .checked) (start .args .k) (start .pre .1 .1 .0 .known)
+    (start .args .state .now) (some-bytes (start .pre .1 .1 .0)) (start .pre .1 .1 .1 .1) (start .args .values .now) (start .pre .1 .1 .1 .0) (sym (tested (c .before)) ∙ c .if1 .left)
 
 pub move-if-spec : {M : Type 1} → statement M
 move-if-spec =
     tie.close
     (tie.spec
-    add-part-at
-    part-at-requires
+    a-at-requires
     test-holds-requires
     slice-write-state
     slice-write-state-2

@@ -1,78 +1,49 @@
 -- `move_let`: the name is set, and the node's byte says that it is in its body.
-use mathlib.Core.Path.{_≡_, sym, subst}
-use Prim.Native.Nat.{_<_}
 use native.Mathlib.Omega.{arith}
-use denote.Ref.{now}
-use lib.ListN.{length}
-use Rattle.script.specs.declared.entries.Part.{Part}
-use Rattle.script.specs.Layout.{expressionCount}
-use Rattle.script.specs.Entries.{partOf, node}
-use Rattle.script.proofs.Layouts.{few-bounds, names-are, nodes-are}
-use Rattle.plan.proofs.Reading.{node-read}
-use Rattle.residual.proofs.Residuals.{some-bytes}
 use mir.Syntax.{w32}
 use mir.Facts.{toZ-ofZ}
-use Rattle.moves.proofs.Movers.{known, let-moves}
+use Rattle.residual.proofs.Residuals.{some-bytes}
+use Rattle.moves.proofs.Movers.{known, few-names, few-expressions, let-moves}
 use borrow.Author.Needs.{fits-under}
 use borrow.Author.Needs.{needs}
 use Rattle.moves.proofs.move_let.Statement.{statement}
 use Rattle.moves.proofs.move_let.Tie as tie
 
--- the entry that was read
-read :
-    (c : tie.After-part-at) →
-    let start = c .before .before .before .before in
-    c .part-at .result ≡ partOf (now (start .args .s)) (node (now (start .args .s)) (start .args .k))
-read c = let start = c .before .before .before .before in node-read (start .args .k) (start .pre .0 .laid) (c .part-at .ensures)
+a-at-requires : tie.Need-a-at-requires
+a-at-requires c κs =
+    let start = c .before in
+    (start .pre .0 .checked, (start .pre .1 .0, (start .pre .1 .1 .0 .known, omega (arith, known (start .args .s .now .now) (start .pre .0 .checked) (start .args .k) (start .pre .1 .1 .0 .known) (start .pre .1 .1 .1 .0) .1 .0, few-names (start .pre .0 .checked)))))
 
--- the name is in the table
-in-table : (c : tie.After-part-at) → c .part-at .result .a < length (now (c .before .before .before .before .args .values))
-in-table c =
-    let start = c .before .before .before .before in
-    subst (λ (p : Part). p .a < length (now (start .args .values))) (sym (read c))
-    (omega
-    (arith, known (now (start .args .s)) (start .pre .0 .checked) (start .args .k) (start .pre .1 .1 .0 .known) (start .pre .1 .1 .1 .0) .1 .0, start .pre .0 .named))
-
--- the expression is one of the script's
-valued-known : (c : tie.After-part-at) → c .part-at .result .b < expressionCount (now (c .before .before .before .before .args .s))
-valued-known c =
-    let start = c .before .before .before .before in
-    subst (λ (p : Part). p .b < expressionCount (now (start .args .s))) (sym (read c))
-    (known (now (start .args .s)) (start .pre .0 .checked) (start .args .k) (start .pre .1 .1 .0 .known) (start .pre .1 .1 .1 .0) .1 .1 .known)
-
-add-part-at : tie.Need-add-part-at
-add-part-at c = search needs
-
-part-at-requires : tie.Need-part-at-requires
-part-at-requires c κs =
+b-at-requires : tie.Need-b-at-requires
+b-at-requires c κs =
     let start = c .before .before .before in
-    (start .pre .0 .laid, omega (arith, start .pre .1 .1 .0 .known, nodes-are (start .pre .0 .laid)))
+    (start .pre .0 .checked, (start .pre .1 .0, (start .pre .1 .1 .0 .known, omega (arith, known (start .args .s .now .now) (start .pre .0 .checked) (start .args .k) (start .pre .1 .1 .0 .known) (start .pre .1 .1 .1 .0) .1 .1 .known, few-expressions (start .pre .0 .checked)))))
 
 value-of-requires : tie.Need-value-of-requires
 value-of-requires c κs =
-    let start = c .before .before .before .before .before in
+    let start = c .before .before .before .before in
     record {
-      script = now (start .args .s);
+      script = start .args .s .now .now;
       checked = start .pre .0 .checked;
       kept = start .pre .1 .0;
       named = start .pre .0 .named;
-      known = valued-known (c .before);
+      known = omega (arith, c .b-at .ensures, known (start .args .s .now .now) (start .pre .0 .checked) (start .args .k) (start .pre .1 .1 .0 .known) (start .pre .1 .1 .1 .0) .1 .1 .known);
     }
 
 mul-v : tie.Need-mul-v
 mul-v c =
-    let start = c .before .before .before .before .before .before in
-    fits-under _ _ 256
-    (omega (arith, in-table ((c .before .before)), start .pre .0 .named, names-are (start .pre .0 .laid), few-bounds (start .args .c) (start .pre .0 .laid .few)))
-    tt
+    let start = c .before .before .before .before .before in
+    fits-under _ _ 256 (omega (arith, c .before .before .before .a-at .ensures, known (start .args .s .now .now) (start .pre .0 .checked) (start .args .k) (start .pre .1 .1 .0 .known) (start .pre .1 .1 .1 .0) .1 .0, few-names (start .pre .0 .checked))) tt
 
 slice-set-from-v : tie.Need-slice-set-from-v
 slice-set-from-v c =
-    in-table ((c .before .before))
+    let start = c .before .before .before .before .before in
+    omega (arith, c .before .before .before .a-at .ensures, known (start .args .s .now .now) (start .pre .0 .checked) (start .args .k) (start .pre .1 .1 .0 .known) (start .pre .1 .1 .1 .0) .1 .0, start .pre .0 .named)
 
 slice-write-state : tie.Need-slice-write-state
 slice-write-state c =
-    some-bytes (c .before .before .before .before .before .before .pre .1 .1 .0)
+    let start = c .before .before .before .before .before in
+    some-bytes (start .pre .1 .1 .0)
 
 same-length : tie.Need-same-length
 same-length c = search needs
@@ -82,18 +53,17 @@ same-length-2 c = search needs
 
 returns : tie.Need-returns
 returns c =
-    let start = c .before .before .before .before .before .before in
-    rw (toZ-ofZ {w = w32} (record { sfits = c .value-of .ok }), c .value-of .ensures (now (start .args .s)) (start .pre .0 .checked) (start .pre .1 .0) (valued-known (c .before .before)), read ((c .before .before)))
-    (let-moves (now (start .args .s)) (start .pre .0 .checked) (start .args .k) (start .pre .1 .1 .0 .known)
-    (now (start .args .state)) (some-bytes (start .pre .1 .1 .0)) (start .pre .1 .1 .1 .1) (now (start .args .values))
-    (start .pre .1 .1 .1 .0))
+    let start = c .before .before .before .before .before in
+    rw (toZ-ofZ {w = w32} (record { sfits = c .value-of .ok }), c .value-of .ensures (start .args .s .now .now) (start .pre .0 .checked) (start .pre .1 .0) (omega (arith, c .before .b-at .ensures, known (start .args .s .now .now) (start .pre .0 .checked) (start .args .k) (start .pre .1 .1 .0 .known) (start .pre .1 .1 .1 .0) .1 .1 .known)), c .before .b-at .ensures, c .before .before .before .a-at .ensures)
+    (let-moves (start .args .s .now .now) (start .pre .0 .checked) (start .args .k) (start .pre .1 .1 .0 .known)
+    (start .args .state .now) (some-bytes (start .pre .1 .1 .0)) (start .pre .1 .1 .1 .1) (start .args .values .now) (start .pre .1 .1 .1 .0))
 
 pub move-let-spec : {M : Type 1} → statement M
 move-let-spec =
     tie.close
     (tie.spec
-    add-part-at
-    part-at-requires
+    a-at-requires
+    b-at-requires
     value-of-requires
     mul-v
     slice-set-from-v

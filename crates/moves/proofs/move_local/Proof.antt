@@ -1,54 +1,31 @@
--- `move_local`: the signal is made absent, and the node's byte says that it is in its body.
-use mathlib.Core.Path.{_≡_, sym, subst}
-use Prim.Native.Nat.{_<_}
+-- `move_local`: the signal is absent, and the node's byte says that it is in its body.
 use native.Mathlib.Omega.{arith}
-use denote.Ref.{now}
-use lib.ListN.{length}
-use Rattle.script.specs.declared.entries.Part.{Part}
-use Rattle.script.specs.Entries.{partOf, node}
-use Rattle.script.proofs.Layouts.{few-bounds, names-are, nodes-are}
-use Rattle.plan.proofs.Reading.{node-read}
 use Rattle.residual.proofs.Residuals.{some-bytes}
-use Rattle.moves.proofs.Movers.{known, local-moves}
-use borrow.Author.Needs.{needs, fits-under}
+use Rattle.moves.proofs.Movers.{known, few-names, local-moves}
+use borrow.Author.Needs.{fits-under}
+use borrow.Author.Needs.{needs}
 use Rattle.moves.proofs.move_local.Statement.{statement}
 use Rattle.moves.proofs.move_local.Tie as tie
 
-add-part-at : tie.Need-add-part-at
-add-part-at c = search needs
-
-part-at-requires : tie.Need-part-at-requires
-part-at-requires c κs =
-    let start = c .before .before .before in
-    (start .pre .0 .laid, omega (arith, start .pre .1 .0 .known, nodes-are (start .pre .0 .laid)))
-
--- the entry that was read
-read :
-    (c : tie.After-part-at) →
-    let start = c .before .before .before .before in
-    c .part-at .result ≡ partOf (now (start .args .s)) (node (now (start .args .s)) (start .args .k))
-read c = let start = c .before .before .before .before in node-read (start .args .k) (start .pre .0 .laid) (c .part-at .ensures)
-
--- the signal is in the table
-in-table : (c : tie.After-part-at) → c .part-at .result .a < length (now (c .before .before .before .before .args .values))
-in-table c =
-    let start = c .before .before .before .before in
-    subst (λ (p : Part). p .a < length (now (start .args .values))) (sym (read c))
-    (omega
-    (arith, known (now (start .args .s)) (start .pre .0 .checked) (start .args .k) (start .pre .1 .0 .known) (start .pre .1 .1 .0) .1, start .pre .0 .named))
+a-at-requires : tie.Need-a-at-requires
+a-at-requires c κs =
+    let start = c .before in
+    (start .pre .0 .checked, (start .pre .1 .0, (start .pre .1 .1 .0 .known, omega (arith, known (start .args .s .now .now) (start .pre .0 .checked) (start .args .k) (start .pre .1 .1 .0 .known) (start .pre .1 .1 .1 .0) .1, few-names (start .pre .0 .checked)))))
 
 mul-values : tie.Need-mul-values
 mul-values c =
-    let start = c .before .before .before .before in
-    fits-under _ _ 256
-    (omega (arith, in-table c, start .pre .0 .named, names-are (start .pre .0 .laid), few-bounds (start .args .c) (start .pre .0 .laid .few)))
-    tt
+    let start = c .before .before in
+    fits-under _ _ 256 (omega (arith, c .a-at .ensures, known (start .args .s .now .now) (start .pre .0 .checked) (start .args .k) (start .pre .1 .1 .0 .known) (start .pre .1 .1 .1 .0) .1, few-names (start .pre .0 .checked))) tt
 
 slice-set-of-values : tie.Need-slice-set-of-values
-slice-set-of-values c = in-table c
+slice-set-of-values c =
+    let start = c .before .before in
+    omega (arith, c .a-at .ensures, known (start .args .s .now .now) (start .pre .0 .checked) (start .args .k) (start .pre .1 .1 .0 .known) (start .pre .1 .1 .1 .0) .1, start .pre .0 .named)
 
 slice-write-state : tie.Need-slice-write-state
-slice-write-state c = some-bytes (c .before .before .before .before .pre .1 .0)
+slice-write-state c =
+    let start = c .before .before in
+    some-bytes (start .pre .1 .1 .0)
 
 same-length : tie.Need-same-length
 same-length c = search needs
@@ -58,18 +35,15 @@ same-length-2 c = search needs
 
 returns : tie.Need-returns
 returns c =
-    let start = c .before .before .before .before in
-    rw (read c)
-    (local-moves (now (start .args .s)) (start .pre .0 .checked) (start .args .k) (start .pre .1 .0 .known)
-    (now (start .args .state)) (some-bytes (start .pre .1 .0)) (start .pre .1 .1 .1) (now (start .args .values))
-    (start .pre .1 .1 .0))
+    let start = c .before .before in
+    rw (c .a-at .ensures) (local-moves (start .args .s .now .now) (start .pre .0 .checked) (start .args .k) (start .pre .1 .1 .0 .known)
+    (start .args .state .now) (some-bytes (start .pre .1 .1 .0)) (start .pre .1 .1 .1 .1) (start .args .values .now) (start .pre .1 .1 .1 .0))
 
 pub move-local-spec : {M : Type 1} → statement M
 move-local-spec =
     tie.close
     (tie.spec
-    add-part-at
-    part-at-requires
+    a-at-requires
     mul-values
     slice-set-of-values
     slice-write-state

@@ -5,35 +5,27 @@ use borrow.Author.Needs.{needs}
 use Rattle.moves.proofs.move_silently.Statement.{statement}
 use Rattle.moves.proofs.move_silently.Tie as tie
 
-move-let-requires : tie.Need-move-let-requires
-move-let-requires c κs =
-    let pre = c .before .before .before .before .before .pre .0 in
+move-while-requires : tie.Need-move-while-requires
+move-while-requires c κs =
+    let pre = c .before .before .before .before .pre .0 in
     (pre .0, (pre .1 .0, (pre .1 .1 .0, (sym (pre .1 .1 .1 .0) ∙ c .before .before .if1 .taken, pre .1 .1 .1 .1))))
 
 move-if-requires : tie.Need-move-if-requires
 move-if-requires c κs =
-    let pre = c .before .before .before .before .before .before .pre .0 in
+    let pre = c .before .before .before .before .before .pre .0 in
     (pre .0, (pre .1 .0, (pre .1 .1 .0, (sym (pre .1 .1 .1 .0) ∙ c .before .before .if2 .taken, pre .1 .1 .1 .1))))
 
-move-while-requires : tie.Need-move-while-requires
-move-while-requires c κs =
-    let pre = c .before .before .before .before .before .before .before .pre .0 in
+move-let-requires : tie.Need-move-let-requires
+move-let-requires c κs =
+    let pre = c .before .before .before .before .before .before .pre .0 in
     (pre .0, (pre .1 .0, (pre .1 .1 .0, (sym (pre .1 .1 .1 .0) ∙ c .before .before .if3 .taken, pre .1 .1 .1 .1))))
 
 move-local-requires : tie.Need-move-local-requires
 move-local-requires c κs =
-    let start = c .before .before .before .before .before .before .before in (
-      start .pre .0 .0,
-      (
-        start .pre .0 .1 .1 .0,
-        (
-          sym (start .pre .0 .1 .1 .1 .0)
-              ∙ ⊎-elim (λ e. absurd (c .before .before .before .before .if1 .left e)) (⊎-elim (λ e. absurd (c .before .before .before .if2 .left e)) (⊎-elim (λ e. absurd (c .before .before .if3 .left e)) (λ e. e)))
-              (start .pre .1),
-          start .pre .0 .1 .1 .1 .1,
-        ),
-      ),
-    )
+    let start = c .before .before .before .before .before .before in
+    let pre = start .pre .0 in
+    let last = ⊎-elim (λ e. absurd (c .before .before .if3 .left e)) (⊎-elim (λ e. absurd (c .before .before .before .if2 .left e)) (⊎-elim (λ e. absurd (c .before .before .before .before .if1 .left e)) (λ e. e))) (start .pre .1) in
+    (pre .0, (pre .1 .0, (pre .1 .1 .0, (sym (pre .1 .1 .1 .0) ∙ last, pre .1 .1 .1 .1))))
 
 same-length : tie.Need-same-length
 same-length c = search needs
@@ -75,9 +67,9 @@ pub move-silently-spec : {M : Type 1} → statement M
 move-silently-spec =
     tie.close
     (tie.spec
-    move-let-requires
-    move-if-requires
     move-while-requires
+    move-if-requires
+    move-let-requires
     move-local-requires
     same-length
     same-length-2

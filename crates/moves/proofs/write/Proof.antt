@@ -27,7 +27,7 @@ note-requires c κs = search needs
 -- what was noted, of the value as it was given
 noted :
     (c : tie.After-note) →
-    let start = c .before .before .before .before .before .before in
+    let start = c .before .before .before .before in
     Notes
     (length (now (start .args .log)) / 4)
     (lineOf (now (start .args .seen)) (start .args .at .steps) (start .args .limits .instant) (start .args .x) (start .args .value))
@@ -36,7 +36,7 @@ noted :
     (c .note .result)
     (c .note .last .1 .0)
 noted c =
-    let start = c .before .before .before .before .before .before in
+    let start = c .before .before .before .before in
     subst
     (λ (v : ℤ).
     Notes
@@ -54,8 +54,8 @@ same-length c = search needs
 
 returns : tie.Need-returns
 returns c =
-    let start = c .before .before .before .before .before .before .before .before .before .before in
-    let at = runningAt (now (start .args .s)) (start .args .k) (now (start .args .state)) (now (start .args .values)) (now (start .args .log)) (start .args .at .steps) (start .args .limits .instant) (start .args .at .lines) in
+    let start = c .before .before .before .before .before .before .before .before in
+    let at = runningAt (now (now (start .args .s))) (start .args .k) (now (start .args .state)) (now (start .args .values)) (now (start .args .log)) (start .args .at .steps) (start .args .limits .instant) (start .args .at .lines) in
     subst
     (λ log. Advances (seenIn (now (start .args .seen))) (start .args .limits .steps) (length (now (start .args .log)) / 4) at (logged at log) isFull)
     (sym (noted (c .before .before .before .before) .full (not-true _ (c .if1 .taken))))
@@ -68,7 +68,7 @@ slice-set-from-value : tie.Need-slice-set-from-value
 slice-set-from-value c = search needs
 
 slice-write-state : tie.Need-slice-write-state
-slice-write-state c = some-bytes (c .before .before .before .before .before .before .before .before .before .before .pre .0)
+slice-write-state c = some-bytes (c .before .before .before .before .before .before .before .before .pre .0)
 
 add-t18 : tie.Need-add-t18
 add-t18 c = search needs
@@ -84,12 +84,12 @@ same-length-4 c = search needs
 
 returns-2 : tie.Need-returns-2
 returns-2 c =
-    let start = c .before .before .before .before .before .before .before .before .before .before .before in
-    let at = runningAt (now (start .args .s)) (start .args .k) (now (start .args .state)) (now (start .args .values)) (now (start .args .log)) (start .args .at .steps) (start .args .limits .instant) (start .args .at .lines) in
+    let start = c .before .before .before .before .before .before .before .before .before in
+    let at = runningAt (now (now (start .args .s))) (start .args .k) (now (start .args .state)) (now (start .args .values)) (now (start .args .log)) (start .args .at .steps) (start .args .limits .instant) (start .args .at .lines) in
     let fits = noted (c .before .before .before .before .before) .fits in
     rw (toZ-ofZ (start .fits .value))
     (writes-line at (start .pre .1 .0) (start .pre .1 .1 .1 .0) (lines-within start) (sym fits ∙ not-false _ (c .before .if1 .left))
-    (nil-at-four (processOf (now (start .args .s)) (start .args .k)) _ (own-set-at (now (start .args .state)) (some-bytes (start .pre .0)) 4))
+    (nil-at-four (processOf (now (now (start .args .s))) (start .args .k)) _ (own-set-at (now (start .args .state)) (some-bytes (start .pre .0)) 4))
     (noted (c .before .before .before .before .before) .written (not-false _ (c .before .if1 .left)))
     (add-one (start .args .at .steps))
     (noted (c .before .before .before .before .before) .lines (not-false _ (c .before .if1 .left))))

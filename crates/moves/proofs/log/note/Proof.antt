@@ -15,8 +15,8 @@ use borrow.Author.Needs.{needs}
 use Rattle.moves.proofs.log.note.Statement.{statement}
 use Rattle.moves.proofs.log.note.Tie as tie
 
-shared-slice-read-if1 : tie.Need-shared-slice-read-if1
-shared-slice-read-if1 c = search needs
+element-copy-out-if1 : tie.Need-element-copy-out-if1
+element-copy-out-if1 c = search needs
 
 returns : tie.Need-returns
 returns c =
@@ -51,8 +51,8 @@ cast-put-line c = search needs
 put-line-requires : tie.Need-put-line-requires
 put-line-requires c κs = search needs
 
-add-t13 : tie.Need-add-t13
-add-t13 c = search needs
+add-t14 : tie.Need-add-t14
+add-t14 c = search needs
 
 same-length : tie.Need-same-length
 same-length c = search needs
@@ -67,7 +67,7 @@ put log n steps instant x w f e q =
 
 returns-3 : tie.Need-returns-3
 returns-3 c =
-    let start = c .before .before .before .before .before .before .before .before .before .before in
+    let start = c .before .before .before .before .before .before .before .before .before in
     rw (eq-eqb _ _ (c .before .before .before .before .before .before .if1 .left)) (record {
       fits = sym (lt-ltb _ _ (c .before .before .before .before .before .if2 .left));
       written =
@@ -84,7 +84,7 @@ pub note-spec : {M : Type 1} → statement M
 note-spec =
     tie.close
     (tie.spec
-    shared-slice-read-if1
+    element-copy-out-if1
     returns
     returns-2
     word-of-requires
@@ -92,6 +92,6 @@ note-spec =
     add-put-line
     cast-put-line
     put-line-requires
-    add-t13
+    add-t14
     same-length
     returns-3)
