@@ -17,7 +17,7 @@ ghost use Rattle.residual.specs.Nodes.{Valued, At, left};
 ghost use Rattle.instants.specs.Contracts.{isPresentSignal, someSignalPresent};
 
 // The instant change of node k, which goes into what is in front and reads the signals of the instant that ends.
-pub fn change_instant(
+fn change_instant(
     s: &&[u8],
     plan: &[usize; Script::MAX_PARTS],
     values: &[i32],
@@ -79,7 +79,7 @@ pub fn some_signal_present(s: &[u8], c: Script, values: &[i32]) -> bool
 }
 
 // Every signal is absent.
-pub fn clear_signals(s: &[u8], c: Script, values: &mut [i32])
+fn clear_signals(s: &[u8], c: Script, values: &mut [i32])
     requires { ⌜ Laid (now s) c × Valued (now s) (now values) ⌝ }
     ensures { λ _. ⌜ now (values .exit) ≡ instantStart (namesOf (now (s .entry))) (now (values .entry)) ⌝ }
 {
@@ -92,6 +92,22 @@ pub fn clear_signals(s: &[u8], c: Script, values: &mut [i32])
         }
         x += 1;
     }
+}
+
+// The instant ends: what is left of node k changes, by the signals of the instant that ends, and the next one begins.
+pub fn begin_instant(
+    s: &[u8],
+    c: Script,
+    plan: &[usize; Script::MAX_PARTS],
+    values: &mut [i32],
+    state: &mut [u8],
+    k: usize,
+)
+    requires { ⌜ Laid (now s) c × (Valued (now s) (now values) × (KeepsPlan (now s) (now plan) × At (now s) k (now state))) ⌝ }
+    ensures { λ _. ⌜ (left (now (s .entry)) k (now (state .exit)) ≡ change (left (now (s .entry)) k (now (state .entry))) (now (values .entry))) × (now (values .exit) ≡ instantStart (namesOf (now (s .entry))) (now (values .entry))) ⌝ }
+{
+    change_instant(&s, plan, values, state, k);
+    clear_signals(s, c, values);
 }
 
 // Every owned name is 0.

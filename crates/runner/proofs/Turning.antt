@@ -13,8 +13,6 @@ use lib.IntN.{ℤ}
 use lib.ListN.{length}
 use Rattle.language.specs.Syntax.{Proc, isNil}
 use Rattle.language.specs.Steps.{present, suspended}
-use Rattle.script.specs.declared.layout.Script.{Script}
-use Rattle.script.specs.Layout.{layoutOf}
 use Rattle.plan.specs.declared.forms.Front.{Front}
 use Rattle.residual.specs.Residual.{own}
 use Rattle.plan.specs.Forms.{mover, guarded, frontOf, partIn}
@@ -26,10 +24,6 @@ use Rattle.runner.specs.Contracts.{Rests, Settles, restsOn, atLimit, mak
 use Rattle.moves.proofs.Framing.{joined, open-path, lift, ends-around}
 use Rattle.moves.proofs.Advancing.{ended, again}
 use Rattle.residual.proofs.Sights.{signalAt, Inside, Sight, sees-gone, sees-mover, sees-alone, sees-before, sees-watched, sees-guarded, sees-beside, own-put, length-put, part-put}
-
--- a checked script is laid out as it says
-pub relaid : {s : List ℕ} {c : Script} {values : List ℤ} → Valued s c values → Valued s (layoutOf s) values
-relaid v = record { laid = v .checked .laid; checked = v .checked; named = v .named }
 
 module _ {seen : ℕ → Bool} {limit room : ℕ} {at : Running ℕ} {why : ℕ} where
   ended-gone : Ends seen limit room at why → why ≡ isGone → isNil (at .process) ≡ true
@@ -160,8 +154,8 @@ module _ {seen : ℕ → Bool} {limit : ℕ} {at to : Running ℕ} {st₀ st : L
   pub counted : limit ≤ mostSteps → Counted limit (to .log) (to .steps) (to .lines)
   counted m = record { time = u .time; most = m; space = omega (arith, u .space, u .logged) }
 
-  pub valued : {s : List ℕ} {c : Script} → Valued s c (at .values) → Valued s c (to .values)
-  valued v = record { laid = v .laid; checked = v .checked; named = u .named ∙ v .named }
+  pub valued : {s : List ℕ} → Valued s (at .values) → Valued s (to .values)
+  valued v = record { checked = v .checked; named = u .named ∙ v .named }
 
   pub at-node : {s : List ℕ} {k : ℕ} → At s k st₀ → At s k st
   at-node a = record { known = a .known; whole = u .bytes ∙ a .whole }

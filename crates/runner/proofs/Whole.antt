@@ -12,7 +12,6 @@ use Rattle.language.specs.Steps.{suspended, change, instantStart}
 use Rattle.language.specs.Calls.{Ending, finished, logFull, givenBack}
 use Rattle.language.specs.Calls as calls
 use Rattle.script.specs.Layout.{nodeCount}
-use Rattle.script.specs.declared.layout.Script.{Script}
 use Rattle.script.specs.Checked.{Checked}
 use Rattle.script.specs.Tree.{tree}
 use Rattle.script.proofs.NodeSizes.{whole-size}
@@ -21,7 +20,7 @@ use Rattle.moves.specs.Moves.{Running, isSuspended, Ends, gone, waits, spent, f
 use Rattle.runner.specs.Outcome.{outcome, stopped}
 use Rattle.moves.specs.Contracts.{mostSteps, Counted, Advances}
 use Rattle.residual.specs.Nodes.{Valued, left}
-use Rattle.runner.specs.Contracts.{endingNumber, endingOf, Gives}
+use Rattle.runner.specs.Contracts.{endingNumber, endingOf, ranTo, Gives}
 use Rattle.moves.proofs.Framing.{waits-some}
 use Rattle.residual.proofs.Residuals.{zeros}
 use Rattle.runner.proofs.Idling.{outcome-idle}
@@ -43,8 +42,8 @@ module _ (names : Names ℕ) (seen : ℕ → Bool) (limit : ℕ) where
     pub counted : limit ≤ mostSteps → Counted limit (at .log) (at .steps) (at .lines)
     counted m = record { time = u .time; most = m; space = omega (arith, u .space, u .logged) }
 
-    pub valued : {s : List ℕ} {c : Script} → Valued s c (begun .values) → Valued s c (at .values)
-    valued v = record { laid = v .laid; checked = v .checked; named = u .named ∙ v .named }
+    pub valued : {s : List ℕ} → Valued s (begun .values) → Valued s (at .values)
+    valued v = record { checked = v .checked; named = u .named ∙ v .named }
 
     -- after moves
     pub comes-on :
@@ -132,12 +131,12 @@ module _ (names : Names ℕ) (seen : ℕ → Bool) (limit : ℕ) where
 
   pub gives :
       (begun : Running ℕ) {at : Running ℕ} {room why : ℕ} {r : Ran} {vs : List ℤ} → Stops at room why →
-      outcome names seen limit room at ≡ outcome names seen limit room begun → r .ending ≡ endingOf why →
-      r .steps ≡ at .steps → r .instants ≡ at .instants → r .lines ≡ at .lines → vs ≡ givenBack names (at .values) →
+      outcome names seen limit room at ≡ outcome names seen limit room begun →
+      r ≡ ranTo why (at .steps) (at .instants) (at .lines) → vs ≡ givenBack names (at .values) →
       Gives (outcome names seen limit room begun) r vs (at .log)
-  gives begun {at} {room} {why} {r} {vs} t e a b c d v =
+  gives begun {at} {room} {why} {r} {vs} t e a v =
       subst (λ o. Gives o r vs (at .log)) (sym (t .is) ∙ e)
-      (record { ending = a ∙ t .number; steps = b; instants = c; lines = d; final = v; logged = refl })
+      (rw a (record { ending = t .number; steps = refl; instants = refl; lines = refl; final = v; logged = refl }))
 
 -- cleared bytes: the script as it is written
 pub fresh :

@@ -1,31 +1,24 @@
 -- What the functions of the runner ask for and promise.
 use mathlib.Core.Path.{_≡_}
-use mathlib.Core.Bool.{Bool, true, false, cond, _&&_, _||_}
+use mathlib.Core.Bool.{Bool, true, cond, _||_}
 use mathlib.Core.Logic.{_⊎_}
-use mathlib.Core.Option.{Option, none, some}
-use mathlib.Core.List.{List, [], _∷_}
-use Prim.Native.Nat.{ℕ, suc, _-_, _*_, _≤_, _<_}
+use mathlib.Core.List.{List}
+use Prim.Native.Nat.{ℕ, suc, _-_, _≤_, _<_}
 use lib.Dec.{eqb}
 use lib.IntN.{ℤ}
-use lib.ListN.{getD, set, length}
-use mir.Syntax.{w32}
-use mir.Val.{toZ}
-use Rattle.prelude.specs.Search.{any}
-use Rattle.language.specs.Syntax.{Names, Operator, add, subtract, multiply, divide, less, equal, Proc, nil, isNil}
-use Rattle.language.specs.Steps.{held, present, value, apply, suspended, move}
-use Rattle.language.specs.Calls.{Line, System, Ending, finished, spent, logFull, lineFor, calledFor}
-use Rattle.script.specs.declared.layout.Script.{Script}
-use Rattle.script.specs.Layout.{nameCount, expressionCount, nodeCount, Laid}
+use lib.ListN.{length}
+use Rattle.language.specs.Syntax.{Proc, isNil}
+use Rattle.language.specs.Steps.{present, suspended}
+use Rattle.language.specs.Calls.{Ending, finished, spent, logFull}
 use Rattle.script.specs.Entries.{partOf, node}
-use Rattle.script.specs.Tree.{expressionOf, processOf, tree, size}
-use Rattle.script.specs.Checked.{Checked}
+use Rattle.script.specs.Tree.{tree}
 use Rattle.plan.specs.declared.forms.Front.{Front}
-use Rattle.moves.specs.declared.log.Noted.{Noted}
+use Rattle.plan.specs.Forms.{mover, before, watched, guarded, frontOf, partIn}
+use Rattle.residual.specs.Residual.{own}
+use Rattle.residual.specs.Nodes.{left}
+use Rattle.moves.specs.Moves.{Running, Live, Silent, isGone, isSuspended, isSpent, isFull}
+use Rattle.moves.specs.Contracts.{Advances}
 use Rattle.runner.specs.declared.Ran.{Ran}
-use Rattle.residual.specs.Residual.{own, residual}
-use Rattle.plan.specs.Forms.{mover, before, watched, guarded, beside, frontOf, partIn}
-use Rattle.plan.specs.Plan.{kindIn, constantIn, operandIn, KeepsPlan}
-use Rattle.moves.specs.Moves.{Running, logAfter, linesAfter, hasRoom, Live, Silent, isGone, isSuspended, isSpent, isFull, Path, Ends}
 use Rattle.runner.specs.Outcome.{Outcome}
 
 -- a node is to be gone into
@@ -89,6 +82,11 @@ endingNumber logFull = 2
 -- the number of the ending of a script that made no further move for this reason
 abbrev pub endingOf : ℕ → ℕ
 endingOf why = cond (eqb why isGone) 0 (cond (eqb why isFull) 2 1)
+
+-- what a run returns that made no further move for this reason, with these counts
+abbrev pub ranTo : ℕ → ℕ → ℕ → ℕ → Ran
+ranTo why steps instants lines =
+    record { ending = endingOf why; steps = steps; instants = instants; lines = lines }
 
 -- what a run leaves is this outcome
 pub record Gives (o : Outcome) (r : Ran) (values : List ℤ) (log : List ℕ) : Type 0 where

@@ -10,7 +10,6 @@ use script::layout::Script;
 ghost use mathlib.Core.Path.{_≡_};
 ghost use Prim.Native.Nat.{_/_, _≤_, _<_};
 ghost use lib.ListN.{length};
-ghost use Rattle.script.specs.Layout.{layoutOf};
 ghost use Rattle.residual.specs.Residual.{own};
 ghost use Rattle.plan.specs.Forms.{frontOf};
 ghost use Rattle.plan.specs.Plan.{KeepsPlan};
@@ -29,10 +28,9 @@ pub struct Entered {
 
 // Node k makes its own move, if that is next.
 fn enter(
-    s: &[u8],
-    c: Script,
+    s: &&[u8],
     plan: &[usize; Script::MAX_PARTS],
-    seen: &[u8],
+    seen: &[u8; Script::MAX_NAMES],
     values: &mut [i32],
     state: &mut [u8],
     log: &mut [u32],
@@ -40,8 +38,8 @@ fn enter(
     at: Counts,
     k: usize,
 ) -> Entered
-    requires { ⌜ Valued (now s) c (now values) × (KeepsPlan (now s) (now plan) × (At (now s) k (now state) × (Counted (limits .steps) (now log) (at .steps) (at .lines) × (length (now values) ≤ length (now seen))))) ⌝ }
-    ensures { λ r. ⌜ Enters (seenIn (now (seen .entry))) (limits .steps) (length (now (log .entry)) / 4) (now (s .entry)) k (now (state .entry)) (now (state .exit)) (runningAt (now (s .entry)) k (now (state .entry)) (now (values .entry)) (now (log .entry)) (at .steps) (limits .instant) (at .lines)) (runningAt (now (s .entry)) k (now (state .exit)) (now (values .exit)) (now (log .exit)) (r .at .steps) (limits .instant) (r .at .lines)) (r .why) (r .front) ⌝ }
+    requires { ⌜ Valued (now (now s)) (now values) × (KeepsPlan (now (now s)) (now plan) × (At (now (now s)) k (now state) × Counted (limits .steps) (now log) (at .steps) (at .lines))) ⌝ }
+    ensures { λ r. ⌜ Enters (seenIn (now (seen .entry))) (limits .steps) (length (now (log .entry)) / 4) (now (now (s .entry))) k (now (state .entry)) (now (state .exit)) (runningAt (now (now (s .entry))) k (now (state .entry)) (now (values .entry)) (now (log .entry)) (at .steps) (limits .instant) (at .lines)) (runningAt (now (now (s .entry))) k (now (state .exit)) (now (values .exit)) (now (log .exit)) (r .at .steps) (limits .instant) (r .at .lines)) (r .why) (r .front) ⌝ }
 {
     let f = forms::find_front(s, plan, k, state[0], state.len());
     if f.form == forms::GONE {
@@ -52,7 +50,7 @@ fn enter(
         };
     }
     if f.form == forms::MOVER {
-        let done = moves::move_own(s, c, plan, seen, values, state, log, limits, at, k);
+        let done = moves::move_own(s, plan, seen, values, state, log, limits, at, k);
         let next = done.at;
         return Entered {
             why: done.why,
@@ -91,7 +89,7 @@ fn byte_after(form: u8, why: u8, tag: u8) -> u8
 
 // The part in front of node k rests: it is nil, or it is suspended.
 fn leave(
-    s: &[u8],
+    s: &&[u8],
     plan: &[usize; Script::MAX_PARTS],
     values: &[i32],
     state: &mut [u8],
@@ -101,9 +99,9 @@ fn leave(
     f: Front,
     why: u8,
 ) -> Done
-    requires { ⌜ Valued (now s) (layoutOf (now s)) (now values) × (KeepsPlan (now s) (now plan) × (At (now s) k (now state) × ((at .steps ≤ limits .steps) × (limits .steps ≤ mostSteps)))) ⌝ }
-    requires { ⌜ (f ≡ frontOf (now s) k (own (now state)) (length (now state))) × Rests (now s) k (now state) (now values) f why ⌝ }
-    ensures { λ r. ⌜ Settles (limits .steps) (left (now (s .entry)) k (now (state .entry))) (now (values .entry)) (left (now (s .entry)) k (now (state .exit))) (at .steps) (at .lines) why (r .why) (r .at .steps) (r .at .lines) ⌝ }
+    requires { ⌜ Valued (now (now s)) (now values) × (KeepsPlan (now (now s)) (now plan) × (At (now (now s)) k (now state) × ((at .steps ≤ limits .steps) × (limits .steps ≤ mostSteps)))) ⌝ }
+    requires { ⌜ (f ≡ frontOf (now (now s)) k (own (now state)) (length (now state))) × Rests (now (now s)) k (now state) (now values) f why ⌝ }
+    ensures { λ r. ⌜ Settles (limits .steps) (left (now (now (s .entry))) k (now (state .entry))) (now (values .entry)) (left (now (now (s .entry))) k (now (state .exit))) (at .steps) (at .lines) why (r .why) (r .at .steps) (r .at .lines) ⌝ }
 {
     let form = f.form;
     if form < forms::BEFORE {
@@ -130,10 +128,9 @@ fn leave(
 
 // Runs node k as far as it goes within the instant.
 pub fn advance(
-    s: &[u8],
-    c: Script,
+    s: &&[u8],
     plan: &[usize; Script::MAX_PARTS],
-    seen: &[u8],
+    seen: &[u8; Script::MAX_NAMES],
     values: &mut [i32],
     state: &mut [u8],
     log: &mut [u32],
@@ -141,12 +138,12 @@ pub fn advance(
     at: Counts,
     k: usize,
 ) -> Done
-    requires { ⌜ Valued (now s) c (now values) × (KeepsPlan (now s) (now plan) × (At (now s) k (now state) × (Counted (limits .steps) (now log) (at .steps) (at .lines) × (length (now values) ≤ length (now seen))))) ⌝ }
-    ensures { λ r. ⌜ Advances (seenIn (now (seen .entry))) (limits .steps) (length (now (log .entry)) / 4) (runningAt (now (s .entry)) k (now (state .entry)) (now (values .entry)) (now (log .entry)) (at .steps) (limits .instant) (at .lines)) (runningAt (now (s .entry)) k (now (state .exit)) (now (values .exit)) (now (log .exit)) (r .at .steps) (limits .instant) (r .at .lines)) (r .why) × (0 < r .why) ⌝ }
+    requires { ⌜ Valued (now (now s)) (now values) × (KeepsPlan (now (now s)) (now plan) × (At (now (now s)) k (now state) × Counted (limits .steps) (now log) (at .steps) (at .lines))) ⌝ }
+    ensures { λ r. ⌜ Advances (seenIn (now (seen .entry))) (limits .steps) (length (now (log .entry)) / 4) (runningAt (now (now (s .entry))) k (now (state .entry)) (now (values .entry)) (now (log .entry)) (at .steps) (limits .instant) (at .lines)) (runningAt (now (now (s .entry))) k (now (state .exit)) (now (values .exit)) (now (log .exit)) (r .at .steps) (limits .instant) (r .at .lines)) (r .why) × (0 < r .why) ⌝ }
 {
     let mut now = at;
     loop {
-        let e = enter(s, c, plan, seen, values, state, log, limits, now, k);
+        let e = enter(s, plan, seen, values, state, log, limits, now, k);
         let why = e.why;
         let entered = e.at;
         if why == INTO {
@@ -156,7 +153,6 @@ pub fn advance(
             let part = &mut state[from..to];
             let r = advance(
                 s,
-                c,
                 plan,
                 seen,
                 values,

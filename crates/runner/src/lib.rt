@@ -7,13 +7,14 @@ use script::layout::Script;
 ghost use mathlib.Core.Path.{_≡_};
 ghost use Prim.Native.Nat.{_/_, _≤_};
 ghost use lib.ListN.{length, replicate};
-ghost use Rattle.script.specs.Layout.{nodeCount};
+ghost use Rattle.language.specs.Calls.{givenBack};
+ghost use Rattle.script.specs.Layout.{nodeCount, Laid};
 ghost use Rattle.script.specs.Tree.{namesOf};
 ghost use Rattle.runner.specs.Outcome.{outcome};
 ghost use Rattle.plan.specs.Plan.{KeepsPlan};
 ghost use Rattle.moves.specs.Contracts.{mostSteps, seenIn};
 ghost use Rattle.residual.specs.Nodes.{Valued};
-ghost use Rattle.runner.specs.Contracts.{starting, endingOf, Gives};
+ghost use Rattle.runner.specs.Contracts.{starting, endingOf, ranTo, Gives};
 
 // How a run ended, and what it counted.
 pub struct Ran {
@@ -36,18 +37,40 @@ fn ending_of(why: u8) -> u32
     1
 }
 
+// A run stops here: owned names are 0.
+fn stop(
+    s: &[u8],
+    c: Script,
+    values: &mut [i32],
+    why: u8,
+    steps: u32,
+    instants: u32,
+    lines: usize,
+) -> Ran
+    requires { ⌜ Laid (now s) c × Valued (now s) (now values) ⌝ }
+    ensures { λ r. ⌜ (r ≡ ranTo why steps instants lines) × (now (values .exit) ≡ givenBack (namesOf (now (s .entry))) (now (values .entry))) ⌝ }
+{
+    instants::clear_owned(s, c, values);
+    Ran {
+        ending: ending_of(why),
+        steps,
+        instants,
+        lines,
+    }
+}
+
 // Runs a script. `state` has a byte for each node and is clear; `seen` has 1 for each name that the reader sees.
 pub fn run(
     s: &[u8],
     c: Script,
     plan: &[usize; Script::MAX_PARTS],
-    seen: &[u8],
+    seen: &[u8; Script::MAX_NAMES],
     values: &mut [i32],
     state: &mut [u8],
     log: &mut [u32],
     limit: u32,
 ) -> Ran
-    requires { ⌜ Valued (now s) c (now values) × (KeepsPlan (now s) (now plan) × ((now state ≡ replicate (nodeCount (now s)) 0) × ((length (now values) ≤ length (now seen)) × (limit ≤ mostSteps)))) ⌝ }
+    requires { ⌜ Laid (now s) c × (Valued (now s) (now values) × (KeepsPlan (now s) (now plan) × ((now state ≡ replicate (nodeCount (now s)) 0) × (limit ≤ mostSteps)))) ⌝ }
     ensures { λ r. ⌜ Gives (outcome (namesOf (now (s .entry))) (seenIn (now (seen .entry))) limit (length (now (log .entry)) / 4) (starting (now (s .entry)) (now (values .entry)) (now (log .entry)))) r (now (values .exit)) (now (log .exit)) ⌝ }
 {
     let k = c.nodes - 1;
@@ -58,31 +81,20 @@ pub fn run(
             steps: limit,
             instant,
         };
-        let r = advance::advance(s, c, plan, seen, values, state, log, limits, at, k);
-        if r.why != moves::SUSPENDED || limit <= r.at.steps {
-            instants::clear_owned(s, c, values);
-            return Ran {
-                ending: ending_of(r.why),
-                steps: r.at.steps,
-                instants: instant,
-                lines: r.at.lines,
-            };
+        let r = advance::advance(&s, plan, seen, values, state, log, limits, at, k);
+        let steps = r.at.steps;
+        let lines = r.at.lines;
+        if r.why != moves::SUSPENDED || limit <= steps {
+            return stop(s, c, values, r.why, steps, instant, lines);
         }
         if !instants::some_signal_present(s, c, values) {
             // Nothing can change from here on: each step that is left is an instant change.
-            instants::clear_owned(s, c, values);
-            return Ran {
-                ending: ending_of(r.why),
-                steps: limit,
-                instants: instant + (limit - r.at.steps),
-                lines: r.at.lines,
-            };
+            return stop(s, c, values, r.why, limit, instant + (limit - steps), lines);
         }
-        instants::change_instant(s, plan, values, state, k);
-        instants::clear_signals(s, c, values);
+        instants::begin_instant(s, c, plan, values, state, k);
         at = Counts {
-            steps: r.at.steps + 1,
-            lines: r.at.lines,
+            steps: steps + 1,
+            lines,
         };
         instant += 1;
     }

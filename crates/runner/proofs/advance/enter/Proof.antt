@@ -19,10 +19,10 @@ use Rattle.runner.proofs.advance.enter.Tie as tie
 -- what is found of the node
 found :
     (c : tie.After-find-front) →
-    let start = c .before .before .before .before .before .before in
-    Found (now (start .args .s)) (start .args .c) (now (start .args .values)) (start .args .k) (now (start .args .state)) (c .find-front .result)
+    let start = c .before .before .before .before in
+    Found (now (now (start .args .s))) (now (start .args .values)) (start .args .k) (now (start .args .state)) (c .find-front .result)
 found c =
-    let start = c .before .before .before .before .before .before in
+    let start = c .before .before .before .before in
     record { valued = start .pre .0; at = start .pre .1 .1 .0; front = c .find-front .ensures }
 
 two-or-more : (n : ℕ) → (n ≡ 0 → ⊥) → (n ≡ mover → ⊥) → mover < n
@@ -30,7 +30,7 @@ two-or-more n a b = omega (arith, a, b)
 
 slice-read-find-front : tie.Need-slice-read-find-front
 slice-read-find-front c =
-    let start = c .before .before .before .before .before in
+    let start = c .before .before .before in
     some-bytes (start .pre .1 .1 .0)
 
 find-front-requires : tie.Need-find-front-requires
@@ -38,14 +38,14 @@ find-front-requires c κs = search needs
 
 returns : tie.Need-returns
 returns c =
-    let start = c .before .before .before .before .before .before .before .before in
-    ends-here (λ e. absurd (omega (arith, e))) (ended (start .pre .1 .1 .1 .0 .time) (omega (arith, start .pre .1 .1 .1 .0 .space)) (λ z. absurd (omega (arith, z)))
+    let start = c .before .before .before .before .before .before in
+    ends-here (λ e. absurd (omega (arith, e))) (ended (start .pre .1 .1 .1 .time) (omega (arith, start .pre .1 .1 .1 .space)) (λ z. absurd (omega (arith, z)))
     (gone refl (nil-seen (sees (found (c .before .before))) (c .if1 .taken))))
 
 move-own-requires : tie.Need-move-own-requires
 move-own-requires c κs =
-    let start = c .before .before .before .before .before .before .before .before .before .before .before .before .before in
-    (start .pre .0, (start .pre .1 .0, (start .pre .1 .1 .0, (start .pre .1 .1 .1 .0, (start .pre .1 .1 .1 .1, ap (λ (f : Front). f .form) (sym (c .before .before .before .before .before .before .before .find-front .ensures)) ∙ c .before .before .before .if2 .taken)))))
+    let start = c .before .before .before .before .before .before .before .before .before .before .before in
+    (start .pre .0, (start .pre .1 .0, (start .pre .1 .1 .0, (start .pre .1 .1 .1, ap (λ (f : Front). f .form) (sym (c .before .before .before .before .before .before .before .find-front .ensures)) ∙ c .before .before .before .if2 .taken))))
 
 same-length : tie.Need-same-length
 same-length c = search needs
@@ -62,13 +62,13 @@ returns-2 c =
 
 signal-is-present-requires : tie.Need-signal-is-present-requires
 signal-is-present-requires c κs =
-    let start = c .before .before .before .before .before .before .before .before .before .before .before .before .before in (
+    let start = c .before .before .before .before .before .before .before .before .before .before .before in (
       start .pre .0 .checked,
       (
         start .pre .1 .0,
         (
           start .pre .1 .1 .0 .known,
-          signal-known (found (c .before .before .before .before .before .before .before)) (omega (arith, c .before .if3 .taken)) (omega (arith, c .before .if3 .taken)),
+          (start .pre .0 .named, signal-known (found (c .before .before .before .before .before .before .before)) (omega (arith, c .before .if3 .taken)) (omega (arith, c .before .if3 .taken))),
         ),
       ),
     )
@@ -78,14 +78,14 @@ same-length-4 c = search needs
 
 returns-3 : tie.Need-returns-3
 returns-3 c =
-    let start = c .before .before .before .before .before .before .before .before .before .before .before .before .before .before .before in
+    let start = c .before .before .before .before .before .before .before .before .before .before .before .before .before in
     ends-here (λ e. absurd (omega (arith, e)))
-    (ended (start .pre .1 .1 .1 .0 .time) (omega (arith, start .pre .1 .1 .1 .0 .space)) (λ z. absurd (omega (arith, z)))
+    (ended (start .pre .1 .1 .1 .time) (omega (arith, start .pre .1 .1 .1 .space)) (λ z. absurd (omega (arith, z)))
     (waits refl (shuts (found (c .before .before .before .before .before .before .before .before .before)) (c .before .before .before .if3 .taken) (sym (c .before .signal-is-present .ensures) ∙ not-true _ (c .if4 .taken)) .waits)))
 
 returns-4 : tie.Need-returns-4
 returns-4 c =
-    let start = c .before .before .before .before .before .before .before .before .before .before .before .before in
+    let start = c .before .before .before .before .before .before .before .before .before .before in
     let f = c .before .before .before .before .before .before .find-front .result in
     goes-in refl refl refl (c .before .before .before .before .before .before .find-front .ensures) (two-or-more (f .form) (c .before .before .before .before .if1 .left) (c .before .before .if2 .left))
     (λ e.
