@@ -18,7 +18,8 @@ use Rattle.script.specs.Checked.{Checked}
 use Rattle.script.specs.Tree.{namesOf, tree}
 use Rattle.runner.specs.declared.Ran.{Ran}
 use Rattle.runner.specs.Outcome.{outcome, recorded}
-use Rattle.runner.specs.Contracts.{seenIn, starting, Gives}
+use Rattle.moves.specs.Contracts.{seenIn}
+use Rattle.runner.specs.Contracts.{starting, Gives}
 use Rattle.runner.proofs.Outcomes.{written-is}
 use Rattle.engine.specs.declared.Report.{Report}
 use Rattle.engine.specs.Refusals.{checkRefusal, callRefusal, runRefusal}

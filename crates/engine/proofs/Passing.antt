@@ -28,7 +28,7 @@ use Rattle.script.specs.Tree.{namesOf, tree}
 use Rattle.script.proofs.Theorems.{accepted-exactly}
 use Rattle.flow.specs.Flow.{firstFailing}
 use Rattle.flow.proofs.Theorems.{needs-everywhere}
-use Rattle.runner.specs.Contracts.{mostSteps}
+use Rattle.moves.specs.Contracts.{mostSteps}
 use Rattle.engine.specs.Refusals.{orElse, flowRefusal, checkRefusal, valueIsRight, firstWrong, valuesRefusal, callRefusal, runRefusal}
 
 -- a row of the table passes where no fault is found, and where what it tests is right

@@ -14,7 +14,7 @@ use Rattle.script.specs.Layout.{nameCount, layoutOf}
 use Rattle.script.specs.Entries.{nameOf}
 use Rattle.script.specs.Load.{noScript}
 use Rattle.script.specs.Tree.{namesOf, tree}
-use Rattle.runner.specs.Contracts.{seenIn}
+use Rattle.moves.specs.Contracts.{seenIn}
 use Rattle.engine.specs.declared.prepare.Prepared.{Prepared}
 use Rattle.engine.specs.Refusals.{checkRefusal}
 

@@ -18,7 +18,7 @@ use Rattle.script.specs.Layout.{nameCount, nodeCount}
 use Rattle.script.specs.Refusals as scripts
 use Rattle.script.specs.Tree.{namesOf}
 use Rattle.flow.specs.Flow.{firstFailing}
-use Rattle.runner.specs.Contracts.{mostSteps}
+use Rattle.moves.specs.Contracts.{mostSteps}
 
 -- the first refusal, if there is one
 abbrev pub orElse : Refusal → Refusal → Refusal

@@ -76,7 +76,7 @@ pub fn run(
     if refusal.number != 0 {
         return refused(refusal);
     }
-    let plan = runner::plan::find_plan(script, c);
+    let plan = plan::find_plan(script, c);
     let seen = values::find_seen(script, c, b, reader as usize);
     let mut state = [0u8; Script::MAX_NODES];
     let n = c.nodes;

@@ -21,8 +21,8 @@ use Rattle.script.specs.Entries.{nameOf}
 use Rattle.script.specs.Tree.{namesOf}
 use Rattle.script.proofs.Layouts.{few-bounds, names-are, nodes-are}
 use Rattle.script.proofs.Theorems.{accepted-exactly}
-use Rattle.runner.specs.Contracts.{seenIn}
-use Rattle.runner.proofs.Residuals.{take-zeros}
+use Rattle.moves.specs.Contracts.{seenIn}
+use Rattle.residual.proofs.Residuals.{take-zeros}
 use Rattle.script.specs.Checked.{Checked, Levelled}
 use Rattle.engine.specs.Refusals.{checkRefusal, callRefusal, runRefusal}
 use Rattle.engine.specs.Answers.{Left}
@@ -60,15 +60,15 @@ call-is :
     c .call-refusal .result ≡ runRefusal (now (start .args .book)) (now (start .args .script)) (start .args .reader) (now (start .args .values)) (start .args .limit)
 call-is c =
     let start = c .before .before .before .before .before .before .before .before .before .before in
-    by-call (now (start .args .book)) (now (start .args .script)) (start .args .reader) (now (start .args .values)) (start .args .limit) (now (start .args .log)) (prepared ((c .before .before .before .before)))
+    by-call (now (start .args .book)) (now (start .args .script)) (start .args .reader) (now (start .args .values)) (start .args .limit) (now (start .args .log)) (prepared (c .before .before .before .before))
     (c .call-refusal .ensures
-    ∙ ap (λ (b : Book). callRefusal (b .count) (now (start .args .script)) (start .args .reader) (now (start .args .values)) (start .args .limit)) (book-is ((c .before .before .before .before))))
+    ∙ ap (λ (b : Book). callRefusal (b .count) (now (start .args .script)) (start .args .reader) (now (start .args .values)) (start .args .limit)) (book-is (c .before .before .before .before)))
 
 passed :
     (c : tie.Else2) →
     let start = c .before .before .before .before .before .before .before .before .before .before .before .before in
     passes (runRefusal (now (start .args .book)) (now (start .args .script)) (start .args .reader) (now (start .args .values)) (start .args .limit)) ≡ true
-passed c = ap passes (sym (call-is ((c .before .before)))) ∙ eq-eqb _ 0 (c .if2 .left)
+passed c = ap passes (sym (call-is (c .before .before))) ∙ eq-eqb _ 0 (c .if2 .left)
 
 -- what the reader sees
 agrees :
@@ -81,9 +81,9 @@ agrees c x h =
     let start = c .before .before .before .before .before .before .before .before .before .before .before .before .before .before in
     let s = now (start .args .script) in
     c .find-seen .ensures x h
-    ∙ ap (λ (b : Book). atOrBelow (b .rows) (nameOf s x .level) (start .args .reader)) (book-is ((c .before .before .before .before .before .before .before .before)))
-    ∙ order-at (now (start .args .book)) (nameOf s x .level) (start .args .reader) (checked-file ((c .before .before .before .before .before .before .before .before)) .1 x h)
-    (run-bounds (now (start .args .book)) (now (start .args .script)) (start .args .reader) (now (start .args .values)) (start .args .limit) (passed ((c .before .before))) .0)
+    ∙ ap (λ (b : Book). atOrBelow (b .rows) (nameOf s x .level) (start .args .reader)) (book-is (c .before .before .before .before .before .before .before .before))
+    ∙ order-at (now (start .args .book)) (nameOf s x .level) (start .args .reader) (checked-file (c .before .before .before .before .before .before .before .before) .1 x h)
+    (run-bounds (now (start .args .book)) (now (start .args .script)) (start .args .reader) (now (start .args .values)) (start .args .limit) (passed (c .before .before)) .0)
 
 -- the state is clear
 cleared : (n m : ℕ) → n ≤ 256 → n ≡ m → take {A = ℕ} (n - 0) (replicate 256 0) ≡ replicate m 0
@@ -105,7 +105,7 @@ returns c =
 
 call-refusal-requires : tie.Need-call-refusal-requires
 call-refusal-requires c κs =
-    laid ((c .before .before .before))
+    laid (c .before .before .before)
 
 refused-requires-2 : tie.Need-refused-requires-2
 refused-requires-2 c κs = search needs
@@ -117,38 +117,24 @@ returns-2 : tie.Need-returns-2
 returns-2 c =
     let start = c .before .before .before .before .before .before .before .before .before .before .before .before .before in
     let f = ne-eqb _ 0 (c .before .if2 .taken) in
-    let e = refused-left (now (start .args .book)) (now (start .args .script)) (start .args .reader) (now (start .args .values)) (start .args .limit) (now (start .args .log)) (call-is ((c .before .before .before))) f in
+    let e = refused-left (now (start .args .book)) (now (start .args .script)) (start .args .reader) (now (start .args .values)) (start .args .limit) (now (start .args .log)) (call-is (c .before .before .before)) f in
     (c .refused2 .ensures ∙ ap (λ (l : Left). l .report) e, (ap (λ (l : Left). l .values) e, ap (λ (l : Left). l .log) e))
 
 find-plan-requires : tie.Need-find-plan-requires
 find-plan-requires c κs =
-    (laid ((c .before .before .before .before .before .before)), file ((c .before .before .before .before .before .before)))
+    (laid (c .before .before .before .before .before .before), file (c .before .before .before .before .before .before))
 
 find-seen-requires : tie.Need-find-seen-requires
 find-seen-requires c κs =
     let start = c .before .before .before .before .before .before .before .before .before .before .before .before .before in
-    let e = book-is ((c .before .before .before .before .before .before .before)) in
-    let in-book = run-bounds (now (start .args .book)) (now (start .args .script)) (start .args .reader) (now (start .args .values)) (start .args .limit) (passed ((c .before))) .0 in (
-      laid ((c .before .before .before .before .before .before .before)),
+    let e = book-is (c .before .before .before .before .before .before .before) in
+    let in-book = run-bounds (now (start .args .book)) (now (start .args .script)) (start .args .reader) (now (start .args .values)) (start .args .limit) (passed (c .before)) .0 in (
+      laid (c .before .before .before .before .before .before .before),
       (
-        subst (λ (b : Book). Levelled (now (start .args .script)) (b .count)) (sym e) (checked-file ((c .before .before .before .before .before .before .before)) .1),
-        (few-read (now (start .args .book)) (passing _ (right ((c .before .before .before .before .before .before .before)) .book) .size) _ e, subst (λ (b : Book). start .args .reader < b .count) (sym e) in-book),
+        subst (λ (b : Book). Levelled (now (start .args .script)) (b .count)) (sym e) (checked-file (c .before .before .before .before .before .before .before) .1),
+        (few-read (now (start .args .book)) (passing _ (right (c .before .before .before .before .before .before .before) .book) .size) _ e, subst (λ (b : Book). start .args .reader < b .count) (sym e) in-book),
       ),
     )
-
-slice-aggregate-run : tie.Need-slice-aggregate-run
-slice-aggregate-run c = search needs
-
--- the table of what the reader sees has an entry for each name
-long-enough :
-    (c : tie.After-seen) →
-    let start = c .before .before .before .before .before .before .before .before .before .before .before .before .before .before .before .before in
-    length (now (start .args .values)) ≡ nameCount (now (start .args .script)) →
-    length (now (start .args .values)) ≤ length (c .before .before .find-seen .result)
-long-enough c e =
-    let l = laid ((c .before .before .before .before .before .before .before .before .before .before)) in
-    let long : length (c .before .before .find-seen .result) ≡ 64 = sym (slice-aggregate-run c) in
-    omega (arith, e, long, names-are l, few-bounds (c .before .before .before .before .before .before .before .before .before .before .before .before .prepare .result .script) (l .few))
 
 sub-run : tie.Need-sub-run
 sub-run c = search needs
@@ -158,29 +144,30 @@ part-state-start c = search needs
 
 part-state-end : tie.Need-part-state-end
 part-state-end c =
-    let l = laid ((c .before .before .before .before .before .before .before .before .before .before .before)) in
+    let l = laid (c .before .before .before .before .before .before .before .before .before .before .before) in
     omega (arith, few-bounds (c .before .before .before .before .before .before .before .before .before .before .before .before .before .prepare .result .script) (l .few))
 
 run-requires : tie.Need-run-requires
 run-requires c κs =
     let start = c .before .before .before .before .before .before .before .before .before .before .before .before .before .before .before .before .before .before .before in
-    let l = laid ((c .before .before .before .before .before .before .before .before .before .before .before .before .before)) in
-    let started = run-accepted (now (start .args .book)) (now (start .args .script)) (start .args .reader) (now (start .args .values)) (start .args .limit) (passed ((c .before .before .before .before .before .before .before))) .1 in (
-      record { laid = l; checked = file ((c .before .before .before .before .before .before .before .before .before .before .before .before .before)); named = started .named },
+    let l = laid (c .before .before .before .before .before .before .before .before .before .before .before .before .before) in
+    let started = run-accepted (now (start .args .book)) (now (start .args .script)) (start .args .reader) (now (start .args .values)) (start .args .limit) (passed (c .before .before .before .before .before .before .before)) .1 in (
+      l,
+      (record { checked = file (c .before .before .before .before .before .before .before .before .before .before .before .before .before); named = started .named },
       (
         c .before .before .before .before .before .before .find-plan .ensures,
         (
           cleared (c .before .before .before .before .before .before .before .before .before .before .before .before .before .before .before .prepare .result .script .nodes) _ (few-bounds (c .before .before .before .before .before .before .before .before .before .before .before .before .before .before .before .prepare .result .script) (l .few) .1 .1 .1) (nodes-are l),
-          (long-enough ((c .before .before .before)) (started .named), omega (arith, run-bounds (now (start .args .book)) (now (start .args .script)) (start .args .reader) (now (start .args .values)) (start .args .limit) (passed ((c .before .before .before .before .before .before .before))) .1)),
+          omega (arith, run-bounds (now (start .args .book)) (now (start .args .script)) (start .args .reader) (now (start .args .values)) (start .args .limit) (passed (c .before .before .before .before .before .before .before)) .1),
         ),
-      ),
+      )),
     )
 
-cast-t33 : tie.Need-cast-t33
-cast-t33 c =
+cast-t32 : tie.Need-cast-t32
+cast-t32 c =
     let start = c .before .before .before .before .before .before .before .before .before .before .before .before .before .before .before .before .before .before .before .before .before .before .before .before .before in
     fits-under _ _ 1000001
-    (omega (arith, few-lines (now (start .args .book)) (now (start .args .script)) (start .args .reader) (now (start .args .values)) (start .args .limit) (now (start .args .log)) (file ((c .before .before .before .before .before .before .before .before .before .before .before .before .before .before .before .before .before .before .before))) (c .before .before .before .before .before .before .before .before .before .before .before .find-seen .result) (agrees ((c .before .before .before .before .before .before .before .before .before .before .before))) (c .before .before .before .before .before .run .ensures), run-bounds (now (start .args .book)) (now (start .args .script)) (start .args .reader) (now (start .args .values)) (start .args .limit) (passed ((c .before .before .before .before .before .before .before .before .before .before .before .before .before))) .1))
+    (omega (arith, few-lines (now (start .args .book)) (now (start .args .script)) (start .args .reader) (now (start .args .values)) (start .args .limit) (now (start .args .log)) (file (c .before .before .before .before .before .before .before .before .before .before .before .before .before .before .before .before .before .before .before)) (c .before .before .before .before .before .before .before .before .before .before .before .find-seen .result) (agrees (c .before .before .before .before .before .before .before .before .before .before .before)) (c .before .before .before .before .before .run .ensures), run-bounds (now (start .args .book)) (now (start .args .script)) (start .args .reader) (now (start .args .values)) (start .args .limit) (passed (c .before .before .before .before .before .before .before .before .before .before .before .before .before)) .1))
     tt
 
 same-length-2 : tie.Need-same-length-2
@@ -193,9 +180,9 @@ returns-3 : tie.Need-returns-3
 returns-3 c =
     let start = c .before .before .before .before .before .before .before .before .before .before .before .before .before .before .before .before .before .before .before .before .before .before .before .before .before in
     let g = c .before .before .before .before .before .run .ensures in
-    let p = passed ((c .before .before .before .before .before .before .before .before .before .before .before .before .before)) in
-    let a = agrees ((c .before .before .before .before .before .before .before .before .before .before .before)) in
-    let ok = file ((c .before .before .before .before .before .before .before .before .before .before .before .before .before .before .before .before .before .before .before)) in (
+    let p = passed (c .before .before .before .before .before .before .before .before .before .before .before .before .before) in
+    let a = agrees (c .before .before .before .before .before .before .before .before .before .before .before) in
+    let ok = file (c .before .before .before .before .before .before .before .before .before .before .before .before .before .before .before .before .before .before .before) in (
       report-is (now (start .args .book)) (now (start .args .script)) (start .args .reader) (now (start .args .values)) (start .args .limit) (now (start .args .log)) ok (c .before .before .before .before .before .before .before .before .before .before .before .find-seen .result) a g p,
       (
         values-are (now (start .args .book)) (now (start .args .script)) (start .args .reader) (now (start .args .values)) (start .args .limit) (now (start .args .log)) ok (c .before .before .before .before .before .before .before .before .before .before .before .find-seen .result) a g p,
@@ -216,12 +203,11 @@ run-spec =
     returns-2
     find-plan-requires
     find-seen-requires
-    slice-aggregate-run
     sub-run
     part-state-start
     part-state-end
     run-requires
-    cast-t33
+    cast-t32
     same-length-2
     same-length-3
     returns-3)
