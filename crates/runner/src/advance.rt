@@ -151,7 +151,17 @@ pub fn advance(
             let from = f.from;
             let to = f.to;
             let part = &mut state[from..to];
-            let r = advance_part(s, plan, seen, values, part, log, limits, entered, f.child);
+            let r = advance(
+                s,
+                plan,
+                seen,
+                values,
+                part,
+                log,
+                limits,
+                entered,
+                f.child,
+            );
             if moves::SPENT <= r.why {
                 return r;
             }
@@ -168,28 +178,4 @@ pub fn advance(
             now = entered;
         }
     }
-}
-
-// The same for the part in front of a node. Most parts are one assignment or emission, or wait: they need no further call.
-fn advance_part(
-    s: &&[u8],
-    plan: &[usize; Script::MAX_PARTS],
-    seen: &[u8; Script::MAX_NAMES],
-    values: &mut [i32],
-    state: &mut [u8],
-    log: &mut [u32],
-    limits: Limits,
-    at: Counts,
-    k: usize,
-) -> Done
-    requires { ⌜ Valued (now (now s)) (now values) × (KeepsPlan (now (now s)) (now plan) × (At (now (now s)) k (now state) × Counted (limits .steps) (now log) (at .steps) (at .lines))) ⌝ }
-    ensures { λ r. ⌜ Advances (seenIn (now (seen .entry))) (limits .steps) (length (now (log .entry)) / 4) (runningAt (now (now (s .entry))) k (now (state .entry)) (now (values .entry)) (now (log .entry)) (at .steps) (limits .instant) (at .lines)) (runningAt (now (now (s .entry))) k (now (state .exit)) (now (values .exit)) (now (log .exit)) (r .at .steps) (limits .instant) (r .at .lines)) (r .why) × (0 < r .why) ⌝ }
-{
-    let e = enter(s, plan, seen, values, state, log, limits, at, k);
-    let why = e.why;
-    let entered = e.at;
-    if moves::GONE <= why && why < INTO {
-        return Done { why, at: entered };
-    }
-    advance(s, plan, seen, values, state, log, limits, entered, k)
 }

@@ -1,49 +1,34 @@
--- `advance` and `advance_part`: by the node's turns. The node's number falls, and in a turn the steps that are left.
+-- `advance`: by the node's turns. The node's number falls, and in a turn the steps that are left.
 use mathlib.Core.Path.{_≡_, refl, ap, _∙_}
 use mathlib.Core.Logic.{_⊎_}
 use native.Mathlib.Omega.{arith}
 use borrow.Rule.Slice.PartMut.{putMid}
 use denote.Ref.{now}
-use borrow.Author.Tests.{ltb-true}
 use lib.ListN.{length}
 use Rattle.moves.specs.Moves.{Running, isGone, isSuspended}
 use Rattle.moves.specs.Contracts.{seenIn, runningAt, Advances}
-use Rattle.runner.specs.Contracts.{into}
 use Rattle.residual.proofs.Sights.{part-length}
 use Rattle.instants.proofs.Deciding.{sees}
 use Rattle.runner.proofs.Turning.{Going, going, Turn, begins, same-turn, counted, valued, at-node, turns-on, turns-end, part-turn, part-ends, part-rests, front-kept, settled}
-use Prim.Native.Nat.{ℕ, _+_, _-_, _*_, _/_, _<_}
-use native.Mathlib.Decide.{ℕ-discrete}
+use Prim.Native.Nat.{ℕ, _-_, _/_, _<_}
 use borrow.Fn.Kinds.{In}
 use borrow.Fn.PlainCycle.{Measures, is, falls, and}
 use Rattle.runner.proofs.advance.advance.Reads as advance
 use Rattle.runner.proofs.advance.advance.Kinds as advance-kinds
-use Rattle.runner.proofs.advance.+advance+advance_part.Lts-advance as advance-lts
-use Rattle.runner.proofs.advance.advance_part.Reads as advance-part
-use Rattle.runner.proofs.advance.advance_part.Kinds as advance-part-kinds
-use Rattle.runner.proofs.advance.+advance+advance_part.Lts-advance_part as advance-part-lts
+use Rattle.runner.proofs.advance.+advance.Lts-advance as advance-lts
 use Rattle.runner.proofs.advance.enter.Reads as enter-reads
 use Rattle.runner.proofs.advance.leave.Reads as leave-reads
-use Rattle.runner.proofs.advance.+advance+advance_part.{statement}
-use Rattle.runner.proofs.advance.+advance+advance_part.Tie.{close}
+use Rattle.runner.proofs.advance.+advance.{statement}
+use Rattle.runner.proofs.advance.+advance.Tie.{close}
 
 abbrev μ-advance : Measures 7 advance-kinds.ps ℕ
-μ-advance κs a = 2 * a .1 .1 .1 .1 .1 .1 .1 .1 .0
-
-abbrev μ-advance-part : Measures 7 advance-part-kinds.ps ℕ
-μ-advance-part κs a = 2 * a .1 .1 .1 .1 .1 .1 .1 .1 .0 + 1
+μ-advance κs a = a .1 .1 .1 .1 .1 .1 .1 .1 .0
 
 abbrev advance-at : ℕ → In 7 advance-kinds.ps
 advance-at t = and 7 advance-kinds.ps (is 7 advance-kinds.ps μ-advance t) advance.Pre
 
 abbrev advance-below : ℕ → In 7 advance-kinds.ps
 advance-below t = and 7 advance-kinds.ps (falls 7 advance-kinds.ps _<_ μ-advance t) advance.Pre
-
-abbrev advance-part-at : ℕ → In 7 advance-part-kinds.ps
-advance-part-at t = and 7 advance-part-kinds.ps (is 7 advance-part-kinds.ps μ-advance-part t) advance-part.Pre
-
-abbrev advance-part-below : ℕ → In 7 advance-part-kinds.ps
-advance-part-below t = and 7 advance-part-kinds.ps (falls 7 advance-part-kinds.ps _<_ μ-advance-part t) advance-part.Pre
 
 abbrev advance-Inv-loop : advance-lts.InvT-loop
 advance-Inv-loop s plan seen values₀ state₀ log₀ limits k reached₀ values state log reached =
@@ -54,10 +39,7 @@ abbrev advance-μ-loop : advance-lts.MeasureT-loop
 advance-μ-loop s plan seen values₀ state₀ log₀ limits k now₀ values state log now = limits .steps - now .steps
 
 abbrev R : ℕ → advance-lts.Claims
-R t = (enter-reads.Asked, enter-reads.Learnt, advance-part-below t, advance-part.Post, leave-reads.Asked, leave-reads.Learnt)
-
-abbrev Q : ℕ → advance-part-lts.Claims
-Q t = (enter-reads.Asked, enter-reads.Learnt, advance-below t, advance.Post)
+R t = (enter-reads.Asked, enter-reads.Learnt, advance-below t, advance.Post, leave-reads.Asked, leave-reads.Learnt)
 
 -- the node has been entered, and its part in front is to be advanced
 in-turn :
@@ -84,40 +66,40 @@ part-goes t c =
 
 -- its bytes have kept their number
 part-long :
-    (t : ℕ) (c : advance-lts.After-advance-part (R t) (advance-at t) advance.Post advance-Inv-loop advance-μ-loop) →
+    (t : ℕ) (c : advance-lts.After-advance (R t) (advance-at t) advance.Post advance-Inv-loop advance-μ-loop) →
     let f = c .before .before .before .before .before .before .before .before .before .before .before .before .enter .result .front in
-    let r = c .advance-part in
+    let r = c .advance in
     length (r .last .1 .1 .1 .1 .0) ≡ f .to - f .from
 part-long t c =
     let e = c .before .before .before .before .before .before .before .before .before .before .before .before .enter in
-    c .advance-part .kept .1 .1 .1 .1 .0 ∙ part-length (e .result .front) (e .last .1 .1 .1 .1 .0) (part-goes t (c .before .before .before .before .before) .inside .within)
+    c .advance .kept .1 .1 .1 .1 .0 ∙ part-length (e .result .front) (e .last .1 .1 .1 .1 .0) (part-goes t (c .before .before .before .before .before) .inside .within)
 
 -- it has been advanced
 part-done :
-    (t : ℕ) (c : advance-lts.After-advance-part (R t) (advance-at t) advance.Post advance-Inv-loop advance-μ-loop) →
+    (t : ℕ) (c : advance-lts.After-advance (R t) (advance-at t) advance.Post advance-Inv-loop advance-μ-loop) →
     let a = c .before .before .before .before .before .before .before .before .before .before .before .before .before .before .before .before .before .before .before .args in
     let e = c .before .before .before .before .before .before .before .before .before .before .before .before .enter in
     let f = e .result .front in
-    let r = c .advance-part in
+    let r = c .advance in
     Turn (seenIn (now (a .seen))) (a .limits .steps) (runningAt (now (now (a .s))) (a .k) (now (a .state)) (now (a .values)) (now (a .log)) (a .at .steps) (a .limits .instant) (a .at .lines)) (runningAt (now (now (a .s))) (a .k) (putMid (f .from) (f .to - f .from) (e .last .1 .1 .1 .1 .0) (r .last .1 .1 .1 .1 .0)) (r .last .1 .1 .1 .0) (r .last .1 .1 .1 .1 .1 .0) (r .result .at .steps) (a .limits .instant) (r .result .at .lines)) (now (a .state)) (putMid (f .from) (f .to - f .from) (e .last .1 .1 .1 .1 .0) (r .last .1 .1 .1 .1 .0))
 part-done t c =
-    let r = c .advance-part in
+    let r = c .advance in
     part-turn (part-goes t (c .before .before .before .before .before)) (in-turn t (c .before .before .before .before .before)) (r .last .1 .1 .1 .1 .0) (part-long t c) (r .ensures) (r .kept .1 .1 .1 .0) (r .kept .1 .1 .1 .1 .1 .0)
 
 -- why it rests
 rests-known :
     (t : ℕ) (c : advance-lts.Else2 (R t) (advance-at t) advance.Post advance-Inv-loop advance-μ-loop) →
-    let r = c .before .before .before .before .before .before .before .advance-part in
+    let r = c .before .before .before .before .before .before .before .advance in
     (r .result .why ≡ isGone) ⊎ (r .result .why ≡ isSuspended)
 rests-known t c =
-    let r = c .before .before .before .before .before .before .before .advance-part in
+    let r = c .before .before .before .before .before .before .before .advance in
     part-rests (part-goes t (c .before .before .before .before .before .before .before .before .before .before .before .before)) (in-turn t (c .before .before .before .before .before .before .before .before .before .before .before .before)) (r .last .1 .1 .1 .1 .0) (part-long t (c .before .before .before .before .before .before .before)) (r .ensures) (c .before .before .before .before .before .before .before .before .before .before .before .before .before .before .before .before .before .before .before .enter .ensures .part (c .before .before .before .before .before .before .before .before .before .before .before .before .if1 .taken)) (c .if2 .left) .known
 
 -- the node has been left
 node-left :
     (t : ℕ) (c : advance-lts.After-leave (R t) (advance-at t) advance.Post advance-Inv-loop advance-μ-loop) →
     let a = c .before .before .before .before .before .before .before .before .before .before .before .before .before .before .before .before .before .before .before .before .before .before .before .before .before .before .before .before .before .before .args in
-    let r = c .before .before .before .before .before .before .before .before .before .before .before .advance-part in
+    let r = c .before .before .before .before .before .before .before .before .before .before .before .advance in
     let v = c .leave in
     Advances (seenIn (now (a .seen))) (a .limits .steps) (length (r .last .1 .1 .1 .1 .1 .0) / 4)
     (runningAt (now (now (a .s))) (a .k) (let e = c .before .before .before .before .before .before .before .before .before .before .before .before .before .before .before .before .before .before .before .before .before .before .before .enter in let f = e .result .front in (putMid (f .from) (f .to - f .from) (e .last .1 .1 .1 .1 .0) (r .last .1 .1 .1 .1 .0))) (r .last .1 .1 .1 .0) (r .last .1 .1 .1 .1 .1 .0) (r .result .at .steps) (a .limits .instant) (r .result .at .lines))
@@ -148,8 +130,8 @@ advance-part-part-end : (t : ℕ) → advance-lts.Need-part-part-end (R t) (adva
 advance-part-part-end t c =
     part-goes t (c .before) .inside .within
 
-advance-advance-part-requires : (t : ℕ) → advance-lts.Need-advance-part-requires (R t) (advance-at t) advance.Post advance-Inv-loop advance-μ-loop
-advance-advance-part-requires t c κs =
+advance-advance-requires : (t : ℕ) → advance-lts.Need-advance-requires (R t) (advance-at t) advance.Post advance-Inv-loop advance-μ-loop
+advance-advance-requires t c κs =
     let start = c .before .before .before .before .before .before .before .before .before .before .before .before .before .before .before .before .before .before in
     let e = c .before .before .before .before .before .before .before .before .before .before .before .enter in
     let u = in-turn t (c .before .before .before .before) in
@@ -181,14 +163,14 @@ advance-same-length-3 t c =
 
 advance-returns : (t : ℕ) → advance-lts.Need-returns (R t) (advance-at t) advance.Post advance-Inv-loop advance-μ-loop
 advance-returns t c =
-    let r = c .before .before .before .before .before .before .before .advance-part in
+    let r = c .before .before .before .before .before .before .before .advance in
     part-ends (part-goes t (c .before .before .before .before .before .before .before .before .before .before .before .before)) (in-turn t (c .before .before .before .before .before .before .before .before .before .before .before .before)) (r .last .1 .1 .1 .1 .0) (part-long t (c .before .before .before .before .before .before .before)) (r .ensures) (c .if2 .taken)
 
 advance-leave-requires : (t : ℕ) → advance-lts.Need-leave-requires (R t) (advance-at t) advance.Post advance-Inv-loop advance-μ-loop
 advance-leave-requires t c κs =
     let start = c .before .before .before .before .before .before .before .before .before .before .before .before .before .before .before .before .before .before .before .before .before .before .before .before .before .before .before .before .before in
     let e = c .before .before .before .before .before .before .before .before .before .before .before .before .before .before .before .before .before .before .before .before .before .before .enter in
-    let r = c .before .before .before .before .before .before .before .before .before .before .advance-part in
+    let r = c .before .before .before .before .before .before .before .before .before .before .advance in
     let g = part-goes t (c .before .before .before .before .before .before .before .before .before .before .before .before .before .before .before) in
     let u = part-done t (c .before .before .before .before .before .before .before .before .before .before) in (
       (valued u (start .pre .1 .0), (start .pre .1 .1 .0, (at-node u (start .pre .1 .1 .1 .0), (u .time, start .pre .1 .1 .1 .1 .most)))),
@@ -218,7 +200,7 @@ advance-loop-less : (t : ℕ) → advance-lts.Need-loop-less (R t) (advance-at t
 advance-loop-less t c =
     let a = node-left t (c .before .before .before .before .before) in
     let same = ap (λ (z : Running ℕ). z .steps) (c .before .before .before .before .before .before .before .before .before .before .before .before .before .before .before .before .before .before .before .before .before .before .before .before .before .before .before .before .enter .ensures .same (c .before .before .before .before .before .before .before .before .before .before .before .before .before .before .before .before .before .before .before .before .before .if1 .taken) .1) in
-    omega (arith, a .again (c .before .if3 .left), a .time, same, c .before .before .before .before .before .before .before .before .before .before .before .before .before .before .before .before .advance-part .ensures .0 .later)
+    omega (arith, a .again (c .before .if3 .left), a .time, same, c .before .before .before .before .before .before .before .before .before .before .before .before .before .before .before .before .advance .ensures .0 .later)
 
 advance-loop-again : (t : ℕ) → advance-lts.Need-loop-again (R t) (advance-at t) advance.Post advance-Inv-loop advance-μ-loop
 advance-loop-again t c =
@@ -252,62 +234,8 @@ advance-loop-again-2 : (t : ℕ) → advance-lts.Need-loop-again-2 (R t) (advanc
 advance-loop-again-2 t c =
     turns-on (c .before .before .before .before .before .before .before .before .before .before .before .before .loop .inv) (c .before .before .before .before .before .before .before .before .enter .ensures .ends (c .before .if1 .left)) (c .before .before .before .before .before .before .before .before .enter .kept .1 .1 .1 .0) (c .before .before .before .before .before .before .before .before .enter .kept .1 .1 .1 .1 .1 .0) (c .before .before .before .before .before .before .before .before .enter .kept .1 .1 .1 .1 .0)
 
--- A part: it has been entered, and if that is not all, it goes on.
-part-begun :
-    (t : ℕ) (c : advance-part-lts.After-enter (Q t) (advance-part-at t) advance-part.Post) →
-    let start = c .before .before .before .before .before .before in
-    let a = start .args in
-    let e = c .enter in
-    Turn (seenIn (now (a .seen))) (a .limits .steps) (runningAt (now (now (a .s))) (a .k) (now (a .state)) (now (a .values)) (now (a .log)) (a .at .steps) (a .limits .instant) (a .at .lines)) (runningAt (now (now (a .s))) (a .k) (e .last .1 .1 .1 .1 .0) (e .last .1 .1 .1 .0) (e .last .1 .1 .1 .1 .1 .0) (e .result .at .steps) (a .limits .instant) (e .result .at .lines)) (now (a .state)) (e .last .1 .1 .1 .1 .0)
-part-begun t c =
-    let start = c .before .before .before .before .before .before in
-    let e = c .enter in
-    let u = begins (start .pre .1 .1 .1 .1) in
-    elim (ℕ-discrete (e .result .why) into) [
-      | yes q ↦ let same = e .ensures .same q in same-turn u (same .0) (same .1)
-      | no n ↦ turns-on u (e .ensures .ends n) (e .kept .1 .1 .1 .0) (e .kept .1 .1 .1 .1 .1 .0) (e .kept .1 .1 .1 .1 .0)
-    ]
-
-advance-part-enter-requires : (t : ℕ) → advance-part-lts.Need-enter-requires (Q t) (advance-part-at t) advance-part.Post
-advance-part-enter-requires t c κs =
-    let start = c .before .before .before .before .before in
-    start .pre .1
-
-advance-part-same-length : (t : ℕ) → advance-part-lts.Need-same-length (Q t) (advance-part-at t) advance-part.Post
-advance-part-same-length t c = c .before .before .before .before .before .before .before .before .enter .kept .1 .1 .1 .0
-
-advance-part-same-length-2 : (t : ℕ) → advance-part-lts.Need-same-length-2 (Q t) (advance-part-at t) advance-part.Post
-advance-part-same-length-2 t c = c .before .before .before .before .before .before .before .before .enter .kept .1 .1 .1 .1 .0
-
-advance-part-same-length-3 : (t : ℕ) → advance-part-lts.Need-same-length-3 (Q t) (advance-part-at t) advance-part.Post
-advance-part-same-length-3 t c = c .before .before .before .before .before .before .before .before .enter .kept .1 .1 .1 .1 .1 .0
-
-advance-part-returns : (t : ℕ) → advance-part-lts.Need-returns (Q t) (advance-part-at t) advance-part.Post
-advance-part-returns t c =
-    (c .before .before .before .before .before .before .before .before .enter .ensures .ends (λ q. omega (arith, q, ltb-true (c .before .before .before .before .before .before .before .before .enter .result .why) into (c .if2 .taken))), c .before .if1 .taken)
-
-advance-part-advance-requires : (t : ℕ) → advance-part-lts.Need-advance-requires (Q t) (advance-part-at t) advance-part.Post
-advance-part-advance-requires t c κs =
-    let start = c .before .before .before .before .before .before .before .before .before .before .before .before .before .before .before .before in
-    let u = part-begun t (c .before .before .before .before .before .before .before .before .before .before) in
-    (omega (arith, start .pre .0), (valued u (start .pre .1 .0), (start .pre .1 .1 .0, (at-node u (start .pre .1 .1 .1 .0), counted u (start .pre .1 .1 .1 .1 .most)))))
-
-advance-part-same-length-4 : (t : ℕ) → advance-part-lts.Need-same-length-4 (Q t) (advance-part-at t) advance-part.Post
-advance-part-same-length-4 t c = c .before .before .before .before .before .advance .kept .1 .1 .1 .0 ∙ c .before .before .before .before .before .before .before .before .before .before .before .before .before .before .before .before .enter .kept .1 .1 .1 .0
-
-advance-part-same-length-5 : (t : ℕ) → advance-part-lts.Need-same-length-5 (Q t) (advance-part-at t) advance-part.Post
-advance-part-same-length-5 t c = c .before .before .before .before .before .advance .kept .1 .1 .1 .1 .0 ∙ c .before .before .before .before .before .before .before .before .before .before .before .before .before .before .before .before .enter .kept .1 .1 .1 .1 .0
-
-advance-part-same-length-6 : (t : ℕ) → advance-part-lts.Need-same-length-6 (Q t) (advance-part-at t) advance-part.Post
-advance-part-same-length-6 t c = c .before .before .before .before .before .advance .kept .1 .1 .1 .1 .1 .0 ∙ c .before .before .before .before .before .before .before .before .before .before .before .before .before .before .before .before .enter .kept .1 .1 .1 .1 .1 .0
-
-advance-part-returns-2 : (t : ℕ) → advance-part-lts.Need-returns-2 (Q t) (advance-part-at t) advance-part.Post
-advance-part-returns-2 t c =
-    let r = c .before .before .before .before .before .advance .ensures in
-    turns-end (part-begun t (c .before .before .before .before .before .before .before .before .before .before .before .before .before .before .before .before)) (r .0) (λ z. omega (arith, z, r .1))
-
-pub +advance+advance-part-spec : {M : Type 1} → statement M
-+advance+advance-part-spec = close μ-advance μ-advance-part (λ t. advance-lts.spec (R t)
+pub +advance-spec : {M : Type 1} → statement M
++advance-spec = close μ-advance λ t. advance-lts.spec (R t)
     (advance-at t)
     advance.Post
     advance-Inv-loop
@@ -317,7 +245,7 @@ pub +advance+advance-part-spec : {M : Type 1} → statement M
     (advance-sub-part t)
     (advance-part-part-start t)
     (advance-part-part-end t)
-    (advance-advance-part-requires t)
+    (advance-advance-requires t)
     (advance-same-length t)
     (advance-same-length-2 t)
     (advance-same-length-3 t)
@@ -334,17 +262,4 @@ pub +advance+advance-part-spec : {M : Type 1} → statement M
     (advance-same-length-9 t)
     (advance-returns-3 t)
     (advance-loop-less-2 t)
-    (advance-loop-again-2 t))
-    λ t. advance-part-lts.spec (Q t)
-    (advance-part-at t)
-    advance-part.Post
-    (advance-part-enter-requires t)
-    (advance-part-same-length t)
-    (advance-part-same-length-2 t)
-    (advance-part-same-length-3 t)
-    (advance-part-returns t)
-    (advance-part-advance-requires t)
-    (advance-part-same-length-4 t)
-    (advance-part-same-length-5 t)
-    (advance-part-same-length-6 t)
-    (advance-part-returns-2 t)
+    (advance-loop-again-2 t)
