@@ -1,6 +1,6 @@
 -- What the functions that make moves ask for and promise.
 use mathlib.Core.Path.{_≡_}
-use mathlib.Core.Bool.{Bool, true, false, cond}
+use mathlib.Core.Bool.{Bool, true, false, cond, _||_}
 use mathlib.Core.Logic.{_⊎_}
 use mathlib.Core.Option.{Option, none, some}
 use mathlib.Core.List.{List}
@@ -48,6 +48,9 @@ abbrev pub IsSilent : ℕ → Type 0
 IsSilent kind = (kind ≡ 2) ⊎ ((kind ≡ 3) ⊎ ((kind ≡ 4) ⊎ (kind ≡ 7)))
 
 -- assignments and emissions write one
+abbrev pub isWriter : ℕ → Bool
+isWriter kind = eqb kind 1 || eqb kind 6
+
 abbrev pub IsWriter : ℕ → Type 0
 IsWriter kind = (kind ≡ 1) ⊎ (kind ≡ 6)
 

@@ -179,7 +179,7 @@ fn write(
     value: i32,
 ) -> Done
     requires { ⌜ At (now (now s)) k (now state) × (Writes (left (now (now s)) k (now state)) (now values) x value × (Counted (limits .steps) (now log) (at .steps) (at .lines) × ((at .steps < limits .steps) × ((x < length (now values)) × (x < 64))))) ⌝ }
-    ensures { λ r. ⌜ Advances (seenIn (now (seen .entry))) (limits .steps) (length (now (log .entry)) / 4) (runningAt (now (now (s .entry))) k (now (state .entry)) (now (values .entry)) (now (log .entry)) (at .steps) (limits .instant) (at .lines)) (runningAt (now (now (s .entry))) k (now (state .exit)) (now (values .exit)) (now (log .exit)) (r .at .steps) (limits .instant) (r .at .lines)) (r .why) ⌝ }
+    ensures { λ r. ⌜ Advances (seenIn (now (seen .entry))) (limits .steps) (length (now (log .entry)) / 4) (runningAt (now (now (s .entry))) k (now (state .entry)) (now (values .entry)) (now (log .entry)) (at .steps) (limits .instant) (at .lines)) (runningAt (now (now (s .entry))) k (now (state .exit)) (now (values .exit)) (now (log .exit)) (r .at .steps) (limits .instant) (r .at .lines)) (r .why) × (0 < r .why) ⌝ }
 {
     let noted = log::note(seen, log, at.steps, limits.instant, at.lines, x, value);
     if !noted.fits {
@@ -209,7 +209,7 @@ pub fn move_own(
     k: usize,
 ) -> Done
     requires { ⌜ Valued (now (now s)) (now values) × (KeepsPlan (now (now s)) (now plan) × (At (now (now s)) k (now state) × (Counted (limits .steps) (now log) (at .steps) (at .lines) × (frontOf (now (now s)) k (own (now state)) (length (now state)) .form ≡ mover)))) ⌝ }
-    ensures { λ r. ⌜ Advances (seenIn (now (seen .entry))) (limits .steps) (length (now (log .entry)) / 4) (runningAt (now (now (s .entry))) k (now (state .entry)) (now (values .entry)) (now (log .entry)) (at .steps) (limits .instant) (at .lines)) (runningAt (now (now (s .entry))) k (now (state .exit)) (now (values .exit)) (now (log .exit)) (r .at .steps) (limits .instant) (r .at .lines)) (r .why) ⌝ }
+    ensures { λ r. ⌜ Advances (seenIn (now (seen .entry))) (limits .steps) (length (now (log .entry)) / 4) (runningAt (now (now (s .entry))) k (now (state .entry)) (now (values .entry)) (now (log .entry)) (at .steps) (limits .instant) (at .lines)) (runningAt (now (now (s .entry))) k (now (state .exit)) (now (values .exit)) (now (log .exit)) (r .at .steps) (limits .instant) (r .at .lines)) (r .why) × (IsWriter (partOf (now (now (s .entry))) (node (now (now (s .entry))) k) .kind) → 0 < r .why) ⌝ }
 {
     if limits.steps <= at.steps {
         return Done { why: SPENT, at };

@@ -1,42 +1,26 @@
--- A node that is entered.
+-- What comes next at a node.
 -- Assumes nothing.
-use mathlib.Core.Path.{_≡_, ap}
-use mathlib.Core.Bool.{Bool, true}
+use mathlib.Core.Path.{_≡_, ap, _∙_}
+use mathlib.Core.Bool.{true, _&&_}
 use mathlib.Core.Logic.{inl, inr}
 use mathlib.Core.List.{List}
-use Prim.Native.Nat.{ℕ, _<_}
+use Prim.Native.Nat.{ℕ, _-_, _<_}
+use native.Mathlib.Decide.{ℕ-discrete}
 use native.Mathlib.Omega.{arith}
-use lib.ListN.{length}
+use lib.Dec.{eqb}
+use lib.ListN.{getD, drop}
+use lib.Seq.{getD-take, getD-drop}
+use borrow.Author.Tests.{eqb-true, ne-eqb}
+use Rattle.prelude.proofs.Bools.{and-left, and-right}
 use Rattle.language.specs.Syntax.{isNil}
-use Rattle.language.specs.Steps.{present}
+use Rattle.script.specs.Entries.{partOf, node}
 use Rattle.plan.specs.declared.forms.Front.{Front}
+use Rattle.plan.specs.Forms.{gone, mover, formOf, frontOf, partIn}
+use Rattle.plan.proofs.Fronts.{front-form}
 use Rattle.residual.specs.Residual.{own}
-use Rattle.plan.specs.Forms.{gone, mover, guarded, frontOf}
-use Rattle.moves.specs.Moves.{Running, Ends, waits, spent, full}
-use Rattle.moves.specs.Moves as moves
 use Rattle.residual.specs.Nodes.{left}
-use Rattle.runner.specs.Contracts.{into, Enters}
-use Rattle.moves.specs.Contracts.{Advances}
-use Rattle.residual.proofs.Sights.{signalAt, Sight, sees-gone, sees-mover, sees-alone, sees-before, sees-watched, sees-guarded, sees-beside}
-
-module _ {seen : ℕ → Bool} {limit room : ℕ} {s : List ℕ} {k : ℕ} {st st′ : List ℕ} {at to : Running ℕ} {why : ℕ} {f : Front} where
-  -- it has made a move, or there is none
-  pub ends-here : (why ≡ into → ⊥) → Advances seen limit room at to why → Enters seen limit room s k st st′ at to why f
-  ends-here n a =
-      record {
-        ends = λ _. a;
-        same = λ e. absurd (n e);
-        front = λ e. absurd (n e);
-        part = λ e. absurd (n e);
-        shown = λ e. absurd (n e);
-      }
-
-  -- its part in front is to be advanced
-  pub goes-in :
-      st′ ≡ st → to ≡ at → why ≡ into → f ≡ frontOf s k (own st′) (length st′) → mover < f .form →
-      (f .form ≡ guarded → present (to .values) (signalAt s k) ≡ true) → Enters seen limit room s k st st′ at to why f
-  goes-in a b w e m p =
-      record { ends = λ n. absurd (n w); same = λ _. (a, b); front = λ _. e; part = λ _. m; shown = λ _. p }
+use Rattle.residual.proofs.Sights.{Sight, sees-gone, sees-mover, sees-alone, sees-before, sees-watched, sees-guarded, sees-beside}
+use Rattle.moves.specs.Contracts.{isWriter, IsWriter}
 
 pub nil-seen : {s : List ℕ} {k : ℕ} {st : List ℕ} {f : Front} → Sight s k st f → f .form ≡ gone → isNil (left s k st) ≡ true
 unfolding isNil
@@ -50,13 +34,24 @@ nil-seen (sees-guarded e x a i r) q = absurd (omega (arith, e, q))
 nil-seen (sees-beside (inl e) o g p i j r) q = absurd (omega (arith, e, q))
 nil-seen (sees-beside (inr e) o g p i j r) q = absurd (omega (arith, e, q))
 
--- a move of its own is not a part to be advanced
-pub not-into :
-    {seen : ℕ → Bool} {limit room : ℕ} {at to : Running ℕ} {why : ℕ} → Advances seen limit room at to why → why ≡ into → ⊥
-not-into a q = why-not (a .ends (λ z. omega (arith, z, q))) q
-  where
-    why-not : {seen : ℕ → Bool} {limit room : ℕ} {at : Running ℕ} {why : ℕ} → Ends seen limit room at why → why ≡ into → ⊥
-    why-not (moves.gone e z) q = omega (arith, e, q)
-    why-not (waits e z) q = omega (arith, e, q)
-    why-not (spent e l z) q = omega (arith, e, q)
-    why-not (full e l t z) q = omega (arith, e, q)
+-- the first byte of a part is that part's own
+pub own-part : (f : Front) (st : List ℕ) → f .from < f .to → own (partIn f st) ≡ getD st (f .from) 0
+own-part f st h = getD-take (f .to - f .from) (drop (f .from) st) 0 0 (omega (arith, h)) ∙ getD-drop (f .from) st 0 0 ∙ ap (λ i. getD st i 0) (omega arith)
+
+-- assignments and emissions
+writer-is : (kind : ℕ) → isWriter kind ≡ true → IsWriter kind
+writer-is kind e =
+    elim (ℕ-discrete kind 1) [
+      | yes q ↦ inl q
+      | no n ↦ inr (eqb-true kind 6 (rw (ne-eqb kind 1 n) at e))
+    ]
+
+pub writes-both : (tag kind : ℕ) → (eqb tag 0 && isWriter kind) ≡ true → IsWriter kind × (tag ≡ 0)
+writes-both tag kind e = (writer-is kind (and-right (eqb tag 0) (isWriter kind) e), eqb-true tag 0 (and-left (eqb tag 0) (isWriter kind) e))
+
+-- one whose move is next has it as its form
+pub writer-moves :
+    (s : List ℕ) (k len : ℕ) (st : List ℕ) → IsWriter (partOf s (node s k) .kind) → own st ≡ 0 →
+    frontOf s k (own st) len .form ≡ mover
+writer-moves s k len st (inl e) z = front-form s k (own st) len ∙ rw (e, z)
+writer-moves s k len st (inr e) z = front-form s k (own st) len ∙ rw (e, z)

@@ -3,5 +3,6 @@ pub mod Outcomes
 pub mod Resting
 pub mod Turning
 pub mod Entries
+pub mod Nexts
 pub mod Idling
 pub mod Whole

@@ -17,23 +17,39 @@ use Rattle.plan.specs.Forms.{mover, before, watched, guarded, frontOf, partIn}
 use Rattle.residual.specs.Residual.{own}
 use Rattle.residual.specs.Nodes.{left}
 use Rattle.moves.specs.Moves.{Running, Live, Silent, isGone, isSuspended, isSpent, isFull}
-use Rattle.moves.specs.Contracts.{Advances}
+use Rattle.moves.specs.declared.Done.{Done}
+use Rattle.moves.specs.Contracts.{IsWriter}
 use Rattle.runner.specs.declared.Ran.{Ran}
 use Rattle.runner.specs.Outcome.{Outcome}
 
--- a node is to be gone into
+-- what comes next, beside that the node is nil or suspended: a part to be advanced, or one move
 abbrev pub into : ℕ
 into = 5
 
--- Node k is entered: it has made a move of its own, or there is none; or its part in front is to be advanced.
-pub record Enters
-    (seen : ℕ → Bool) (limit room : ℕ) (s : List ℕ) (k : ℕ) (st st′ : List ℕ) (at to : Running ℕ) (why : ℕ) (f : Front) :
-    Type 0 where
-  pub ends : (why ≡ into → ⊥) → Advances seen limit room at to why
-  pub same : why ≡ into → (st′ ≡ st) × (to ≡ at)
-  pub front : why ≡ into → f ≡ frontOf s k (own st′) (length st′)
-  pub part : why ≡ into → mover < f .form
-  pub shown : why ≡ into → f .form ≡ guarded → present (to .values) (partOf s (node s k) .a) ≡ true
+abbrev pub moving : ℕ
+moving = 6
+
+-- the node itself as the part in front
+abbrev pub itselfOf : ℕ → ℕ → Front
+itselfOf k len = record { form = mover; child = k; from = 0; to = len }
+
+-- What comes next at node k: nothing, since it is nil or suspended; its own move; or its part in front, which may be one
+-- assignment or emission.
+pub data Follows (s : List ℕ) (k : ℕ) (st : List ℕ) (values : List ℤ) (why : ℕ) (f : Front) : Type 0 where
+  nothing : why ≡ isGone → isNil (left s k st) ≡ true → Follows s k st values why f
+  awaits : why ≡ isSuspended → suspended (left s k st) values ≡ true → Follows s k st values why f
+  itself :
+      why ≡ moving → f ≡ itselfOf k (length st) → frontOf s k (own st) (length st) .form ≡ mover →
+      Follows s k st values why f
+  part :
+      into ≤ why → f ≡ frontOf s k (own st) (length st) → mover < f .form →
+      (f .form ≡ guarded → present values (partOf s (node s k) .a) ≡ true) →
+      (why ≡ moving → IsWriter (partOf s (node s (f .child)) .kind) × (own (partIn f st) ≡ 0)) →
+      Follows s k st values why f
+
+-- nothing more is done
+abbrev pub doneAt : ℕ → ℕ → ℕ → Done
+doneAt why steps lines = record { why = why; at = record { steps = steps; lines = lines } }
 
 -- the own byte of a node with a part in front that is neither alone, nor under a watching or a when
 abbrev pub Byte : ℕ → ℕ → Type 0

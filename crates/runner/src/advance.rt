@@ -1,5 +1,5 @@
-// A node is run as far as it goes within the instant: it is entered, its part in front is advanced, and it is left or
-// entered again.
+// A node is run as far as it goes within the instant: what comes next is found, the node or its part in front is advanced,
+// and the node is left, or it goes on.
 use instants::suspension;
 use moves::Counts;
 use moves::Done;
@@ -8,66 +8,90 @@ use plan::forms;
 use plan::forms::Front;
 use script::layout::Script;
 ghost use mathlib.Core.Path.{_≡_};
+ghost use mathlib.Core.Bool.{true, _&&_};
+ghost use lib.Dec.{eqb};
 ghost use Prim.Native.Nat.{_/_, _≤_, _<_};
 ghost use lib.ListN.{length};
 ghost use Rattle.residual.specs.Residual.{own};
-ghost use Rattle.plan.specs.Forms.{frontOf};
+ghost use Rattle.plan.specs.Forms.{mover, frontOf};
 ghost use Rattle.plan.specs.Plan.{KeepsPlan};
-ghost use Rattle.moves.specs.Contracts.{mostSteps, Counted, seenIn, runningAt, Advances};
+ghost use Rattle.script.specs.Layout.{nodeCount};
+ghost use Rattle.script.specs.Entries.{partOf, node};
+ghost use Rattle.script.specs.Checked.{Checked};
+ghost use Rattle.moves.specs.Contracts.{mostSteps, Counted, seenIn, isWriter, IsWriter, runningAt, Advances};
 ghost use Rattle.residual.specs.Nodes.{Valued, At, left};
-ghost use Rattle.runner.specs.Contracts.{Enters, Byte, byteAfter, Rests, Settles};
+ghost use Rattle.runner.specs.Contracts.{Follows, doneAt, Byte, byteAfter, Rests, Settles};
 
-// The part in front is to be advanced.
+// What comes next at a node, beside that it is nil or suspended: its part in front is to be advanced; or one move, its own
+// or that of its part in front, which needs no further call.
 const INTO: u8 = 5;
 
-pub struct Entered {
+const MOVING: u8 = 6;
+
+pub struct Next {
     pub why: u8,
-    pub at: Counts,
     pub front: Front,
 }
 
-// Node k makes its own move, if that is next.
-fn enter(
+// Node k, whose own byte is `tag`, is an assignment or an emission, and that is next.
+fn writes_next(s: &&[u8], plan: &[usize; Script::MAX_PARTS], k: usize, tag: u8) -> bool
+    requires { ⌜ Checked (now (now s)) × (KeepsPlan (now (now s)) (now plan) × (k < nodeCount (now (now s)))) ⌝ }
+    ensures { λ r. ⌜ r ≡ (eqb tag 0 && isWriter (partOf (now (now (s .entry))) (node (now (now (s .entry))) k) .kind)) ⌝ }
+{
+    if tag != 0 {
+        return false;
+    }
+    let kind = plan::kind_at(s, plan, k);
+    if kind == 1 {
+        return true;
+    }
+    kind == 6
+}
+
+// What comes next at node k. Where its own move does, the node itself counts as the part in front.
+fn find_next(
     s: &&[u8],
     plan: &[usize; Script::MAX_PARTS],
-    seen: &[u8; Script::MAX_NAMES],
-    values: &mut [i32],
-    state: &mut [u8],
-    log: &mut [u32],
-    limits: Limits,
-    at: Counts,
+    values: &[i32],
+    state: &[u8],
     k: usize,
-) -> Entered
-    requires { ⌜ Valued (now (now s)) (now values) × (KeepsPlan (now (now s)) (now plan) × (At (now (now s)) k (now state) × Counted (limits .steps) (now log) (at .steps) (at .lines))) ⌝ }
-    ensures { λ r. ⌜ Enters (seenIn (now (seen .entry))) (limits .steps) (length (now (log .entry)) / 4) (now (now (s .entry))) k (now (state .entry)) (now (state .exit)) (runningAt (now (now (s .entry))) k (now (state .entry)) (now (values .entry)) (now (log .entry)) (at .steps) (limits .instant) (at .lines)) (runningAt (now (now (s .entry))) k (now (state .exit)) (now (values .exit)) (now (log .exit)) (r .at .steps) (limits .instant) (r .at .lines)) (r .why) (r .front) ⌝ }
+) -> Next
+    requires { ⌜ Valued (now (now s)) (now values) × (KeepsPlan (now (now s)) (now plan) × At (now (now s)) k (now state)) ⌝ }
+    ensures { λ r. ⌜ Follows (now (now (s .entry))) k (now (state .entry)) (now (values .entry)) (r .why) (r .front) ⌝ }
 {
     let f = forms::find_front(s, plan, k, state[0], state.len());
     if f.form == forms::GONE {
-        return Entered {
+        return Next {
             why: moves::GONE,
-            at,
             front: f,
         };
     }
     if f.form == forms::MOVER {
-        let done = moves::move_own(s, plan, seen, values, state, log, limits, at, k);
-        let next = done.at;
-        return Entered {
-            why: done.why,
-            at: next,
-            front: f,
+        return Next {
+            why: MOVING,
+            front: Front {
+                form: forms::MOVER,
+                child: k,
+                from: 0,
+                to: state.len(),
+            },
         };
     }
     if f.form == forms::GUARDED && !evaluation::signal_is_present(s, plan, values, k) {
-        return Entered {
+        return Next {
             why: moves::SUSPENDED,
-            at,
             front: f,
         };
     }
-    Entered {
+    let from = f.from;
+    if writes_next(s, plan, f.child, state[from]) {
+        return Next {
+            why: MOVING,
+            front: f,
+        };
+    }
+    Next {
         why: INTO,
-        at,
         front: f,
     }
 }
@@ -87,7 +111,7 @@ fn byte_after(form: u8, why: u8, tag: u8) -> u8
     3 - tag
 }
 
-// The part in front of node k rests: it is nil, or it is suspended.
+// The part in front of node k rests: it is nil, or it is suspended. Or the node itself has moved, and that is all.
 fn leave(
     s: &&[u8],
     plan: &[usize; Script::MAX_PARTS],
@@ -100,8 +124,8 @@ fn leave(
     why: u8,
 ) -> Done
     requires { ⌜ Valued (now (now s)) (now values) × (KeepsPlan (now (now s)) (now plan) × (At (now (now s)) k (now state) × ((at .steps ≤ limits .steps) × (limits .steps ≤ mostSteps)))) ⌝ }
-    requires { ⌜ (f ≡ frontOf (now (now s)) k (own (now state)) (length (now state))) × Rests (now (now s)) k (now state) (now values) f why ⌝ }
-    ensures { λ r. ⌜ Settles (limits .steps) (left (now (now (s .entry))) k (now (state .entry))) (now (values .entry)) (left (now (now (s .entry))) k (now (state .exit))) (at .steps) (at .lines) why (r .why) (r .at .steps) (r .at .lines) ⌝ }
+    requires { ⌜ (mover < f .form → (f ≡ frontOf (now (now s)) k (own (now state)) (length (now state))) × Rests (now (now s)) k (now state) (now values) f why) ⌝ }
+    ensures { λ r. ⌜ (f .form ≤ mover → (r ≡ doneAt why (at .steps) (at .lines)) × (now (state .exit) ≡ now (state .entry))) × (mover < f .form → Settles (limits .steps) (left (now (now (s .entry))) k (now (state .entry))) (now (values .entry)) (left (now (now (s .entry))) k (now (state .exit))) (at .steps) (at .lines) why (r .why) (r .at .steps) (r .at .lines)) ⌝ }
 {
     let form = f.form;
     if form < forms::BEFORE {
@@ -143,39 +167,50 @@ pub fn advance(
 {
     let mut now = at;
     loop {
-        let e = enter(s, plan, seen, values, state, log, limits, now, k);
-        let why = e.why;
-        let entered = e.at;
-        if why == INTO {
-            let f = e.front;
-            let from = f.from;
-            let to = f.to;
-            let part = &mut state[from..to];
-            let r = advance(
-                s,
-                plan,
-                seen,
-                values,
-                part,
-                log,
-                limits,
-                entered,
-                f.child,
-            );
-            if moves::SPENT <= r.why {
-                return r;
-            }
-            let advanced = r.at;
-            let l = leave(s, plan, values, state, limits, advanced, k, f, r.why);
-            if l.why != moves::AGAIN {
-                return l;
-            }
-            now = l.at;
-        } else {
-            if why != moves::AGAIN {
-                return Done { why, at: entered };
-            }
-            now = entered;
+        let next = find_next(s, plan, values, state, k);
+        if next.why < INTO {
+            return Done {
+                why: next.why,
+                at: now,
+            };
         }
+        let f = next.front;
+        let from = f.from;
+        let to = f.to;
+        let part = &mut state[from..to];
+        let moving = next.why == MOVING;
+        let r = advance_front(s, plan, seen, values, part, log, limits, now, f.child, moving);
+        if moves::SPENT <= r.why {
+            return r;
+        }
+        let reached = r.at;
+        let l = leave(s, plan, values, state, limits, reached, k, f, r.why);
+        if l.why != moves::AGAIN {
+            return l;
+        }
+        now = l.at;
     }
+}
+
+// The part in front, node k: one move, or as far as it goes.
+fn advance_front(
+    s: &&[u8],
+    plan: &[usize; Script::MAX_PARTS],
+    seen: &[u8; Script::MAX_NAMES],
+    values: &mut [i32],
+    state: &mut [u8],
+    log: &mut [u32],
+    limits: Limits,
+    at: Counts,
+    k: usize,
+    moving: bool,
+) -> Done
+    requires { ⌜ Valued (now (now s)) (now values) × (KeepsPlan (now (now s)) (now plan) × (At (now (now s)) k (now state) × Counted (limits .steps) (now log) (at .steps) (at .lines))) ⌝ }
+    requires { ⌜ (moving ≡ true → frontOf (now (now s)) k (own (now state)) (length (now state)) .form ≡ mover) ⌝ }
+    ensures { λ r. ⌜ Advances (seenIn (now (seen .entry))) (limits .steps) (length (now (log .entry)) / 4) (runningAt (now (now (s .entry))) k (now (state .entry)) (now (values .entry)) (now (log .entry)) (at .steps) (limits .instant) (at .lines)) (runningAt (now (now (s .entry))) k (now (state .exit)) (now (values .exit)) (now (log .exit)) (r .at .steps) (limits .instant) (r .at .lines)) (r .why) × ((moving ≡ true → IsWriter (partOf (now (now (s .entry))) (node (now (now (s .entry))) k) .kind)) → 0 < r .why) ⌝ }
+{
+    if moving {
+        return moves::move_own(s, plan, seen, values, state, log, limits, at, k);
+    }
+    advance(s, plan, seen, values, state, log, limits, at, k)
 }

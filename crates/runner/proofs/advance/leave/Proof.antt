@@ -6,7 +6,9 @@ use native.Mathlib.Numerals.{add-one}
 use native.Mathlib.Omega.{arith}
 use denote.Ref.{now}
 use lib.ListN.{set}
+use Prim.Native.Nat.{_<_}
 use Rattle.plan.specs.declared.forms.Front.{Front}
+use Rattle.plan.specs.Forms.{mover}
 use Rattle.residual.specs.Residual.{own}
 use Rattle.moves.specs.Moves.{Silent}
 use Rattle.residual.specs.Nodes.{left}
@@ -21,9 +23,9 @@ use Rattle.runner.proofs.advance.leave.Tie as tie
 
 -- what is found of the node
 found :
-    (c : tie.Start) →
+    (c : tie.Start) → mover < c .args .f .form →
     Found (now (now (c .args .s))) (now (c .args .values)) (c .args .k) (now (c .args .state)) (c .args .f)
-found c = record { valued = c .pre .0 .0; at = c .pre .0 .1 .1 .0; front = c .pre .1 .0 }
+found c h = record { valued = c .pre .0 .0; at = c .pre .0 .1 .1 .0; front = c .pre .1 h .0 }
 
 -- the node moves: its part in front is nil, or what is behind it can move in its place
 moves-on :
@@ -36,7 +38,8 @@ moves-on :
     (now (start .args .values))
 moves-on c =
     let start = c .before .before .before in
-    settles (now (now (start .args .s))) (start .args .k) (now (start .args .state)) (start .args .f) (now (start .args .values)) (sees (found start)) (start .pre .1 .1) (c .before .if1 .left)
+    let h : mover < start .args .f .form = omega (arith, c .before .if1 .left) in
+    settles (now (now (start .args .s))) (start .args .k) (now (start .args .state)) (start .args .f) (now (start .args .values)) (sees (found start h)) (start .pre .1 h .1) (c .before .if1 .left)
     (λ e.
     ⊎-elim
     (λ t. subst (RearWaits (now (now (start .args .s))) (start .args .k) (now (start .args .state)) (now (start .args .values)) (start .args .f .form)) (t .3 .left) (t .2 .ensures))
@@ -45,15 +48,18 @@ moves-on c =
 
 returns : tie.Need-returns
 returns c =
-    let start = c .before .before in
-    let r = start .pre .1 .1 in
-    let same = rests-alone (now (now (start .args .s))) (start .args .k) (now (start .args .state)) (start .args .f) (now (start .args .values)) (sees (found start)) (r .part) (c .if1 .taken) in
-    restsOn refl refl refl refl (λ e. same .0 ∙ r .gone e) (λ e. same .1 ∙ r .waits e)
+    let start = c .before .before in (
+      λ l. (refl, refl),
+      λ h.
+          let r = start .pre .1 h .1 in
+          let same = rests-alone (now (now (start .args .s))) (start .args .k) (now (start .args .state)) (start .args .f) (now (start .args .values)) (sees (found start h)) h (c .if1 .taken) in
+          restsOn refl refl refl refl (λ e. same .0 ∙ r .gone e) (λ e. same .1 ∙ r .waits e),
+    )
 
 rear-waits-requires : tie.Need-rear-waits-requires
 rear-waits-requires c κs =
     let start = c .before .before .before .before in
-    ((start .pre .0 .0, (start .pre .0 .1 .0, start .pre .0 .1 .1 .0)), ap (λ (x : Front). x .form) (start .pre .1 .0))
+    ((start .pre .0 .0, (start .pre .0 .1 .0, start .pre .0 .1 .1 .0)), ap (λ (x : Front). x .form) (start .pre .1 (omega (arith, c .before .before .if1 .left)) .0))
 
 same-length : tie.Need-same-length
 same-length c = search needs
@@ -61,14 +67,18 @@ same-length c = search needs
 returns-2 : tie.Need-returns-2
 returns-2 c =
     let start = c .before .before .before .before .before .before in
-    let r = start .pre .1 .1 in
-    restsOn refl refl refl refl (λ e. absurd (omega (arith, e, c .before .before .before .if2 .taken)))
-    (λ e. sym (waiting-front (found start) (r .part) (r .shown) (r .waits e) (subst (RearWaits (now (now (start .args .s))) (start .args .k) (now (start .args .state)) (now (start .args .values)) (start .args .f .form)) (c .if3 .taken) (c .before .rear-waits .ensures))))
+    let h : mover < start .args .f .form = omega (arith, c .before .before .before .before .if1 .left) in
+    let r = start .pre .1 h .1 in
+    (λ l. absurd (omega (arith, l, h)),
+    λ _. restsOn refl refl refl refl (λ e. absurd (omega (arith, e, c .before .before .before .if2 .taken)))
+    (λ e. sym (waiting-front (found start h) (r .part) (r .shown) (r .waits e) (subst (RearWaits (now (now (start .args .s))) (start .args .k) (now (start .args .state)) (now (start .args .values)) (start .args .f .form)) (c .if3 .taken) (c .before .rear-waits .ensures)))))
 
 returns-3 : tie.Need-returns-3
 returns-3 c =
     let start = c .before .before .before .before .before .before in
-    atLimit refl refl refl refl (moves-on (c .before .before .before) .0) (le-antisymm (start .pre .0 .1 .1 .1 .0) (c .if4 .taken))
+    let h : mover < start .args .f .form = omega (arith, c .before .before .before .before .if1 .left) in
+    (λ l. absurd (omega (arith, l, h)),
+    λ _. atLimit refl refl refl refl (moves-on (c .before .before .before) .0) (le-antisymm (start .pre .0 .1 .1 .1 .0) (c .if4 .taken)))
 
 slice-read-byte-after : tie.Need-slice-read-byte-after
 slice-read-byte-after c =
@@ -78,7 +88,7 @@ slice-read-byte-after c =
 byte-after-requires : tie.Need-byte-after-requires
 byte-after-requires c κs =
     let start = c .before .before .before .before .before .before .before in
-    byte-bound (now (now (start .args .s))) (start .args .k) (now (start .args .state)) (start .args .f) (now (start .args .values)) (sees (found start)) (c .before .before .before .before .before .if1 .left)
+    byte-bound (now (now (start .args .s))) (start .args .k) (now (start .args .state)) (start .args .f) (now (start .args .values)) (sees (found start (omega (arith, c .before .before .before .before .before .if1 .left)))) (c .before .before .before .before .before .if1 .left)
 
 slice-write-state : tie.Need-slice-write-state
 slice-write-state c =
@@ -94,7 +104,9 @@ same-length-2 c = search needs
 returns-4 : tie.Need-returns-4
 returns-4 c =
     let start = c .before .before .before .before .before .before .before .before .before in
-    makesMove refl (add-one (start .args .at .steps)) refl (c .before .before .before .if4 .left) (rw (c .before .byte-after .ensures) (moves-on (c .before .before .before .before .before .before)))
+    let h : mover < start .args .f .form = omega (arith, c .before .before .before .before .before .before .before .if1 .left) in
+    (λ l. absurd (omega (arith, l, h)),
+    λ _. makesMove refl (add-one (start .args .at .steps)) refl (c .before .before .before .if4 .left) (rw (c .before .byte-after .ensures) (moves-on (c .before .before .before .before .before .before))))
 
 pub leave-spec : {M : Type 1} → statement M
 leave-spec =
