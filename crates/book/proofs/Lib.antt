@@ -1,4 +1,2 @@
--- Laws that the proofs of several functions use, and what a book in order is.
+-- Laws that the proofs of several functions use.
 pub mod Sizes
-pub mod Faults
-pub mod Loads

@@ -1,13 +1,12 @@
 -- 01, 'Level book': what the bytes of a book say.
 use mathlib.Core.Bool.{Bool, _&&_}
 use mathlib.Core.List.{List}
-use Prim.Native.Nat.{ℕ, _+_, _*_, _^_, _≤_, _<_}
+use Prim.Native.Nat.{ℕ, _+_, _*_}
 use lib.Dec.{eqb, leb}
 use lib.ListN.{getD, length}
 use Rattle.prelude.specs.Table.{table}
 use Rattle.prelude.specs.Numbers.{word}
 use Rattle.prelude.specs.Sets.{has}
-use Rattle.book.specs.Order.{PartialOrder}
 
 -- the most levels that a book has; a later request widens it
 abbrev pub mostLevels : ℕ
@@ -33,9 +32,3 @@ rows s = table (row s) mostLevels
 -- "Bit j of row i (bit 0 lowest) says that level i is at or below level j."
 abbrev pub atOrBelow : List ℕ → ℕ → ℕ → Bool
 atOrBelow rs i j = has (getD rs i 0) j
-
--- Rows of n levels in order: a partial order of the n levels, and no bit at n or above.
-pub record InOrder (rs : List ℕ) (n : ℕ) : Type 0 where
-  pub few : n ≤ mostLevels
-  pub inside : (i : ℕ) → i < n → getD rs i 0 < 2 ^ n
-  pub order : PartialOrder (atOrBelow rs) n

@@ -1,5 +1,3 @@
--- The level book: orders of levels, the bytes of a book, refusals 1 and 2.
-pub mod Order
+-- The level book: what its bytes say.
 pub mod LevelBook
-pub mod Refusals
 pub mod Load

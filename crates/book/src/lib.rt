@@ -1,14 +1,13 @@
-// The level book as it stands in its file: any bytes in; out comes a book in order, or refusal 1 or 2.
+// The level book as it stands in its file: a checked book by value, sets of levels, and the book that bytes make.
 pub mod sets; // sets.rt: sets of levels as numbers
-mod read; // read.rt: the book from its bytes, refusal 1
-mod order; // order.rt: the faults of refusal 2
+pub mod read; // read.rt: the book from its bytes, refusal 1
 
 use prelude::Refusal;
 ghost use mathlib.Core.Path.{_≡_};
 ghost use Prim.Native.Nat.{_*_, _<_, _≤_};
-ghost use Rattle.prelude.specs.Refusals.{refusedBy, notRefused};
+ghost use Rattle.prelude.specs.Refusals.{refusedBy};
 ghost use Rattle.book.specs.LevelBook.{mostLevels, atOrBelow};
-ghost use Rattle.book.specs.Load.{answer, noBook, loaded};
+ghost use Rattle.book.specs.Load.{answer, noBook};
 
 // The number of levels, and for each level the set of the levels that it is at or below: bit j for level j.
 pub struct Book {
@@ -38,6 +37,7 @@ pub fn at_or_below(b: Book, i: usize, j: usize) -> bool
     sets::has(b.rows[i], j)
 }
 
+// A refusal, with the empty book beside it.
 pub fn refused(number: u32, place: usize) -> Loaded
     requires { ⌜ place ≤ mostLevels * mostLevels ⌝ }
     ensures { λ r. ⌜ r ≡ answer (refusedBy number place) noBook ⌝ }
@@ -52,31 +52,4 @@ pub fn refused(number: u32, place: usize) -> Loaded
             rows: [0u16; Book::MAX_LEVELS],
         },
     }
-}
-
-fn accepted(b: Book) -> Loaded
-    ensures { λ r. ⌜ r ≡ answer notRefused b ⌝ }
-{
-    Loaded {
-        refusal: Refusal {
-            number: 0,
-            place: 0,
-        },
-        book: b,
-    }
-}
-
-// Checks the size and the order of a level book of any bytes.
-pub fn load(s: &[u8]) -> Loaded
-    ensures { λ r. ⌜ r ≡ loaded (now (s .entry)) ⌝ }
-{
-    if !read::size_is_right(s) {
-        return refused(1, 0);
-    }
-    let b = read::read_book(s);
-    let faulty = order::first_faulty(b);
-    if faulty < b.count {
-        return refused(2, faulty);
-    }
-    accepted(b)
 }

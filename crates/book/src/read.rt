@@ -35,10 +35,11 @@ fn row_at(s: &[u8], i: usize) -> u16
     requires { ⌜ (i < mostLevels) × (length (now s) ≡ 1 + 2 * count (now s)) ⌝ }
     ensures { λ r. ⌜ r ≡ row (now (s .entry)) i ⌝ }
 {
-    if s.len() <= 2 + 2 * i {
+    let low = 2 + 2 * i;
+    if s.len() <= low {
         return 0;
     }
-    prelude::word_of(s[1 + 2 * i], s[2 + 2 * i])
+    prelude::word_of(s[low - 1], s[low])
 }
 
 fn read_rows(s: &[u8]) -> [u16; Book::MAX_LEVELS]

@@ -4,8 +4,8 @@ use mathlib.Core.Path.{refl}
 use Rattle.prelude.specs.Search.{firstFrom, first, any, all, count}
 use Rattle.prelude.specs.Course.{course, entry}
 use Rattle.prelude.specs.Table.{table}
-use Rattle.book.specs.Order.{leastUpper, top}
-use Rattle.book.specs.Refusals as orders
+use Rattle.order.specs.Order.{leastUpper, top}
+use Rattle.order.specs.Refusals as orders
 use Rattle.pairs.specs.Refusals as pairs
 use Rattle.lattice.specs.Refusals as books
 use Rattle.language.specs.Values.{clamped, quotient}

@@ -5,7 +5,7 @@ use mathlib.Core.Bool.{true, cond}
 use mathlib.Core.List.{List}
 use Prim.Native.Nat.{ℕ}
 use Rattle.book.specs.declared.Loaded.{Loaded}
-use Rattle.book.specs.Order.{LevelLattice}
+use Rattle.order.specs.Order.{LevelLattice}
 use Rattle.book.specs.LevelBook.{count}
 use Rattle.lattice.specs.Refusals.{isAccepted}
 use Rattle.book.specs.Load.{bookOf, noBook}

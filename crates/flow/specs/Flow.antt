@@ -5,8 +5,8 @@ use mathlib.Core.List.{List}
 use Prim.Native.Nat.{ℕ, _≤_, _<_}
 use Rattle.prelude.specs.Search.{first}
 use Rattle.book.specs.declared.Book.{Book}
-use Rattle.book.specs.Order as orders
-use Rattle.book.specs.Order.{Relation, leastUpper, greatestLower, LevelLattice}
+use Rattle.order.specs.Order as orders
+use Rattle.order.specs.Order.{Relation, leastUpper, greatestLower, LevelLattice}
 use Rattle.book.specs.LevelBook.{mostLevels, atOrBelow}
 use Rattle.pairs.specs.Bounds.{Keeps}
 use Rattle.lattice.specs.Lattice.{Lattice, latticeOf}

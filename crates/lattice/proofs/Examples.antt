@@ -4,8 +4,8 @@ use mathlib.Core.Path.{_≡_, refl}
 use mathlib.Core.Bool.{true}
 use Rattle.prelude.specs.Search.{firstFrom, first, any, all}
 use Rattle.prelude.specs.Table.{table}
-use Rattle.book.specs.Order.{leastUpper}
-use Rattle.book.specs.Refusals as orders
+use Rattle.order.specs.Order.{leastUpper}
+use Rattle.order.specs.Refusals as orders
 use Rattle.pairs.specs.Refusals.{firstLacking}
 use Rattle.lattice.specs.Refusals.{refusal}
 use Rattle.lattice.specs.Examples.{books, allComeOut}

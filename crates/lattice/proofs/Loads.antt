@@ -12,11 +12,12 @@ use Rattle.prelude.specs.Refusals.{refusedBy, notRefused, passes}
 use Rattle.prelude.proofs.Searches.{first-within}
 use Rattle.book.specs.declared.Loaded.{Loaded}
 use Rattle.book.specs.declared.Book.{Book}
-use Rattle.book.specs.LevelBook.{mostLevels, count, rows, atOrBelow, InOrder}
-use Rattle.book.specs.Refusals as orders
-use Rattle.book.specs.Load as orders-load
+use Rattle.book.specs.LevelBook.{mostLevels, count, rows, atOrBelow}
+use Rattle.order.specs.Rows.{InOrder}
+use Rattle.order.specs.Refusals as orders
+use Rattle.order.specs.Load as orders-load
 use Rattle.book.specs.Load.{answer, noBook, bookOf}
-use Rattle.book.proofs.Loads.{passing-refusal, passing-order}
+use Rattle.order.proofs.Loads.{passing-refusal, passing-order}
 use Rattle.pairs.specs.Refusals.{firstLacking}
 use Rattle.pairs.specs.Bounds.{Paired}
 use Rattle.lattice.specs.Refusals.{refusal, isAccepted}

@@ -13,10 +13,11 @@ use Rattle.prelude.specs.Search.{first}
 use Rattle.prelude.specs.Refusals.{refusedBy, notRefused, passes}
 use Rattle.prelude.proofs.Bools.{or-left, or-right}
 use Rattle.prelude.proofs.Searches.{first-within, first-at-end, NoneBelow}
-use Rattle.book.specs.Order.{Relation, converse, isLeastUpper, leastUpper}
-use Rattle.book.specs.LevelBook.{mostLevels, count, sizeIsRight, rows, atOrBelow, InOrder}
-use Rattle.book.specs.Refusals as orders
-use Rattle.book.proofs.Loads.{passing-size, passing-order}
+use Rattle.order.specs.Order.{Relation, converse, isLeastUpper, leastUpper}
+use Rattle.book.specs.LevelBook.{mostLevels, count, sizeIsRight, rows, atOrBelow}
+use Rattle.order.specs.Rows.{InOrder}
+use Rattle.order.specs.Refusals as orders
+use Rattle.order.proofs.Loads.{passing-size, passing-order}
 use Rattle.pairs.specs.Refusals.{lacksUpper, firstLacking}
 use Rattle.pairs.proofs.Sweeps.{quotient, remainder}
 use Rattle.lattice.specs.Refusals.{refusal, isAccepted}

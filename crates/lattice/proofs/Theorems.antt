@@ -9,12 +9,13 @@ use native.Mathlib.Omega.{arith}
 use borrow.Author.Tests.{lt-ltb, le-ltb}
 use Rattle.prelude.proofs.Bools.{by-cases}
 use Rattle.book.specs.declared.Loaded.{Loaded}
-use Rattle.book.specs.Order.{Relation, leastUpper, greatestLower, LevelLattice}
+use Rattle.order.specs.Order.{Relation, leastUpper, greatestLower, LevelLattice}
 use Rattle.book.specs.LevelBook.{mostLevels, count, rows, atOrBelow}
 use Rattle.lattice.specs.Refusals.{isAccepted}
 use Rattle.book.specs.Load.{bookOf, noBook}
 use Rattle.book.proofs.Sizes.{some, few}
-use Rattle.pairs.proofs.Orders.{dual, least-uppers}
+use Rattle.order.proofs.Duals.{dual}
+use Rattle.pairs.proofs.Orders.{least-uppers}
 use Rattle.lattice.specs.Load.{loaded, Loads}
 use Rattle.lattice.specs.Lattice.{Laws, asLevel, latticeOf, bookLattice}
 use Rattle.lattice.proofs.Passing.{Passing, passing, uppers, lowers}

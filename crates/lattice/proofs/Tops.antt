@@ -7,7 +7,7 @@ use native.Mathlib.Decide.{decLt}
 use native.Mathlib.Omega.{arith}
 use Rattle.prelude.specs.Search.{first, all}
 use Rattle.prelude.proofs.Searches.{first-holds, first-found, all-intro, all-elim}
-use Rattle.book.specs.Order.{Relation, leastUpper, top, PartialOrder, LeastUppers, Greatest}
+use Rattle.order.specs.Order.{Relation, leastUpper, top, PartialOrder, LeastUppers, Greatest}
 
 module _ (R : Relation) (n : ℕ) (o : PartialOrder R n) (w : LeastUppers R n (leastUpper R n)) where
   -- a level that the levels below m are at or below

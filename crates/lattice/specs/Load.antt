@@ -4,7 +4,7 @@ use mathlib.Core.Bool.{true, cond}
 use mathlib.Core.List.{List}
 use Prim.Native.Nat.{ℕ}
 use Rattle.book.specs.declared.Loaded.{Loaded}
-use Rattle.book.specs.Order.{leastUpper, greatestLower}
+use Rattle.order.specs.Order.{leastUpper, greatestLower}
 use Rattle.book.specs.LevelBook.{count, rows, atOrBelow}
 use Rattle.book.specs.Load.{answer, noBook, bookOf}
 use Rattle.pairs.specs.Bounds.{Keeps}

@@ -6,7 +6,7 @@ use lib.Dec.{ltb}
 use Rattle.prelude.specs.declared.Refusal.{Refusal}
 use Rattle.prelude.specs.Refusals.{refusedBy, notRefused, passes}
 use Rattle.book.specs.LevelBook.{mostLevels, count, rows, atOrBelow}
-use Rattle.book.specs.Refusals as orders
+use Rattle.order.specs.Refusals as orders
 use Rattle.pairs.specs.Refusals.{firstLacking}
 
 -- "The lowest number that applies is given": 1 and 2, then 3

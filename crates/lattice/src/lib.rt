@@ -8,7 +8,7 @@ ghost use mathlib.Core.Path.{_≡_};
 ghost use Prim.Native.Nat.{_≤_};
 ghost use Rattle.prelude.specs.Search.{all};
 ghost use Rattle.prelude.specs.Sets.{IsSet};
-ghost use Rattle.book.specs.Order.{top, bottom};
+ghost use Rattle.order.specs.Order.{top, bottom};
 ghost use Rattle.book.specs.LevelBook.{mostLevels, atOrBelow};
 ghost use Rattle.pairs.specs.Bounds.{Square};
 ghost use Rattle.lattice.specs.Load.{Loads};
@@ -19,7 +19,7 @@ pub fn load(s: &[u8], join: &mut PairTable, meet: &mut PairTable) -> Loaded
     requires { ⌜ Square mostLevels (now join) × Square mostLevels (now meet) ⌝ }
     ensures { λ r. ⌜ Loads (now (s .entry)) r (now (join .exit)) (now (meet .exit)) ⌝ }
 {
-    let loaded = book::load(s);
+    let loaded = order::load(s);
     if loaded.refusal.number != 0 {
         return loaded;
     }

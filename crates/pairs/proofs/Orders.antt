@@ -9,15 +9,7 @@ use borrow.Author.Tests.{not-true, not-false}
 use Rattle.prelude.specs.Search.{any}
 use Rattle.prelude.proofs.Bools.{fails, and-intro, and-left, and-right, and-swap}
 use Rattle.prelude.proofs.Searches.{first-holds, first-is, first-same, any-none, any-same, none-of-any}
-use Rattle.book.specs.Order.{Relation, converse, missed, isLeastUpper, leastUpper, PartialOrder, LeastUppers}
-
-pub dual : (R : Relation) (n : ℕ) → PartialOrder R n → PartialOrder (converse R) n
-dual R n o =
-    record {
-      reflexive = o .reflexive;
-      antisymmetric = λ i j a b u v. o .antisymmetric i j a b v u;
-      transitive = λ i j k a b c u v. o .transitive k j i c b a v u;
-    }
+use Rattle.order.specs.Order.{Relation, missed, isLeastUpper, leastUpper, PartialOrder, LeastUppers}
 
 module _ (R : Relation) (n : ℕ) where
   -- k is a common upper level of i and j, and at or below each

@@ -11,12 +11,13 @@ use borrow.Author.Tests.{leb-true, leb-false}
 use Rattle.prelude.specs.Search.{lesser}
 use Rattle.prelude.proofs.Searches.{first-or, first-within}
 use Rattle.prelude.proofs.Bools.{by-cases}
-use Rattle.book.specs.Order.{Relation, converse, leastUpper, PartialOrder}
-use Rattle.book.specs.LevelBook.{mostLevels, atOrBelow, InOrder}
+use Rattle.order.specs.Order.{Relation, converse, leastUpper, PartialOrder}
+use Rattle.book.specs.LevelBook.{mostLevels, atOrBelow}
+use Rattle.order.specs.Rows.{InOrder, converseRows}
+use Rattle.order.proofs.Duals.{dual, upside-down}
 use Rattle.pairs.specs.Refusals.{lacksUpper, firstLacking}
-use Rattle.pairs.specs.Bounds.{kept, Keeps, Swept, Paired, converseRows}
-use Rattle.pairs.proofs.Orders.{dual, least-swap, least-own}
-use Rattle.pairs.proofs.Rows.{upside-down}
+use Rattle.pairs.specs.Bounds.{kept, Keeps, Swept, Paired}
+use Rattle.pairs.proofs.Orders.{least-swap, least-own}
 use Rattle.pairs.proofs.Sweeps.{swept-same}
 
 -- a sweep that found no pair lacking has filled the table

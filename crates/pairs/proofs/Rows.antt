@@ -1,24 +1,21 @@
--- Rows as sets: in an order the least common upper level of a pair is the one whose row is what the two rows share;
--- and the order upside down is an order.
+-- Rows as sets: in an order the least common upper level of a pair is the one whose row is what the two rows share.
 -- Assumes nothing.
-use mathlib.Core.Path.{_≡_, sym, ap, _∙_, subst}
+use mathlib.Core.Path.{_≡_, sym, ap, _∙_}
 use mathlib.Core.Bool.{true, false, _&&_, true≢false}
 use mathlib.Core.List.{List}
-use Prim.Native.Nat.{ℕ, _^_, _<_}
+use Prim.Native.Nat.{ℕ, _<_}
 use native.Mathlib.Nat.{lt-of-le-of-lt}
-use native.Mathlib.Omega.{arith}
 use lib.ListN.{getD}
 use lib.Bits.{bitAnd, and-le-l}
 use Rattle.prelude.specs.Search.{first}
 use Rattle.prelude.specs.Sets.{has}
 use Rattle.prelude.proofs.Bools.{fails, and-intro, and-left, and-right, same-truth}
 use Rattle.prelude.proofs.Searches.{NoneBelow, first-passed}
-use Rattle.prelude.proofs.Sets.{has-both, same-set, set-is, set-lt}
-use Rattle.prelude.proofs.Tables.{table-at}
-use Rattle.book.specs.Order.{converse, isLeastUpper, PartialOrder}
-use Rattle.book.specs.LevelBook.{mostLevels, atOrBelow, InOrder}
-use Rattle.pairs.specs.Bounds.{converseRows}
-use Rattle.pairs.proofs.Orders.{dual, IsLeastUpper, test-sound, test-complete}
+use Rattle.prelude.proofs.Sets.{has-both, same-set}
+use Rattle.order.specs.Order.{isLeastUpper}
+use Rattle.book.specs.LevelBook.{mostLevels, atOrBelow}
+use Rattle.order.specs.Rows.{InOrder}
+use Rattle.pairs.proofs.Orders.{IsLeastUpper, test-sound, test-complete}
 
 module _ (rs : List ℕ) (n i j : ℕ) where
   -- the levels that both i and j are at or below
@@ -61,31 +58,3 @@ module _ (rs : List ℕ) (n i j : ℕ) where
 
     pub not-least : (getD rs k 0 ≡ uppers → ⊥) → isLeastUpper (atOrBelow rs) n i j k ≡ false
     not-least ne = fails _ (λ e. ne (same-row (test-sound (atOrBelow rs) n i j k e)))
-
-module _ (rs : List ℕ) (n : ℕ) where
-  pub upside-down : (i j : ℕ) → i < mostLevels → j < n → atOrBelow (converseRows rs n) i j ≡ converse (atOrBelow rs) i j
-  unfolding converseRows
-  upside-down i j a b =
-      ap (λ set. has set j) (table-at _ mostLevels i 0 a) ∙ set-is (λ k. atOrBelow rs k i) n j b
-
-  pub converse-in-order : InOrder rs n → InOrder (converseRows rs n) n
-  unfolding converseRows
-  converse-in-order w =
-      let o : PartialOrder (converse (atOrBelow rs)) n = dual _ _ (w .order) in
-      let l = w .few in
-      let same : (i j : ℕ) → i < n → j < n → atOrBelow (converseRows rs n) i j ≡ converse (atOrBelow rs) i j =
-      λ i j a b. upside-down i j (omega arith) b
-      in
-      record {
-        few = l;
-        inside = λ i a. subst (λ k. k < 2 ^ n) (sym (table-at _ mostLevels i 0 (omega arith))) (set-lt _ n);
-        order =
-            record {
-              reflexive = λ i a. same i i a a ∙ o .reflexive i a;
-              antisymmetric =
-                  λ i j a b u v. o .antisymmetric i j a b (sym (same i j a b) ∙ u) (sym (same j i b a) ∙ v);
-              transitive =
-                  λ i j k a b c u v.
-                  same i k a c ∙ o .transitive i j k a b c (sym (same i j a b) ∙ u) (sym (same j k b c) ∙ v);
-            };
-      }

@@ -9,7 +9,7 @@ use native.Mathlib.Omega.{arith}
 use lib.Dec.{eqb, ltb}
 use borrow.Author.Tests.{lt-ltb, le-ltb, ltb-true, eq-eqb, ne-eqb}
 use Rattle.prelude.proofs.Searches.{first-is, first-none, first-same, any-same}
-use Rattle.book.specs.Order.{Relation, missed, isLeastUpper, leastUpper}
+use Rattle.order.specs.Order.{Relation, missed, isLeastUpper, leastUpper}
 use Rattle.book.specs.LevelBook.{mostLevels}
 use Rattle.pairs.specs.Refusals.{lacksUpper}
 use Rattle.pairs.specs.Bounds.{kept, Square, Swept}

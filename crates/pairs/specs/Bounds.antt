@@ -5,10 +5,8 @@ use mathlib.Core.List.{List, []}
 use Prim.Native.Nat.{ℕ, _<_, _*_}
 use lib.ListN.{getD, length}
 use Rattle.prelude.specs.Search.{first}
-use Rattle.prelude.specs.Sets.{setOf}
-use Rattle.prelude.specs.Table.{table}
-use Rattle.book.specs.Order.{Relation, leastUpper, greatestLower}
-use Rattle.book.specs.LevelBook.{mostLevels, atOrBelow}
+use Rattle.order.specs.Order.{Relation, leastUpper, greatestLower}
+use Rattle.book.specs.LevelBook.{mostLevels}
 use Rattle.pairs.specs.Refusals.{lacksUpper, firstLacking}
 
 -- what a table keeps for the pair of i and j
@@ -38,7 +36,3 @@ pub record Paired (R : Relation) (n : ℕ) (join meet : List (List ℕ)) (place 
   pub first-place : place ≡ firstLacking R n
   pub joins : place ≡ mostLevels * mostLevels → Keeps join n (leastUpper R n)
   pub meets : place ≡ mostLevels * mostLevels → Keeps meet n (greatestLower R n)
-
--- the rows of the order of n levels upside down: row j is the set of the levels that are at or below level j
-unfoldable pub converseRows : List ℕ → ℕ → List ℕ
-converseRows rs n = table (λ j. setOf (λ i. atOrBelow rs i j) n) mostLevels

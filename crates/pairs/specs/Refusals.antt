@@ -3,7 +3,7 @@ use mathlib.Core.Bool.{Bool, _&&_, _||_}
 use Prim.Native.Nat.{ℕ, _*_, _/_, _%_}
 use lib.Dec.{eqb, ltb}
 use Rattle.prelude.specs.Search.{first}
-use Rattle.book.specs.Order.{Relation, converse, leastUpper}
+use Rattle.order.specs.Order.{Relation, converse, leastUpper}
 use Rattle.book.specs.LevelBook.{mostLevels}
 
 -- "a pair i < j lacks one", at the place 16 i + j

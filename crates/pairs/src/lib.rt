@@ -1,11 +1,11 @@
 // The pairs of a book's levels: the join and the meet of each, found once and kept; refusal 3.
-mod converse; // converse.rt: the order upside down
-
 use book::Book;
 use book::sets;
+use order::converse;
 ghost use mathlib.Core.Path.{_≡_};
 ghost use Prim.Native.Nat.{_<_};
-ghost use Rattle.book.specs.LevelBook.{mostLevels, atOrBelow, InOrder};
+ghost use Rattle.book.specs.LevelBook.{mostLevels, atOrBelow};
+ghost use Rattle.order.specs.Rows.{InOrder};
 ghost use Rattle.pairs.specs.Bounds.{kept, Square, Swept, Paired};
 
 // A level for each pair of levels.

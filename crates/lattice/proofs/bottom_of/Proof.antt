@@ -12,7 +12,7 @@ use Rattle.prelude.specs.Sets.{has, outside}
 use Rattle.prelude.proofs.Bools.{and-second}
 use Rattle.prelude.proofs.Searches.{NoneBelow, past, first-is, first-none, any-same}
 use Rattle.prelude.proofs.Sets.{has-full}
-use Rattle.book.specs.Order.{top}
+use Rattle.order.specs.Order.{top}
 use Rattle.book.specs.LevelBook.{mostLevels, atOrBelow}
 use Rattle.lattice.proofs.bottom_of.Statement.{statement}
 use Rattle.lattice.proofs.bottom_of.Tie as tie

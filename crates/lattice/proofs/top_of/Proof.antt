@@ -6,7 +6,7 @@ use borrow.Author.Needs.{needs}
 use Rattle.prelude.specs.Search.{first, all, lesser}
 use Rattle.prelude.specs.Sets.{has, IsSet}
 use Rattle.prelude.proofs.Searches.{first-same, first-sooner}
-use Rattle.book.specs.Order.{top}
+use Rattle.order.specs.Order.{top}
 use Rattle.book.specs.LevelBook.{mostLevels, atOrBelow}
 use Rattle.lattice.proofs.top_of.Statement.{statement}
 use Rattle.lattice.proofs.top_of.Tie as tie

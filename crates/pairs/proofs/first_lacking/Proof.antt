@@ -1,8 +1,8 @@
 -- `first_lacking`: the two sweeps together (`Pairs`).
 use mathlib.Core.Path.{sym, subst}
 use borrow.Author.Needs.{needs}
-use Rattle.book.specs.LevelBook.{InOrder}
-use Rattle.pairs.proofs.Rows.{converse-in-order}
+use Rattle.order.specs.Rows.{InOrder}
+use Rattle.order.proofs.Duals.{converse-in-order}
 use Rattle.pairs.proofs.Pairs.{paired}
 use Rattle.pairs.proofs.first_lacking.Statement.{statement}
 use Rattle.pairs.proofs.first_lacking.Tie as tie

@@ -5,8 +5,9 @@ use Prim.Native.Nat.{ℕ, _+_, _*_, _-_, _≤_, _<_}
 use native.Mathlib.Omega.{arith}
 use borrow.Author.Count.{below-more}
 use Rattle.prelude.proofs.Searches.{NoneBelow, past, first-is, first-none}
-use Rattle.book.specs.Order.{isLeastUpper, leastUpper}
-use Rattle.book.specs.LevelBook.{mostLevels, atOrBelow, InOrder}
+use Rattle.order.specs.Order.{isLeastUpper, leastUpper}
+use Rattle.book.specs.LevelBook.{mostLevels, atOrBelow}
+use Rattle.order.specs.Rows.{InOrder}
 use Rattle.pairs.specs.Bounds.{Swept}
 use Rattle.pairs.proofs.Rows.{none-sooner, is-least, not-least}
 use Rattle.pairs.proofs.Sweeps.{Done, start, own-next, pair-next, row-next, finish, stop}

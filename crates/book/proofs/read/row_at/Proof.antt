@@ -1,11 +1,12 @@
 -- `row_at`: a row that the book lacks is 0, since its bytes lie past the end.
-use mathlib.Core.Path.{_≡_, sym}
-use native.Mathlib.Omega.{arith}
-use Prim.Native.Nat.{ℕ, _+_, _*_, _≤_}
-use lib.ListN.{getD, length, List·getD-eq-default}
+use mathlib.Core.Path.{_≡_, sym, ap, _∙_}
 use mathlib.Core.List.{List}
-use Rattle.book.specs.LevelBook.{count, row}
+use native.Mathlib.Omega.{arith}
+use Prim.Native.Nat.{ℕ, _+_, _*_, _-_, _≤_}
+use lib.ListN.{getD, length, List·getD-eq-default}
 use borrow.Author.Needs.{needs}
+use Rattle.prelude.specs.Numbers.{word}
+use Rattle.book.specs.LevelBook.{count, row}
 use Rattle.book.proofs.read.row_at.Statement.{statement}
 use Rattle.book.proofs.read.row_at.Tie as tie
 
@@ -16,29 +17,23 @@ no-row s i e h =
     let b : getD s (2 + 2 * i) 0 ≡ 0 = List·getD-eq-default s 0 (omega arith) in
     omega arith
 
-mul-if1 : tie.Need-mul-if1
-mul-if1 c = search needs
+row-is : (s : List ℕ) (i : ℕ) → word (getD s (2 + 2 * i - 1) 0) (getD s (2 + 2 * i) 0) ≡ row s i
+row-is s i = ap (λ k. word (getD s k 0) (getD s (2 + 2 * i) 0)) {x = 2 + 2 * i - 1} {y = 1 + 2 * i} (omega arith)
 
-add-if1 : tie.Need-add-if1
-add-if1 c = search needs
+mul-low : tie.Need-mul-low
+mul-low c = search needs
+
+add-low : tie.Need-add-low
+add-low c = search needs
 
 returns : tie.Need-returns
 returns c = sym (no-row (c .before .before .args .s .now) _ (c .before .before .pre .1) (c .if1 .taken))
 
-mul-word-of : tie.Need-mul-word-of
-mul-word-of c = search needs
-
-add-word-of : tie.Need-add-word-of
-add-word-of c = search needs
+sub-word-of : tie.Need-sub-word-of
+sub-word-of c = search needs
 
 shared-slice-read-word-of : tie.Need-shared-slice-read-word-of
 shared-slice-read-word-of c = search needs
-
-mul-word-of-2 : tie.Need-mul-word-of-2
-mul-word-of-2 c = search needs
-
-add-word-of-2 : tie.Need-add-word-of-2
-add-word-of-2 c = search needs
 
 shared-slice-read-word-of-2 : tie.Need-shared-slice-read-word-of-2
 shared-slice-read-word-of-2 c = search needs
@@ -47,20 +42,19 @@ word-of-requires : tie.Need-word-of-requires
 word-of-requires c κs = search needs
 
 returns-2 : tie.Need-returns-2
-returns-2 c = search needs
+returns-2 c =
+    let entry = c .before .before .before .before .before in
+    c .word-of .ensures ∙ row-is (entry .args .s .now) (entry .args .i)
 
 pub row-at-spec : {M : Type 1} → statement M
 row-at-spec =
     tie.close
     (tie.spec
-    mul-if1
-    add-if1
+    mul-low
+    add-low
     returns
-    mul-word-of
-    add-word-of
+    sub-word-of
     shared-slice-read-word-of
-    mul-word-of-2
-    add-word-of-2
     shared-slice-read-word-of-2
     word-of-requires
     returns-2)

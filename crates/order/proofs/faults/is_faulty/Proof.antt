@@ -1,4 +1,4 @@
--- `is_faulty`: each way out decides one test of the definition; the last goes by sets (`Faults`).
+-- `is_faulty`: each way out decides one test of the definition; the last goes by sets (`Faultless`).
 use mathlib.Core.Path.{_≡_, sym, ap, _∙_}
 use mathlib.Core.Bool.{true, _&&_}
 use native.Mathlib.Omega.{arith}
@@ -8,11 +8,11 @@ use borrow.Author.Tests.{not-true, not-false}
 use Rattle.prelude.specs.Search.{any}
 use Rattle.prelude.specs.Sets.{has, outside}
 use Rattle.prelude.proofs.Sets.{none-beyond}
 use Rattle.book.specs.LevelBook.{atOrBelow}
-use Rattle.book.specs.Refusals.{isFaulty}
-use Rattle.book.proofs.Faults.{faults-by-sets}
-use Rattle.book.proofs.order.is_faulty.Statement.{statement}
-use Rattle.book.proofs.order.is_faulty.Tie as tie
+use Rattle.order.specs.Refusals.{isFaulty}
+use Rattle.order.proofs.Faultless.{faults-by-sets}
+use Rattle.order.proofs.faults.is_faulty.Statement.{statement}
+use Rattle.order.proofs.faults.is_faulty.Tie as tie
 
 mul-row : tie.Need-mul-row
 mul-row c = search needs

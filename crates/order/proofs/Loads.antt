@@ -10,13 +10,15 @@ use borrow.Author.Tests.{ltb-false, lt-ltb, le-ltb, not-false}
 use Rattle.prelude.specs.Search.{first}
 use Rattle.prelude.specs.Refusals.{refusedBy, notRefused, passes}
 use Rattle.prelude.proofs.Searches.{first-within, first-at-end}
 use Rattle.book.specs.declared.Loaded.{Loaded}
 use Rattle.book.specs.declared.Book.{Book}
-use Rattle.book.specs.LevelBook.{count, sizeIsRight, rows, InOrder}
-use Rattle.book.specs.Refusals.{isFaulty, firstFaulty, refusal}
-use Rattle.book.specs.Load.{answer, noBook, bookOf, loaded}
+use Rattle.book.specs.LevelBook.{count, sizeIsRight, rows}
+use Rattle.order.specs.Rows.{InOrder}
+use Rattle.order.specs.Refusals.{isFaulty, firstFaulty, refusal}
+use Rattle.book.specs.Load.{answer, noBook, bookOf}
+use Rattle.order.specs.Load.{loaded}
 use Rattle.book.proofs.Sizes.{few}
-use Rattle.book.proofs.Faults.{in-order}
+use Rattle.order.proofs.Faultless.{in-order}
 
 module _ (s : List ℕ) (r : Loaded) where
   -- a refusal by a number other than 0

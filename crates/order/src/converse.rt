@@ -5,7 +5,7 @@ ghost use Prim.Native.Nat.{ℕ, _+_, _*_, _/_, _%_, _^_, _<_, _≤_};
 ghost use lib.ListN.{getD, length};
 ghost use Rattle.prelude.specs.Table.{table};
 ghost use Rattle.book.specs.LevelBook.{mostLevels};
-ghost use Rattle.pairs.specs.Bounds.{converseRows};
+ghost use Rattle.order.specs.Rows.{converseRows};
 
 // Adds level i, whose row is given, to the sets of the levels that it is at or below.
 fn add_level(below: &mut [u16; Book::MAX_LEVELS], row: u16, i: usize)

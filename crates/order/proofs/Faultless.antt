@@ -14,9 +14,10 @@ use Rattle.prelude.specs.Sets.{has, outside}
 use Rattle.prelude.proofs.Bools.{fails, and-intro, and-left, and-right, and-second, or-left, or-right, or-first, or-true, or-cases, same-truth}
 use Rattle.prelude.proofs.Searches.{NoneBelow, any-same, any-none, any-some, some-of-any, none-of-any}
 use Rattle.prelude.proofs.Sets.{none-beyond, out}
-use Rattle.book.specs.Order.{Relation, bothWays, gap, showsFault, PartialOrder}
-use Rattle.book.specs.LevelBook.{mostLevels, atOrBelow, InOrder}
-use Rattle.book.specs.Refusals.{isFaulty}
+use Rattle.order.specs.Order.{Relation, bothWays, gap, showsFault, PartialOrder}
+use Rattle.book.specs.LevelBook.{mostLevels, atOrBelow}
+use Rattle.order.specs.Rows.{InOrder}
+use Rattle.order.specs.Refusals.{isFaulty}
 
 no-first : (a b : Bool) → a ≡ false → (a && b) ≡ false
 no-first true b h = absurd (true≢false h)

@@ -13,9 +13,9 @@ use Rattle.prelude.specs.Table.{table}
 use Rattle.prelude.proofs.Sets.{set-more, set-lt}
 use Rattle.prelude.proofs.Tables.{length-table, table-at, table-same}
 use Rattle.book.specs.LevelBook.{mostLevels, atOrBelow}
-use Rattle.pairs.specs.Bounds.{converseRows}
-use Rattle.pairs.proofs.converse.converse_rows.Statement.{statement}
-use Rattle.pairs.proofs.converse.converse_rows.Tie as tie
+use Rattle.order.specs.Rows.{converseRows}
+use Rattle.order.proofs.converse.converse_rows.Statement.{statement}
+use Rattle.order.proofs.converse.converse_rows.Tie as tie
 
 abbrev Inv-loop : tie.InvT-loop
 Inv-loop rows n below₀ i₀ below i = (i ≤ n) × (below ≡ converseRows rows i)

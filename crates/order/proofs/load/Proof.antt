@@ -4,12 +4,12 @@ use mathlib.Core.Bool.{true}
 use Prim.Native.Nat.{_≤_}
 use native.Mathlib.Omega.{arith}
 use borrow.Author.Tests.{not-true, not-false}
 use Rattle.book.specs.LevelBook.{mostLevels, sizeIsRight}
 use Rattle.book.proofs.Sizes.{few-read}
-use Rattle.book.proofs.Loads.{size-way, order-way, no-way}
+use Rattle.order.proofs.Loads.{size-way, order-way, no-way}
 use borrow.Author.Needs.{needs}
-use Rattle.book.proofs.load.Statement.{statement}
-use Rattle.book.proofs.load.Tie as tie
+use Rattle.order.proofs.load.Statement.{statement}
+use Rattle.order.proofs.load.Tie as tie
 
 -- past the test of the size, it is right
 sized : (c : tie.Else1) → sizeIsRight (c .before .before .before .args .s .now) ≡ true

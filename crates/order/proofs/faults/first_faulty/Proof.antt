@@ -3,11 +3,11 @@ use mathlib.Core.Path.{sym, _∙_}
 use Prim.Native.Nat.{_-_, _≤_}
 use borrow.Author.Count.{below-none, below-more}
 use Rattle.prelude.proofs.Searches.{NoneBelow, past, first-is, first-none}
-use Rattle.book.specs.Refusals.{isFaulty, firstFaulty}
+use Rattle.order.specs.Refusals.{isFaulty, firstFaulty}
 use native.Mathlib.Nat.{le-antisymm}
 use borrow.Author.Needs.{needs}
-use Rattle.book.proofs.order.first_faulty.Statement.{statement}
-use Rattle.book.proofs.order.first_faulty.Tie as tie
+use Rattle.order.proofs.faults.first_faulty.Statement.{statement}
+use Rattle.order.proofs.faults.first_faulty.Tie as tie
 
 abbrev Inv-loop : tie.InvT-loop
 Inv-loop n rows i₀ i = (i ≤ n) × NoneBelow (isFaulty rows n) i

@@ -11,8 +11,8 @@ use borrow.Author.Needs.{needs}
 use Rattle.prelude.specs.Table.{table}
 use Rattle.prelude.proofs.Tables.{fill-none, fill-more, fill-all}
 use Rattle.book.specs.LevelBook.{mostLevels}
-use Rattle.pairs.proofs.converse.add_level.Statement.{statement}
-use Rattle.pairs.proofs.converse.add_level.Tie as tie
+use Rattle.order.proofs.converse.add_level.Statement.{statement}
+use Rattle.order.proofs.converse.add_level.Tie as tie
 
 abbrev next : List ℕ → ℕ → ℕ → ℕ → ℕ
 next below row i j = getD below j 0 + row / 2 ^ j % 2 * 2 ^ i

@@ -1,14 +1,14 @@
 // The order of a book: the faults of refusal 2.
-use crate::Book;
-use crate::sets;
+use book::Book;
+use book::sets;
 ghost use mathlib.Core.Path.{_≡_};
 ghost use mathlib.Core.Bool.{_&&_};
 ghost use Prim.Native.Nat.{_^_, _<_, _≤_};
 ghost use lib.ListN.{getD};
 ghost use Rattle.prelude.specs.Search.{any};
 ghost use Rattle.prelude.specs.Sets.{has, outside};
 ghost use Rattle.book.specs.LevelBook.{mostLevels};
-ghost use Rattle.book.specs.Refusals.{isFaulty, firstFaulty};
+ghost use Rattle.order.specs.Refusals.{isFaulty, firstFaulty};
 
 // `others` are the other levels that a level is at or below. One of them is at or below a level that is none of them:
 // then it holds both ways with the level, or the relation is not transitive.

@@ -7,8 +7,8 @@ use lib.ListN.{getD}
 use Rattle.prelude.specs.declared.Refusal.{Refusal}
 use Rattle.prelude.specs.Refusals.{refusedBy, notRefused}
 use Rattle.prelude.specs.Search.{first, any}
-use Rattle.book.specs.Order.{Relation, showsFault}
+use Rattle.order.specs.Order.{Relation, showsFault}
 use Rattle.book.specs.LevelBook.{count, sizeIsRight, rows, atOrBelow}
 
 -- row 2: "some level i lacks its own bit, has a bit at n or above, holds both ways with another,
 -- or is at or below j, j at or below k, but i is not at or below k"
