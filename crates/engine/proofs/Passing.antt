@@ -14,7 +14,7 @@ use Rattle.prelude.specs.declared.Refusal.{Refusal}
 use Rattle.prelude.specs.Refusals.{refusedBy, notRefused, passes}
 use Rattle.prelude.proofs.Bools.{and-right, or-second, by-cases}
 use Rattle.prelude.proofs.Searches.{first-within, first-at-end}
-use Rattle.lattice.specs.LevelBook.{count}
+use Rattle.book.specs.LevelBook.{count}
 use Rattle.lattice.specs.Refusals as books
 use Rattle.lattice.specs.Lattice.{bookLattice}
 use Rattle.language.specs.Values.{sameValue}

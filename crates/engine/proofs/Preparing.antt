@@ -7,9 +7,9 @@ use Prim.Native.Nat.{ℕ, _≤_, _<_, zero-le}
 use borrow.Author.Tests.{lt-ltb, le-ltb}
 use Rattle.prelude.specs.declared.Refusal.{Refusal}
 use Rattle.prelude.specs.Refusals.{refusedBy, notRefused, passes}
-use Rattle.lattice.specs.declared.book.Book.{Book}
-use Rattle.lattice.specs.LevelBook.{mostLevels, count}
-use Rattle.lattice.specs.Load.{bookOf}
+use Rattle.book.specs.declared.Book.{Book}
+use Rattle.book.specs.LevelBook.{mostLevels, count}
+use Rattle.book.specs.Load.{bookOf}
 use Rattle.lattice.specs.Refusals as books
 use Rattle.lattice.specs.Lattice.{bookLattice}
 use Rattle.language.specs.Levels.{writeLevel, testLevel}

@@ -12,7 +12,7 @@ use lib.Dec.{ltb}
 use borrow.Author.Tests.{eq-eqb, eqb-true, ltb-true}
 use Rattle.prelude.specs.Refusals.{passes}
 use Rattle.prelude.proofs.Bools.{by-cases, and-left, and-right}
-use Rattle.lattice.specs.LevelBook.{count}
+use Rattle.book.specs.LevelBook.{count}
 use Rattle.lattice.specs.Refusals as books
 use Rattle.lattice.specs.Lattice.{Lattice, bookLattice}
 use Rattle.lattice.proofs.Theorems.{book-laws}

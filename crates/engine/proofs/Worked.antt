@@ -4,7 +4,9 @@ use mathlib.Core.Path.{refl}
 use Rattle.prelude.specs.Search.{firstFrom, first, any, all, count}
 use Rattle.prelude.specs.Course.{course, entry}
 use Rattle.prelude.specs.Table.{table}
-use Rattle.lattice.specs.Order.{leastUpper, top}
+use Rattle.order.specs.Order.{leastUpper, top}
+use Rattle.order.specs.Refusals as orders
+use Rattle.pairs.specs.Refusals as pairs
 use Rattle.lattice.specs.Refusals as books
 use Rattle.language.specs.Values.{clamped, quotient}
 use Rattle.language.specs.Syntax.{isNil}
@@ -21,5 +23,5 @@ use Rattle.engine.specs.Answers.{verdict, left}
 use Rattle.engine.specs.Examples.{PegsHold}
 
 pub pegs-hold : PegsHold
-unfolding firstFrom first any all count course entry table leastUpper top books.isFaulty books.firstFaulty books.firstLacking books.refusal clamped quotient isNil expLevel writeLevel testLevel need evaluate value suspended move change instantStart step calledFor givenBack logged run used timesUsed isOutOfReach scripts.holds scripts.joinRefusal scripts.refusal expressionOf processOf words checkRefusal valuesRefusal callRefusal runRefusal verdict left
+unfolding firstFrom first any all count course entry table leastUpper top orders.isFaulty orders.firstFaulty orders.refusal pairs.firstLacking books.refusal clamped quotient isNil expLevel writeLevel testLevel need evaluate value suspended move change instantStart step calledFor givenBack logged run used timesUsed isOutOfReach scripts.holds scripts.joinRefusal scripts.refusal expressionOf processOf words checkRefusal valuesRefusal callRefusal runRefusal verdict left
 pegs-hold = refl

@@ -5,9 +5,9 @@ use mathlib.Core.List.{List}
 use Prim.Native.Nat.{ℕ, _≤_, _<_}
 use Rattle.prelude.specs.declared.Refusal.{Refusal}
 use Rattle.prelude.specs.Refusals.{passes}
-use Rattle.lattice.specs.declared.book.Book.{Book}
-use Rattle.lattice.specs.LevelBook.{mostLevels, atOrBelow}
-use Rattle.lattice.specs.Load.{noBook, bookOf}
+use Rattle.book.specs.declared.Book.{Book}
+use Rattle.book.specs.LevelBook.{mostLevels, atOrBelow}
+use Rattle.book.specs.Load.{noBook, bookOf}
 use Rattle.lattice.specs.Lattice.{bookLattice}
 use Rattle.language.specs.Levels.{writeLevel, testLevel}
 use Rattle.script.specs.Layout.{nameCount, layoutOf}

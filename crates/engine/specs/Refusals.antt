@@ -9,7 +9,7 @@ use lib.ListN.{length}
 use Rattle.prelude.specs.declared.Refusal.{Refusal}
 use Rattle.prelude.specs.Search.{first}
 use Rattle.prelude.specs.Refusals.{refusedBy, notRefused, passes}
-use Rattle.lattice.specs.LevelBook.{count}
+use Rattle.book.specs.LevelBook.{count}
 use Rattle.lattice.specs.Refusals as books
 use Rattle.lattice.specs.Lattice.{bookLattice}
 use Rattle.language.specs.Values.{sameValue}

@@ -7,7 +7,7 @@ use mathlib.Core.List.{List}
 use Prim.Native.Nat.{ℕ, _/_, _≤_, _<_}
 use lib.IntN.{ℤ}
 use lib.ListN.{length}
-use Rattle.lattice.specs.LevelBook.{count}
+use Rattle.book.specs.LevelBook.{count}
 use Rattle.lattice.specs.Lattice.{Laws, bookLattice}
 use Rattle.lattice.specs.Refusals as books
 use Rattle.language.specs.Steps.{held}

@@ -1,5 +1,5 @@
 // A level book and a script file are checked: refusals 1 to 11.
-use lattice::book::Book;
+use book::Book;
 use prelude::Refusal;
 use script::layout::Script;
 ghost use mathlib.Core.Path.{_≡_};

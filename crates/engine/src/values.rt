@@ -1,11 +1,11 @@
 // What is asked of a call besides a book and a script: refusals 12 to 14. And which names the reader sees.
-use lattice::book::Book;
+use book::Book;
 use prelude::Refusal;
 use script::layout::Script;
 ghost use mathlib.Core.Path.{_≡_};
 ghost use Prim.Native.Nat.{_≤_, _<_};
 ghost use lib.ListN.{length};
-ghost use Rattle.lattice.specs.LevelBook.{mostLevels};
+ghost use Rattle.book.specs.LevelBook.{mostLevels};
 ghost use Rattle.script.specs.Layout.{Laid};
 ghost use Rattle.script.specs.Checked.{Levelled};
 ghost use Rattle.engine.specs.Refusals.{valueIsRight, valuesRefusal, callRefusal, firstWrong};
@@ -113,7 +113,7 @@ pub fn find_seen(s: &[u8], c: Script, b: Book, reader: usize) -> [u8; Script::MA
     let mut x: usize = 0;
     while x < n {
         let name = script::entries::name_at(s, c, x);
-        if lattice::book::at_or_below(b, name.level, reader) {
+        if book::at_or_below(b, name.level, reader) {
             seen[x] = 1;
         }
         x += 1;

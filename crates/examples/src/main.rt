@@ -1,14 +1,14 @@
 // Prints what the library makes of some level books and script files. What it prints is held to the file stdout.
 mod scripts; // scripts.rt: script files
 
+use book::Book;
 use display::end_line;
 use display::say;
 use display::say_refusal;
-use lattice::book::Book;
-use lattice::book::PairTable;
 use libc::STDOUT_FILENO;
+use pairs::PairTable;
 ghost use Prim.Native.Nat.{_<_, _≤_};
-ghost use Rattle.lattice.specs.LevelBook.{mostLevels};
+ghost use Rattle.book.specs.LevelBook.{mostLevels};
 
 // The levels that a table keeps for level i and each level.
 fn say_row(t: &PairTable, n: usize, i: usize)
@@ -16,7 +16,7 @@ fn say_row(t: &PairTable, n: usize, i: usize)
 {
     let mut j: usize = 0;
     while j < n {
-        say(b" ", lattice::book::level_at(t, i, j));
+        say(b" ", pairs::level_at(t, i, j));
         j += 1;
     }
     end_line();

@@ -9,8 +9,8 @@ use native.Mathlib.Omega.{arith}
 use lib.Dec.{eqb}
 use Rattle.prelude.specs.Search.{lesser}
 use Rattle.prelude.proofs.Bools.{by-cases}
-use Rattle.lattice.specs.LevelBook.{atOrBelow}
-use Rattle.lattice.specs.Bounds.{kept}
+use Rattle.book.specs.LevelBook.{atOrBelow}
+use Rattle.pairs.specs.Bounds.{kept}
 use Rattle.language.specs.Syntax.{Proc}
 use Rattle.language.specs.Levels.{writeLevel, testLevel}
 use Rattle.script.specs.declared.layout.Script.{Script}

@@ -5,8 +5,8 @@ use mathlib.Core.Bool.{Bool, true}
 use mathlib.Core.List.{List}
 use Prim.Native.Nat.{ℕ, _<_}
 use native.Mathlib.Omega.{arith}
-use Rattle.lattice.specs.LevelBook.{atOrBelow}
-use Rattle.lattice.specs.Bounds.{kept}
+use Rattle.book.specs.LevelBook.{atOrBelow}
+use Rattle.pairs.specs.Bounds.{kept}
 use Rattle.script.specs.declared.layout.Script.{Script}
 use Rattle.script.specs.declared.entries.Part.{Part}
 use Rattle.script.specs.Entries.{partOf, node, firstChild, secondChild}

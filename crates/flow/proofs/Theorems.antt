@@ -4,11 +4,12 @@ use mathlib.Core.Path.{_≡_, refl, sym, ap, _∙_, subst}
 use mathlib.Core.Bool.{true, cond}
 use mathlib.Core.List.{List}
 use Prim.Native.Nat.{ℕ}
-use Rattle.lattice.specs.declared.Loaded.{Loaded}
-use Rattle.lattice.specs.Order.{LevelLattice}
-use Rattle.lattice.specs.LevelBook.{count}
+use Rattle.book.specs.declared.Loaded.{Loaded}
+use Rattle.order.specs.Order.{LevelLattice}
+use Rattle.book.specs.LevelBook.{count}
 use Rattle.lattice.specs.Refusals.{isAccepted}
-use Rattle.lattice.specs.Load.{bookOf, noBook, loaded, Loads}
+use Rattle.book.specs.Load.{bookOf, noBook}
+use Rattle.lattice.specs.Load.{loaded, Loads}
 use Rattle.lattice.proofs.Theorems.{level-lattice, loads-few}
 use Rattle.script.specs.declared.layout.Script.{Script}
 use Rattle.script.specs.Layout.{Laid}

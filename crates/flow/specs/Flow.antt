@@ -4,11 +4,11 @@ use mathlib.Core.Bool.{Bool, false, not}
 use mathlib.Core.List.{List}
 use Prim.Native.Nat.{ℕ, _≤_, _<_}
 use Rattle.prelude.specs.Search.{first}
-use Rattle.lattice.specs.declared.book.Book.{Book}
-use Rattle.lattice.specs.Order as orders
-use Rattle.lattice.specs.Order.{Relation, leastUpper, greatestLower, LevelLattice}
-use Rattle.lattice.specs.LevelBook.{mostLevels, atOrBelow}
-use Rattle.lattice.specs.Bounds.{Keeps}
+use Rattle.book.specs.declared.Book.{Book}
+use Rattle.order.specs.Order as orders
+use Rattle.order.specs.Order.{Relation, leastUpper, greatestLower, LevelLattice}
+use Rattle.book.specs.LevelBook.{mostLevels, atOrBelow}
+use Rattle.pairs.specs.Bounds.{Keeps}
 use Rattle.lattice.specs.Lattice.{Lattice, latticeOf}
 use Rattle.language.specs.Levels.{expLevel, writeLevel, testLevel, need}
 use Rattle.script.specs.declared.layout.Script.{Script}

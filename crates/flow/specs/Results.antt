@@ -4,8 +4,8 @@ use mathlib.Core.Bool.{true}
 use mathlib.Core.List.{List}
 use Prim.Native.Nat.{ℕ, _<_}
 use lib.Dec.{eqb}
-use Rattle.lattice.specs.declared.Loaded.{Loaded}
-use Rattle.lattice.specs.LevelBook.{count}
+use Rattle.book.specs.declared.Loaded.{Loaded}
+use Rattle.book.specs.LevelBook.{count}
 use Rattle.lattice.specs.Refusals.{isAccepted}
 use Rattle.lattice.specs.Load.{Loads}
 use Rattle.lattice.specs.Lattice.{Lattice, bookLattice}

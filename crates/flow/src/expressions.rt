@@ -1,8 +1,8 @@
 // The level of an expression.
 use crate::kinds;
 use crate::levels::Levels;
-use lattice::book::PairTable;
-use lattice::book::level_at;
+use pairs::PairTable;
+use pairs::level_at;
 use script::entries::name_at;
 use script::entries::part_at;
 use script::layout::Script;

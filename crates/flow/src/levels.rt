@@ -1,5 +1,5 @@
 // A checked book with its top and bottom, and what a walk finds.
-use lattice::book::Book;
+use book::Book;
 
 // A checked level book, its greatest and its least level.
 pub struct Levels {

@@ -7,8 +7,8 @@ mod walk; // walk.rt: the walk over the nodes
 
 use crate::levels::Flow;
 use crate::levels::Levels;
-use lattice::book::Book;
-use lattice::book::PairTable;
+use book::Book;
+use pairs::PairTable;
 use script::layout::Script;
 ghost use Rattle.flow.specs.Flow.{levelsOf, Ready, Joins, Meets, FlowOf};
 

@@ -3,7 +3,7 @@ use crate::kinds;
 use crate::levels::Flow;
 use crate::levels::Levels;
 use crate::nodes;
-use lattice::book::PairTable;
+use pairs::PairTable;
 use script::children::children_of;
 use script::entries::part_at;
 use script::layout::Script;

@@ -8,22 +8,25 @@ use native.Mathlib.Decide.{decLt}
 use native.Mathlib.Omega.{arith}
 use borrow.Author.Tests.{lt-ltb, le-ltb}
 use Rattle.prelude.proofs.Bools.{by-cases}
-use Rattle.lattice.specs.declared.Loaded.{Loaded}
-use Rattle.lattice.specs.Order.{Relation, leastUpper, greatestLower, LevelLattice}
-use Rattle.lattice.specs.LevelBook.{mostLevels, count, rows, atOrBelow}
+use Rattle.book.specs.declared.Loaded.{Loaded}
+use Rattle.order.specs.Order.{Relation, leastUpper, greatestLower, LevelLattice}
+use Rattle.book.specs.LevelBook.{mostLevels, count, rows, atOrBelow}
 use Rattle.lattice.specs.Refusals.{isAccepted}
-use Rattle.lattice.specs.Load.{bookOf, noBook, loaded, Loads}
+use Rattle.book.specs.Load.{bookOf, noBook}
+use Rattle.book.proofs.Sizes.{some, few}
+use Rattle.order.proofs.Duals.{dual}
+use Rattle.pairs.proofs.Orders.{least-uppers}
+use Rattle.lattice.specs.Load.{loaded, Loads}
 use Rattle.lattice.specs.Lattice.{Laws, asLevel, latticeOf, bookLattice}
-use Rattle.lattice.proofs.Orders.{dual, least-uppers, greatest}
-use Rattle.lattice.proofs.Passing.{Passing, passing, order, uppers, lowers}
-use Rattle.lattice.proofs.Sizes.{some, few}
+use Rattle.lattice.proofs.Passing.{Passing, passing, uppers, lowers}
+use Rattle.lattice.proofs.Tops.{greatest}
 
 -- A passing book is a lattice: a partial order in which every pair has a least common upper and a greatest common
 -- lower level, with a greatest level, top, and a least, bottom.
 pub level-lattice : (s : List ℕ) → isAccepted s ≡ true → LevelLattice (atOrBelow (rows s)) (count s)
 level-lattice s h =
     let w : Passing s = passing s h in
-    let o = order s w in
+    let o = w .ordered .order in
     let d = dual _ _ o in
     let joins = least-uppers _ _ o (uppers s w) in
     let meets = least-uppers _ _ d (lowers s w) in

@@ -4,8 +4,8 @@ use mathlib.Core.Bool.{Bool, true, cond}
 use mathlib.Core.List.{List}
 use Prim.Native.Nat.{ℕ}
 use lib.Dec.{ltb}
-use Rattle.lattice.specs.Order.{Relation, leastUpper, greatestLower, top, bottom}
-use Rattle.lattice.specs.LevelBook.{count, rows, atOrBelow}
+use Rattle.order.specs.Order.{Relation, leastUpper, greatestLower, top, bottom}
+use Rattle.book.specs.LevelBook.{count, rows, atOrBelow}
 
 pub record Lattice (L : Type 0) : Type 0 where
   pub leq : L → L → Bool

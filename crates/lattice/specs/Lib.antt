@@ -1,8 +1,5 @@
--- The level book and the lattice that it gives.
-pub mod Order
-pub mod LevelBook
+-- The lattice that a level book gives.
 pub mod Refusals
-pub mod Bounds
 pub mod Load
 pub mod Lattice
 pub mod Examples

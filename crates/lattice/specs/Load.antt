@@ -3,23 +3,12 @@ use mathlib.Core.Path.{_≡_}
 use mathlib.Core.Bool.{true, cond}
 use mathlib.Core.List.{List}
 use Prim.Native.Nat.{ℕ}
-use lib.ListN.{replicate}
-use Rattle.prelude.specs.declared.Refusal.{Refusal}
-use Rattle.lattice.specs.declared.Loaded.{Loaded}
-use Rattle.lattice.specs.declared.book.Book.{Book}
-use Rattle.lattice.specs.Order.{leastUpper, greatestLower}
-use Rattle.lattice.specs.LevelBook.{mostLevels, count, rows, atOrBelow}
+use Rattle.book.specs.declared.Loaded.{Loaded}
+use Rattle.order.specs.Order.{leastUpper, greatestLower}
+use Rattle.book.specs.LevelBook.{count, rows, atOrBelow}
+use Rattle.book.specs.Load.{answer, noBook, bookOf}
+use Rattle.pairs.specs.Bounds.{Keeps}
 use Rattle.lattice.specs.Refusals.{refusal, isAccepted}
-use Rattle.lattice.specs.Bounds.{Keeps}
-
-abbrev pub answer : Refusal → Book → Loaded
-answer r b = record { refusal = r; book = b }
-
-abbrev pub noBook : Book
-noBook = record { count = 0; rows = replicate mostLevels 0 }
-
-abbrev pub bookOf : List ℕ → Book
-bookOf s = record { count = count s; rows = rows s }
 
 -- "A refusal's other returned numbers are 0"
 unfoldable pub loaded : List ℕ → Loaded

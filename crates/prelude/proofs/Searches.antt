@@ -1,13 +1,14 @@
 -- What a search finds, and how a loop shows it: the numbers passed fail the test, the one at hand holds or fails.
 -- Assumes nothing.
 use mathlib.Core.Path.{_≡_, refl, sym, ap, _∙_, subst}
-use mathlib.Core.Bool.{Bool, true, false, cond, not, _||_, true≢false}
+use mathlib.Core.Bool.{Bool, true, false, cond, not, _&&_, _||_, true≢false}
 use Prim.Native.Nat.{ℕ, zero, suc, _+_, _≤_, _<_}
 use native.Mathlib.Omega.{arith}
 use native.Mathlib.Decide.{decLt}
 use lib.Dec.{ltb, leb}
+use borrow.Author.Count.{below-more}
 use borrow.Author.Tests.{lt-ltb, le-ltb, ltb-true, ltb-false, leb-true, leb-false, not-true, not-false}
-use Rattle.prelude.proofs.Bools.{or-swap, by-cases}
+use Rattle.prelude.proofs.Bools.{and-intro, and-left, and-right, or-swap, same-truth, by-cases}
 use Rattle.prelude.specs.Search.{firstFrom, first, any, all, lesser}
 
 -- every number below n fails the test
@@ -127,6 +128,17 @@ module _ (f : ℕ → Bool) (n : ℕ) where
   unfolding all
   all-elim e k l = not-false (f k) (none-of-any (λ j. not (f j)) n (not-true _ e) k l)
 
+-- one number more
+pub all-more : (f : ℕ → Bool) (n : ℕ) → all f (n + 1) ≡ (all f n && f n)
+all-more f n =
+    same-truth (all f (n + 1)) (all f n && f n)
+    (λ h.
+    let w = all-elim f (n + 1) h in
+    and-intro _ _ (all-intro f n (λ k l. w k (omega arith))) (w n (omega arith)))
+    (λ h.
+    all-intro f (n + 1)
+    (below-more (λ k. f k ≡ true) n (all-elim f n (and-left (all f n) (f n) h)) (and-right (all f n) (f n) h)))
+
 -- two tests that agree below n find the same
 pub first-same : (f g : ℕ → Bool) (n : ℕ) → ((k : ℕ) → k < n → f k ≡ g k) → first f n ≡ first g n
 first-same f g n same =
@@ -141,6 +153,20 @@ first-same f g n same =
 pub any-same : (f g : ℕ → Bool) (n : ℕ) → ((k : ℕ) → k < n → f k ≡ g k) → any f n ≡ any g n
 unfolding any
 any-same f g n same = ap (λ k. ltb k n) (first-same f g n same)
+
+-- a search that ends sooner
+pub first-sooner : (f : ℕ → Bool) (m n : ℕ) → n ≤ m → first f n ≡ lesser (first f m) n
+first-sooner f m n h =
+    by-cases
+    (λ k. first f n ≡ k)
+    (leb (first f m) n)
+    (λ e.
+    let l = leb-true (first f m) n e in
+    elim (decLt (first f m) n) [
+      | yes u ↦ first-is f n (first f m) u (first-holds f m (omega arith)) (first-passed f m)
+      | no u ↦ first-none f n (λ k v. first-passed f m k (omega arith)) ∙ omega arith
+    ])
+    (λ e. first-none f n (λ k v. first-passed f m k (omega (arith, leb-false (first f m) n e))))
 
 -- the first number at which one of two tests holds is the lesser of the first numbers of each
 first-or-left :

@@ -3,17 +3,18 @@
 use mathlib.Core.Path.{_≡_, refl, sym, ap, _∙_, subst}
 use mathlib.Core.Bool.{Bool, true, false, cond, not, _&&_, true≢false, false≢true}
 use Prim.Native.Nat.{ℕ, zero, suc, _+_, _*_, _-_, _/_, _%_, _^_, _≤_, _<_, min}
-use native.Mathlib.Nat.{zero-lt-suc, pow-suc, min-zero, zero-min, min-le-left, le-of-suc-le-suc, mod-lt, mod-eq-of-lt, mod-one, mul-add-mod-self-right}
+use native.Mathlib.Nat.{zero-div, div-one, suc-mul, zero-lt-suc, pow-suc, min-zero, zero-min, min-le-left, le-of-suc-le-suc, mod-lt, mod-eq-of-lt, mod-one, mul-add-mod-self-right}
 use native.Mathlib.Decide.{decLt, ℕ-discrete}
 use native.Mathlib.Omega.{arith}
-use lib.Dec.{eqb}
-use lib.Pow.{pow-pos, high, low, field, mod-mod-pow, mod-pow-add}
+use lib.Dec.{eqb, ltb}
+use lib.Count.{trailingZeros, under}
+use lib.Pow.{pow-pos, ones-lt, ones-split, split, high, low, field, shr-shr, mod-mod-pow, mod-pow-add}
 use lib.Bits.{bitAnd, and-shr, and-step}
-use borrow.Author.Tests.{eq-eqb, ne-eqb, not-true, not-false}
-use Rattle.prelude.specs.Search.{any}
-use Rattle.prelude.specs.Sets.{has, IsSet, setOf}
+use borrow.Author.Tests.{ltb-false, eqb-true, eq-eqb, ne-eqb, not-true, not-false}
+use Rattle.prelude.specs.Search.{first}
+use Rattle.prelude.specs.Sets.{has, IsSet, outside, setOf}
 use Rattle.prelude.proofs.Bools.{fails, and-left, and-right}
-use Rattle.prelude.proofs.Searches.{any-none, none-of-any}
+use Rattle.prelude.proofs.Searches.{first-is, first-none, first-holds, first-passed, first-within, first-at-end, any-none, none-of-any}
 
 two-pos : 0 < 2
 two-pos = zero-lt-suc 1
@@ -71,9 +72,34 @@ has-below : (a b n : ℕ) → a % 2 ^ n ≡ b % 2 ^ n → (y : ℕ) → y < n �
 has-below a b n e y l =
     ap (λ k. eqb k 1) (sym (digit-below a y n l) ∙ ap (λ k. k / 2 ^ y % 2) e ∙ digit-below b y n l)
 
+-- two sets of numbers below n that have the same ones are the same number
+pub same-set : (a b n : ℕ) → a < 2 ^ n → b < 2 ^ n → ((y : ℕ) → y < n → has a y ≡ has b y) → a ≡ b
+same-set a b n h k same = sym (mod-eq-of-lt h) ∙ same-below a b n same ∙ mod-eq-of-lt k
+
+-- no digit from n on
+pub none-beyond : (a n : ℕ) → ltb 0 (a / 2 ^ n) ≡ false → a < 2 ^ n
+none-beyond a n h =
+    let q : a / 2 ^ n ≡ 0 = omega (arith, ltb-false 0 (a / 2 ^ n) h) in
+    let e : 0 * 2 ^ n + a % 2 ^ n ≡ a = ap (λ k. k * 2 ^ n + a % 2 ^ n) (sym q) ∙ split a n in
+    omega (arith, mod-lt a (pow-pos n))
+
+pub has-zero : (y : ℕ) → has 0 y ≡ false
+has-zero y = ap (λ k. eqb (k % 2) 1) (zero-div (2 ^ y))
+
+-- the set of all numbers below n
+pub has-full : (n y : ℕ) → y < n → has (2 ^ n - 1) y ≡ true
+has-full n y l =
+    let d : ℕ = n - suc y in
+    eq-eqb _ 1
+    (ap (λ k. k % 2)
+    (ap (λ k. (2 ^ k - 1) / 2 ^ y) {x = n} {y = suc d + y} (omega arith)
+    ∙ ap (λ k. k / 2 ^ y) (ones-split (suc d) y)
+    ∙ high (2 ^ suc d - 1) y (ones-lt y))
+    ∙ omega (arith, pow-suc 2 d, pow-pos d))
+
 -- of the numbers below n, some is in the one set and not in the other
 pub some-outside :
-    (a b n : ℕ) → not (eqb (bitAnd a b % 2 ^ n) (a % 2 ^ n)) ≡ any (λ y. has a y && not (has b y)) n
+    (a b n : ℕ) → not (eqb (bitAnd a b % 2 ^ n) (a % 2 ^ n)) ≡ outside a b n
 some-outside a b n =
     elim (ℕ-discrete (bitAnd a b % 2 ^ n) (a % 2 ^ n)) [
       | yes e ↦
@@ -95,6 +121,133 @@ some-outside a b n =
     kept true true e = refl
     kept true false e = absurd (true≢false e)
     kept false q e = refl
+
+-- a set that is not empty: its smallest number, in it and below n
+module _ (a n : ℕ) (h : a < 2 ^ n) (some : a ≡ 0 → ⊥) where
+  pub smallest-below : first (has a) n < n
+  smallest-below =
+      elim (decLt (first (has a) n) n) [
+        | yes l ↦ l
+        | no l ↦
+            absurd (some (same-set a 0 n h (pow-pos n) (λ y u.
+            first-passed (has a) n y (omega (arith, first-within (has a) n)) ∙ sym (has-zero y))))
+      ]
+
+  pub smallest-same : (m : ℕ) → n ≤ m → first (has a) m ≡ first (has a) n
+  smallest-same m l =
+      let u = smallest-below in
+      first-is (has a) m (first (has a) n) (omega arith) (first-holds (has a) n u) (first-passed (has a) n)
+
+-- the zeros below the lowest digit end at the smallest number of the set
+shifted : (a y : ℕ) → has (a / 2) y ≡ has a (suc y)
+shifted a y =
+    ap (λ k. eqb (k % 2) 1) (shr-shr a 1 y ∙ ap (λ k. a / 2 ^ k) {x = 1 + y} {y = suc y} (omega arith))
+
+abbrev low-digit : (a : ℕ) → has a 0 ≡ eqb (a % 2) 1
+low-digit a = ap (λ k. eqb (k % 2) 1) (div-one a)
+
+pub trailing-is : (n a : ℕ) → trailingZeros n a ≡ first (has a) n
+unfolding trailingZeros
+trailing-is zero a = omega (arith, first-within (has a) 0)
+trailing-is (suc n) a = go (a % 2) refl (digit-two a) (trailing-is n (a / 2))
+  where
+    digit-two : (k : ℕ) → k % 2 < 2
+    digit-two k = mod-lt k two-pos
+
+    none : (m : ℕ) → a % 2 ≡ 0 → ((k : ℕ) → k < m → has (a / 2) k ≡ false) → (k : ℕ) → k < suc m → has a k ≡ false
+    none m e h zero l = low-digit a ∙ ap (λ d. eqb d 1) e
+    none m e h (suc k) l = sym (shifted a k) ∙ h k (le-of-suc-le-suc l)
+
+    go :
+        (d : ℕ) → a % 2 ≡ d → d < 2 → trailingZeros n (a / 2) ≡ first (has (a / 2)) n →
+        under d (trailingZeros n (a / 2)) ≡ first (has a) (suc n)
+    go zero e l q =
+        let f : ℕ = first (has (a / 2)) n in
+        ap suc q
+        ∙ elim (decLt f n) [
+          | yes u ↦
+              sym
+              (first-is (has a) (suc n) (suc f) (omega arith) (sym (shifted a f) ∙ first-holds (has (a / 2)) n u)
+              (none f e (first-passed (has (a / 2)) n)))
+          | no u ↦
+              let w : f ≡ n = omega (arith, first-within (has (a / 2)) n) in
+              ap suc w ∙ sym (first-none (has a) (suc n) (none n e (first-at-end (has (a / 2)) n w)))
+        ]
+    go (suc zero) e l q =
+        sym (first-is (has a) (suc n) 0 (omega arith) (low-digit a ∙ ap (λ d. eqb d 1) e) (λ k u. absurd (omega arith)))
+    go (suc (suc d)) e l q = absurd (omega arith)
+
+-- the set without one of its numbers
+module _ (a x : ℕ) (own : has a x ≡ true) where
+  -- above its digit at x, which is 1, and below
+  record Parts : Type 0 where
+    above : ℕ
+    below : ℕ
+    even : above % 2 ≡ 0
+    small : below < 2 ^ x
+    whole : a ≡ suc above * 2 ^ x + below
+
+  parts : Parts
+  parts = go (a / 2 ^ x) (eqb-true _ _ own) (split a x)
+    where
+      go : (q : ℕ) → q % 2 ≡ 1 → q * 2 ^ x + a % 2 ^ x ≡ a → Parts
+      go zero e w = absurd (omega arith)
+      go (suc p) e w =
+          record { above = p; below = a % 2 ^ x; even = omega arith; small = mod-lt a (pow-pos x); whole = sym w }
+
+  pub out-le : 2 ^ x ≤ a
+  out-le = let w = parts in omega (arith, w .whole, suc-mul (w .above) (2 ^ x))
+
+  rest : a - 2 ^ x ≡ parts .above * 2 ^ x + parts .below
+  rest = let w = parts in omega (arith, w .whole, suc-mul (w .above) (2 ^ x))
+
+  out-same : has (a - 2 ^ x) x ≡ false
+  out-same =
+      let w = parts in
+      ap (λ k. eqb (k % 2) 1) (ap (λ k. k / 2 ^ x) rest ∙ high (w .above) x (w .small)) ∙ ap (λ d. eqb d 1) (w .even)
+
+  -- a digit above x
+  digit-above : (k d : ℕ) → k / 2 ^ (x + (1 + d)) ≡ k / 2 ^ x / 2 / 2 ^ d
+  digit-above k d = sym (ap (λ n. n / 2 ^ d) (shr-shr k x 1) ∙ shr-shr k (x + 1) d ∙ ap (λ n. k / 2 ^ n) {x = x + 1 + d} {y = x + (1 + d)} (omega arith))
+
+  out-above : (d : ℕ) → has (a - 2 ^ x) (x + (1 + d)) ≡ has a (x + (1 + d))
+  out-above d =
+      let w = parts in
+      let half : w .above / 2 ≡ suc (w .above) / 2 = omega (arith, w .even) in
+      ap (λ k. eqb (k % 2) 1)
+      (digit-above (a - 2 ^ x) d
+      ∙ ap (λ k. k / 2 / 2 ^ d) (ap (λ k. k / 2 ^ x) rest ∙ high (w .above) x (w .small))
+      ∙ ap (λ k. k / 2 ^ d) half
+      ∙ ap (λ k. k / 2 / 2 ^ d) (sym (ap (λ k. k / 2 ^ x) (w .whole) ∙ high (suc (w .above)) x (w .small)))
+      ∙ sym (digit-above a d))
+
+  out-other : (y : ℕ) → (y ≡ x → ⊥) → has (a - 2 ^ x) y ≡ has a y
+  out-other y e =
+      let w = parts in
+      elim (decLt y x) [
+        | yes l ↦
+            has-below (a - 2 ^ x) a x
+            (ap (λ k. k % 2 ^ x) rest ∙ low (w .above) x (w .small)
+            ∙ sym (ap (λ k. k % 2 ^ x) (w .whole) ∙ low (suc (w .above)) x (w .small))) y l
+        | no l ↦ subst (λ k. has (a - 2 ^ x) k ≡ has a k) {x = x + (1 + (y - suc x))} {y = y} (omega arith) (out-above (y - suc x))
+      ]
+
+  pub out : (y : ℕ) → has (a - 2 ^ x) y ≡ (has a y && not (eqb y x))
+  out y =
+      elim (ℕ-discrete y x) [
+        | yes e ↦ ap (has (a - 2 ^ x)) e ∙ out-same ∙ sym (dropped (has a y) (eqb y x) (eq-eqb y x e))
+        | no e ↦ out-other y e ∙ sym (left (has a y) (eqb y x) (ne-eqb y x e))
+      ]
+    where
+      dropped : (p q : Bool) → q ≡ true → (p && not q) ≡ false
+      dropped true true h = refl
+      dropped true false h = absurd (false≢true h)
+      dropped false q h = refl
+
+      left : (p q : Bool) → q ≡ false → (p && not q) ≡ p
+      left true true h = absurd (true≢false h)
+      left true false h = refl
+      left false q h = refl
 
 module _ (f : ℕ → Bool) where
   pub set-none : setOf f 0 ≡ 0

@@ -1,8 +1,8 @@
 -- A table of a function's values: what stands in it, and a list that becomes one by stores from the front.
 -- Assumes nothing.
-use mathlib.Core.Path.{_≡_, refl, sym, ap, _∙_}
+use mathlib.Core.Path.{_≡_, refl, sym, ap, ap₂, _∙_}
 use mathlib.Core.Logic.{⊎-elim}
-use mathlib.Core.List.{List, [], _∷_}
+use mathlib.Core.List.{List, [], _∷_, _++_}
 use Prim.Native.Nat.{ℕ, zero, suc, _+_, _≤_, _<_}
 use native.Mathlib.Nat.{le-antisymm, le-of-suc-le-suc, not-suc-le-zero, eq-or-lt-of-le}
 use native.Mathlib.Numerals.{add-one}
@@ -38,3 +38,10 @@ module _ {ℓ} {A : Type ℓ} (f : ℕ → A) where
 
   pub fill-all : (l : List A) (n i : ℕ) → length l ≡ n → i ≤ n → n ≤ i → take i l ≡ table f i → l ≡ table f n
   fill-all l n i h a b e = sym (take-all i l (omega (arith, h))) ∙ e ∙ ap (table f) (le-antisymm a b)
+
+-- two functions that agree below n have the same values
+pub table-same {ℓ} : {A : Type ℓ} (f g : ℕ → A) (n : ℕ) → ((k : ℕ) → k < n → f k ≡ g k) → table f n ≡ table g n
+unfolding table
+table-same f g zero same = refl
+table-same f g (suc n) same =
+    ap₂ (λ l v. l ++ (v ∷ [])) (table-same f g n (λ k l. same k (omega arith))) (same n (omega arith))

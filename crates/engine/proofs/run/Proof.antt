@@ -8,12 +8,12 @@ use borrow.Author.Tests.{eq-eqb, ne-eqb}
 use native.Mathlib.Nat.{sub-zero}
 use lib.ListN.{length, take, replicate}
 use Rattle.prelude.specs.Refusals.{passes}
-use Rattle.lattice.specs.declared.book.Book.{Book}
-use Rattle.lattice.specs.LevelBook.{count, atOrBelow}
-use Rattle.lattice.specs.Load.{bookOf}
+use Rattle.book.specs.declared.Book.{Book}
+use Rattle.book.specs.LevelBook.{count, atOrBelow}
+use Rattle.book.specs.Load.{bookOf}
 use Rattle.lattice.specs.Lattice.{bookLattice}
 use Rattle.lattice.proofs.Passing.{passing}
-use Rattle.lattice.proofs.Sizes.{few-read}
+use Rattle.book.proofs.Sizes.{few-read}
 use Rattle.lattice.proofs.Theorems.{order-at}
 use Rattle.language.specs.Calls.{readable}
 use Rattle.script.specs.Layout.{nameCount, Laid}

@@ -1,6 +1,6 @@
 -- `show`: new tables are square, and a loaded book has few enough levels.
-use Rattle.lattice.specs.LevelBook.{mostLevels}
-use Rattle.lattice.proofs.Loads.{new-square}
+use Rattle.book.specs.LevelBook.{mostLevels}
+use Rattle.pairs.proofs.Stores.{new-square}
 use Rattle.lattice.proofs.Theorems.{loads-few}
 use borrow.Author.Needs.{needs}
 use Rattle.examples.proofs.show.Statement.{statement}

@@ -6,13 +6,14 @@ use native.Mathlib.Omega.{arith}
 use denote.Ref.{now}
 use borrow.Author.Tests.{eq-eqb, ne-eqb}
 use Rattle.prelude.specs.Refusals.{passes}
-use Rattle.lattice.specs.declared.Loaded.{Loaded}
-use Rattle.lattice.specs.declared.book.Book.{Book}
-use Rattle.lattice.specs.LevelBook.{count}
+use Rattle.book.specs.declared.Loaded.{Loaded}
+use Rattle.book.specs.declared.Book.{Book}
+use Rattle.book.specs.LevelBook.{count}
 use Rattle.lattice.specs.Refusals as books
-use Rattle.lattice.specs.Load.{noBook, bookOf, loaded}
+use Rattle.book.specs.Load.{noBook, bookOf}
+use Rattle.lattice.specs.Load.{loaded}
 use Rattle.lattice.specs.Lattice.{Lattice, bookLattice}
-use Rattle.lattice.proofs.Loads.{new-square}
+use Rattle.pairs.proofs.Stores.{new-square}
 use Rattle.lattice.proofs.Theorems.{loads-few}
 use Rattle.language.specs.Levels.{writeLevel, testLevel}
 use Rattle.script.specs.declared.Loaded.{Loaded as Read}

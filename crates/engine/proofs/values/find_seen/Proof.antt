@@ -5,7 +5,7 @@ use mathlib.Core.Bool.{Bool}
 use mathlib.Core.List.{List}
 use Prim.Native.Nat.{ℕ, _-_, _≤_, _<_}
 use native.Mathlib.Omega.{arith}
-use Rattle.lattice.specs.LevelBook.{atOrBelow}
+use Rattle.book.specs.LevelBook.{atOrBelow}
 use Rattle.script.specs.Layout.{mostNames, nameCount}
 use Rattle.script.specs.Entries.{nameOf}
 use Rattle.script.proofs.Layouts.{few-bounds, names-are}

@@ -6,8 +6,8 @@ use mathlib.Core.Logic.{_⊎_, inl, inr, ⊎-elim}
 use Prim.Native.Nat.{ℕ, _<_}
 use Rattle.prelude.specs.Search.{lesser}
 use Rattle.prelude.proofs.Bools.{and-intro, and-second}
-use Rattle.lattice.specs.LevelBook.{atOrBelow}
-use Rattle.lattice.specs.Bounds.{kept}
+use Rattle.book.specs.LevelBook.{atOrBelow}
+use Rattle.pairs.specs.Bounds.{kept}
 use Rattle.flow.specs.declared.levels.Levels.{Levels}
 use Rattle.flow.specs.declared.levels.Flow.{Flow}
 use Rattle.flow.specs.declared.nodes.Own.{Own}

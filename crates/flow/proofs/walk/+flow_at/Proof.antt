@@ -2,7 +2,7 @@
 use mathlib.Core.Path.{sym, ap, _∙_, subst}
 use native.Mathlib.Omega.{arith}
 use borrow.Author.Needs.{needs, fits-under}
-use Rattle.lattice.specs.LevelBook.{mostLevels}
+use Rattle.book.specs.LevelBook.{mostLevels}
 use Rattle.script.specs.Roles.{nodeKinds}
 use Rattle.script.specs.Entries.{partOf}
 use Rattle.script.proofs.Layouts.{few-bounds, expressions-are, nodes-are}

@@ -1,0 +1,3 @@
+-- The level book: what its bytes say.
+pub mod LevelBook
+pub mod Load

@@ -1,0 +1,40 @@
+// The order of a level book: any bytes in; out comes a book in order, or refusal 1 or 2.
+mod faults; // faults.rt: the faults of refusal 2
+pub mod converse; // converse.rt: the order upside down
+
+use book::Book;
+use book::Loaded;
+use book::read;
+use book::refused;
+use prelude::Refusal;
+ghost use mathlib.Core.Path.{_≡_};
+ghost use Rattle.prelude.specs.Refusals.{notRefused};
+ghost use Rattle.book.specs.Load.{answer};
+ghost use Rattle.order.specs.Load.{loaded};
+
+fn accepted(b: Book) -> Loaded
+    ensures { λ r. ⌜ r ≡ answer notRefused b ⌝ }
+{
+    Loaded {
+        refusal: Refusal {
+            number: 0,
+            place: 0,
+        },
+        book: b,
+    }
+}
+
+// Checks the size and the order of a level book of any bytes.
+pub fn load(s: &[u8]) -> Loaded
+    ensures { λ r. ⌜ r ≡ loaded (now (s .entry)) ⌝ }
+{
+    if !read::size_is_right(s) {
+        return refused(1, 0);
+    }
+    let b = read::read_book(s);
+    let faulty = faults::first_faulty(b);
+    if faulty < b.count {
+        return refused(2, faulty);
+    }
+    accepted(b)
+}

@@ -1,0 +1,3 @@
+-- The pairs of levels: what is kept for each, and refusal 3.
+pub mod Refusals
+pub mod Bounds
