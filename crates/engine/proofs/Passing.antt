@@ -21,10 +21,10 @@ use Rattle.language.specs.Values.{sameValue}
 use Rattle.language.specs.Steps.{held}
 use Rattle.language.specs.Levels.{needs}
 use Rattle.language.proofs.Signed.{same-is}
-use Rattle.script.specs.Layout.{nameCount, nodeCount}
+use Rattle.layout.specs.Layout.{nameCount, nodeCount}
 use Rattle.script.specs.Refusals as scripts
-use Rattle.script.specs.Checked.{Checked}
-use Rattle.script.specs.Tree.{namesOf, tree}
+use Rattle.reach.specs.Checked.{Checked}
+use Rattle.tree.specs.Tree.{namesOf, tree}
 use Rattle.script.proofs.Theorems.{accepted-exactly}
 use Rattle.flow.specs.Flow.{firstFailing}
 use Rattle.flow.proofs.Theorems.{needs-everywhere}

@@ -10,10 +10,10 @@ use Rattle.lattice.specs.LevelBook.{mostLevels, atOrBelow}
 use Rattle.lattice.specs.Load.{noBook, bookOf}
 use Rattle.lattice.specs.Lattice.{bookLattice}
 use Rattle.language.specs.Levels.{writeLevel, testLevel}
-use Rattle.script.specs.Layout.{nameCount, layoutOf}
-use Rattle.script.specs.Entries.{nameOf}
+use Rattle.layout.specs.Layout.{nameCount, layoutOf}
+use Rattle.layout.specs.Entries.{nameOf}
 use Rattle.script.specs.Load.{noScript}
-use Rattle.script.specs.Tree.{namesOf, tree}
+use Rattle.tree.specs.Tree.{namesOf, tree}
 use Rattle.runner.specs.Contracts.{seenIn}
 use Rattle.engine.specs.declared.prepare.Prepared.{Prepared}
 use Rattle.engine.specs.Refusals.{checkRefusal}

@@ -14,9 +14,9 @@ use Rattle.lattice.specs.Refusals as books
 use Rattle.lattice.specs.Lattice.{bookLattice}
 use Rattle.language.specs.Values.{sameValue}
 use Rattle.language.specs.Steps.{held}
-use Rattle.script.specs.Layout.{nameCount, nodeCount}
+use Rattle.layout.specs.Layout.{nameCount, nodeCount}
 use Rattle.script.specs.Refusals as scripts
-use Rattle.script.specs.Tree.{namesOf}
+use Rattle.tree.specs.Tree.{namesOf}
 use Rattle.flow.specs.Flow.{firstFailing}
 use Rattle.runner.specs.Contracts.{mostSteps}
 

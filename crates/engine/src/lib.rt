@@ -4,7 +4,7 @@ mod values; // values.rt: refusals 12 to 14, and which names the reader sees
 pub mod interface; // interface.rt: the calls for C
 
 use prelude::Refusal;
-use script::layout::Script;
+use layout::Script;
 ghost use mathlib.Core.Path.{_≡_};
 ghost use Rattle.engine.specs.Answers.{verdict, left, refusedReport};
 

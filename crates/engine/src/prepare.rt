@@ -1,7 +1,7 @@
 // A level book and a script file are checked: refusals 1 to 11.
 use lattice::book::Book;
 use prelude::Refusal;
-use script::layout::Script;
+use layout::Script;
 ghost use mathlib.Core.Path.{_≡_};
 ghost use Prim.Native.Nat.{_<_};
 ghost use Rattle.engine.specs.Contracts.{Prepares, refusedWith};

@@ -7,10 +7,11 @@ use Prim.Native.Nat.{ℕ, _<_}
 use native.Mathlib.Omega.{arith}
 use Rattle.lattice.specs.LevelBook.{atOrBelow}
 use Rattle.lattice.specs.Bounds.{kept}
-use Rattle.script.specs.declared.layout.Script.{Script}
-use Rattle.script.specs.declared.entries.Part.{Part}
-use Rattle.script.specs.Entries.{partOf, node, firstChild, secondChild}
-use Rattle.script.proofs.Layouts.{nodes-are}
+use Rattle.layout.specs.declared.Script.{Script}
+use Rattle.layout.specs.declared.entries.Part.{Part}
+use Rattle.layout.specs.Entries.{partOf, node}
+use Rattle.fields.specs.Fields.{firstChild, secondChild}
+use Rattle.layout.proofs.Layouts.{nodes-are}
 use Rattle.flow.specs.declared.levels.Levels.{Levels}
 use Rattle.flow.specs.declared.levels.Flow.{Flow}
 use Rattle.flow.specs.declared.nodes.Own.{Own}

@@ -9,7 +9,7 @@ use crate::levels::Flow;
 use crate::levels::Levels;
 use lattice::book::Book;
 use lattice::book::PairTable;
-use script::layout::Script;
+use layout::Script;
 ghost use Rattle.flow.specs.Flow.{levelsOf, Ready, Joins, Meets, FlowOf};
 
 // The write level and the test level of a checked script, and the smallest node whose need fails, or the number of

@@ -4,9 +4,9 @@ use crate::levels::Flow;
 use crate::levels::Levels;
 use crate::nodes;
 use lattice::book::PairTable;
-use script::children::children_of;
-use script::entries::part_at;
-use script::layout::Script;
+use fields::children::children_of;
+use layout::entries::part_at;
+use layout::Script;
 ghost use Prim.Native.Nat.{_<_};
 ghost use Rattle.flow.specs.Flow.{Ready, Joins, Meets, FlowAt};
 

@@ -13,7 +13,7 @@ use lib.Seq.{getD-set-same}
 use borrow.Author.Tests.{ltb-true}
 use Rattle.language.specs.Syntax.{Proc, nil, assign, letIn, ifThenElse, while, sequence, emit, local, watching, when, parallel, isNil}
 use Rattle.language.specs.Calls.{Line, lineFor}
-use Rattle.script.specs.Tree.{processOf, size}
+use Rattle.tree.specs.Tree.{processOf, size}
 use Rattle.runner.specs.Residual.{own, residual}
 use Rattle.runner.specs.Moves.{Running, system, logAfter, linesAfter, hasRoom, moved, Silent, isGone, isFull, Path, stays, moves, Ends, gone, full}
 use Rattle.runner.specs.Contracts.{At, Writes, Advances}

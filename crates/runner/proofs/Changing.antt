@@ -20,8 +20,8 @@ use Rattle.prelude.proofs.Bools.{and-left, and-right, by-cases}
 use Rattle.prelude.proofs.Searches.{all-elim}
 use Rattle.language.specs.Syntax.{parallel}
 use Rattle.language.specs.Steps.{present, change}
-use Rattle.script.specs.declared.layout.Script.{Script}
-use Rattle.script.specs.Entries.{partOf, node}
+use Rattle.layout.specs.declared.Script.{Script}
+use Rattle.layout.specs.Entries.{partOf, node}
 use Rattle.runner.specs.declared.forms.Front.{Front}
 use Rattle.runner.specs.Residual.{own}
 use Rattle.runner.specs.Forms.{gone, mover, watched, guarded, beside, formRows, formOf, fromSecond, frontOf, partIn}

@@ -11,7 +11,7 @@ use lib.Dec.{eqb}
 use lib.ListN.{getD, take, drop, replicate}
 use Rattle.prelude.proofs.Bools.{and-intro, and-left, and-right}
 use Rattle.language.specs.Syntax.{Proc, nil, assign, letIn, ifThenElse, while, sequence, emit, local, watching, when, parallel}
-use Rattle.script.specs.Tree.{size}
+use Rattle.tree.specs.Tree.{size}
 use Rattle.runner.specs.Residual.{own, firstOf, secondOf, residual}
 use Rattle.runner.specs.Frames.{leavesAlone}
 

@@ -13,8 +13,8 @@ use lib.IntN.{ℤ}
 use lib.ListN.{length}
 use Rattle.language.specs.Syntax.{Proc, isNil}
 use Rattle.language.specs.Steps.{present, suspended}
-use Rattle.script.specs.declared.layout.Script.{Script}
-use Rattle.script.specs.Layout.{layoutOf}
+use Rattle.layout.specs.declared.Script.{Script}
+use Rattle.layout.specs.Layout.{layoutOf}
 use Rattle.runner.specs.declared.forms.Front.{Front}
 use Rattle.runner.specs.Residual.{own}
 use Rattle.runner.specs.Forms.{mover, guarded, frontOf, partIn}

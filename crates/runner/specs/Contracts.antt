@@ -14,11 +14,11 @@ use Rattle.prelude.specs.Search.{any}
 use Rattle.language.specs.Syntax.{Names, Operator, add, subtract, multiply, divide, less, equal, Proc, nil, isNil}
 use Rattle.language.specs.Steps.{held, present, value, apply, suspended, move}
 use Rattle.language.specs.Calls.{Line, System, Ending, finished, spent, logFull, lineFor, calledFor}
-use Rattle.script.specs.declared.layout.Script.{Script}
-use Rattle.script.specs.Layout.{nameCount, expressionCount, nodeCount, Laid}
-use Rattle.script.specs.Entries.{partOf, node}
-use Rattle.script.specs.Tree.{expressionOf, processOf, tree, size}
-use Rattle.script.specs.Checked.{Checked}
+use Rattle.layout.specs.declared.Script.{Script}
+use Rattle.layout.specs.Layout.{nameCount, expressionCount, nodeCount, Laid}
+use Rattle.layout.specs.Entries.{partOf, node}
+use Rattle.tree.specs.Tree.{expressionOf, processOf, tree, size}
+use Rattle.reach.specs.Checked.{Checked}
 use Rattle.runner.specs.declared.forms.Front.{Front}
 use Rattle.runner.specs.declared.log.Noted.{Noted}
 use Rattle.runner.specs.declared.Ran.{Ran}

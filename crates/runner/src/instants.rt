@@ -3,14 +3,14 @@ use crate::forms;
 use crate::forms::find_front;
 use crate::forms::find_rear;
 use crate::values;
-use script::layout::Script;
+use layout::Script;
 ghost use mathlib.Core.Path.{_≡_};
 ghost use Prim.Native.Nat.{_<_};
 ghost use lib.ListN.{length};
 ghost use Rattle.language.specs.Steps.{change, instantStart};
 ghost use Rattle.language.specs.Calls.{givenBack};
-ghost use Rattle.script.specs.Layout.{layoutOf};
-ghost use Rattle.script.specs.Tree.{namesOf};
+ghost use Rattle.layout.specs.Layout.{layoutOf};
+ghost use Rattle.tree.specs.Tree.{namesOf};
 ghost use Rattle.runner.specs.Plan.{KeepsPlan};
 ghost use Rattle.runner.specs.Contracts.{Valued, At, left, isPresentSignal, someSignalPresent};
 
@@ -54,7 +54,7 @@ fn is_present_signal(s: &[u8], c: Script, values: &[i32], x: usize) -> bool
     requires { ⌜ Valued (now s) c (now values) × (x < length (now values)) ⌝ }
     ensures { λ r. ⌜ r ≡ isPresentSignal (namesOf (now (s .entry))) (now (values .entry)) x ⌝ }
 {
-    let name = script::entries::name_at(s, c, x);
+    let name = layout::entries::name_at(s, c, x);
     if name.kind != 1 {
         return false;
     }
@@ -84,7 +84,7 @@ pub fn clear_signals(s: &[u8], c: Script, values: &mut [i32])
     let n = c.names;
     let mut x: usize = 0;
     while x < n {
-        let name = script::entries::name_at(s, c, x);
+        let name = layout::entries::name_at(s, c, x);
         if name.kind == 1 {
             values[x] = 0;
         }
@@ -100,8 +100,8 @@ pub fn clear_owned(s: &[u8], c: Script, values: &mut [i32])
     let n = c.names;
     let mut x: usize = 0;
     while x < n {
-        let name = script::entries::name_at(s, c, x);
-        if name.owner != script::entries::SESSION {
+        let name = layout::entries::name_at(s, c, x);
+        if name.owner != layout::entries::SESSION {
             values[x] = 0;
         }
         x += 1;

@@ -10,12 +10,12 @@ mod advance; // advance.rt: a node is run as far as it goes within the instant
 
 use crate::moves::Counts;
 use crate::moves::Limits;
-use script::layout::Script;
+use layout::Script;
 ghost use mathlib.Core.Path.{_≡_};
 ghost use Prim.Native.Nat.{_/_, _≤_};
 ghost use lib.ListN.{length, replicate};
-ghost use Rattle.script.specs.Layout.{nodeCount};
-ghost use Rattle.script.specs.Tree.{namesOf};
+ghost use Rattle.layout.specs.Layout.{nodeCount};
+ghost use Rattle.tree.specs.Tree.{namesOf};
 ghost use Rattle.runner.specs.Outcome.{outcome};
 ghost use Rattle.runner.specs.Plan.{KeepsPlan};
 ghost use Rattle.runner.specs.Contracts.{mostSteps, Valued, seenIn, starting, endingOf, Gives};

@@ -2,11 +2,11 @@
 use crate::forms;
 use crate::log;
 use crate::values;
-use script::layout::Script;
+use layout::Script;
 ghost use mathlib.Core.Path.{_≡_};
 ghost use Prim.Native.Nat.{_/_, _≤_, _<_};
 ghost use lib.ListN.{length, replicate};
-ghost use Rattle.script.specs.Entries.{partOf, node};
+ghost use Rattle.layout.specs.Entries.{partOf, node};
 ghost use Rattle.runner.specs.Residual.{own};
 ghost use Rattle.runner.specs.Forms.{mover, frontOf};
 ghost use Rattle.runner.specs.Plan.{KeepsPlan};
@@ -64,7 +64,7 @@ fn move_let(
     requires { ⌜ Valued (now s) c (now values) × (KeepsPlan (now s) (now plan) × (At (now s) k (now state) × ((partOf (now s) (node (now s) k) .kind ≡ 2) × (own (now state) ≡ 0)))) ⌝ }
     ensures { λ _. ⌜ Silent (left (now (s .entry)) k (now (state .entry))) (now (values .entry)) (left (now (s .entry)) k (now (state .exit))) (now (values .exit)) ⌝ }
 {
-    let p = script::entries::part_at(s, c, c.expressions + k);
+    let p = layout::entries::part_at(s, c, c.expressions + k);
     let x = p.a;
     let v = values::value_of(plan, values, p.b);
     values[x] = v;
@@ -76,7 +76,7 @@ fn move_local(s: &[u8], c: Script, values: &mut [i32], state: &mut [u8], k: usiz
     requires { ⌜ Valued (now s) c (now values) × (At (now s) k (now state) × ((partOf (now s) (node (now s) k) .kind ≡ 7) × (own (now state) ≡ 0))) ⌝ }
     ensures { λ _. ⌜ Silent (left (now (s .entry)) k (now (state .entry))) (now (values .entry)) (left (now (s .entry)) k (now (state .exit))) (now (values .exit)) ⌝ }
 {
-    let p = script::entries::part_at(s, c, c.expressions + k);
+    let p = layout::entries::part_at(s, c, c.expressions + k);
     let a = p.a;
     values[a] = 0;
     state[0] = 1;
@@ -94,7 +94,7 @@ fn move_if(
     requires { ⌜ Valued (now s) c (now values) × (KeepsPlan (now s) (now plan) × (At (now s) k (now state) × ((partOf (now s) (node (now s) k) .kind ≡ 3) × (own (now state) ≡ 0)))) ⌝ }
     ensures { λ _. ⌜ Silent (left (now (s .entry)) k (now (state .entry))) (now (values .entry)) (left (now (s .entry)) k (now (state .exit))) (now (values .entry)) ⌝ }
 {
-    let p = script::entries::part_at(s, c, c.expressions + k);
+    let p = layout::entries::part_at(s, c, c.expressions + k);
     if values::test_holds(s, plan, values, p.a) {
         state[0] = 1;
     } else {
@@ -114,7 +114,7 @@ fn move_while(
     requires { ⌜ Valued (now s) c (now values) × (KeepsPlan (now s) (now plan) × (At (now s) k (now state) × ((partOf (now s) (node (now s) k) .kind ≡ 4) × (own (now state) ≡ 0)))) ⌝ }
     ensures { λ _. ⌜ Silent (left (now (s .entry)) k (now (state .entry))) (now (values .entry)) (left (now (s .entry)) k (now (state .exit))) (now (values .entry)) ⌝ }
 {
-    let p = script::entries::part_at(s, c, c.expressions + k);
+    let p = layout::entries::part_at(s, c, c.expressions + k);
     if values::test_holds(s, plan, values, p.a) {
         state[0] = 1;
         clear(&mut state[1..]);
@@ -198,7 +198,7 @@ pub fn move_own(
     if limits.steps <= at.steps {
         return Done { why: SPENT, at };
     }
-    let p = script::entries::part_at(s, c, c.expressions + k);
+    let p = layout::entries::part_at(s, c, c.expressions + k);
     let x = p.a;
     if p.kind == 1 {
         let v = values::value_of(plan, values, p.b);

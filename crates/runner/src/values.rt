@@ -1,14 +1,14 @@
 // What the names hold, and the values of expressions.
 use crate::plan;
-use script::layout::Script;
+use layout::Script;
 ghost use mathlib.Core.Path.{_≡_};
 ghost use Prim.Native.Nat.{_<_};
 ghost use lib.ListN.{length};
 ghost use Rattle.language.specs.Steps.{present, test};
-ghost use Rattle.script.specs.Layout.{nameCount, expressionCount, nodeCount};
-ghost use Rattle.script.specs.Entries.{partOf, node};
-ghost use Rattle.script.specs.Tree.{expressionOf};
-ghost use Rattle.script.specs.Checked.{Checked};
+ghost use Rattle.layout.specs.Layout.{nameCount, expressionCount, nodeCount};
+ghost use Rattle.layout.specs.Entries.{partOf, node};
+ghost use Rattle.tree.specs.Tree.{expressionOf};
+ghost use Rattle.reach.specs.Checked.{Checked};
 ghost use Rattle.runner.specs.Plan.{kindIn, operandIn, KeepsPlan};
 ghost use Rattle.runner.specs.Contracts.{applied, leafValue, Evaluable, IsValue};
 

@@ -9,13 +9,14 @@ use lib.Dec.{leb, ltb}
 use borrow.Author.Tests.{lt-ltb, ltb-true, le-leb, leb-true, eq-eqb, not-false}
 use Rattle.prelude.specs.Refusals.{refusedBy, notRefused, passes}
 use Rattle.prelude.proofs.Bools.{and-intro, and-left, and-right}
-use Rattle.script.specs.Layout.{tailIsRight, countsAreRight, layoutOf, nameCount, expressionCount, nodeCount, partCount}
-use Rattle.script.specs.Entries.{nameOf, node}
-use Rattle.script.specs.Uses.{isLoose}
-use Rattle.script.specs.Reach.{isOutOfReach}
-use Rattle.script.specs.Refusals.{nameIsRight, partIsRight, placeOfNode, joinRefusal, refusal, isAccepted}
-use Rattle.script.specs.Checked.{Checked, Levelled}
-use Rattle.script.proofs.Layouts.{few-bounds, laid}
+use Rattle.layout.specs.Layout.{tailIsRight, countsAreRight, layoutOf, nameCount, expressionCount, nodeCount, partCount}
+use Rattle.layout.specs.Entries.{nameOf, node}
+use Rattle.layout.proofs.Layouts.{few-bounds, laid}
+use Rattle.faults.specs.Faults.{nameIsRight, partIsRight}
+use Rattle.uses.specs.Uses.{isLoose}
+use Rattle.reach.specs.Reach.{isOutOfReach}
+use Rattle.reach.specs.Checked.{Checked, Levelled}
+use Rattle.script.specs.Refusals.{placeOfNode, joinRefusal, refusal, isAccepted}
 use Rattle.script.proofs.Refusing.{passes-test, past-test, passes-first, past-first, both, sound, joined}
 
 module _ (s : List ℕ) (levels : ℕ) where

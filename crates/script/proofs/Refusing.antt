@@ -13,11 +13,13 @@ use Rattle.prelude.specs.Refusals.{refusedBy, notRefused, passes}
 use Rattle.prelude.specs.Search.{first}
 use Rattle.prelude.proofs.Bools.{and-right}
 use Rattle.prelude.proofs.Searches.{NoneBelow, first-within, first-at-end, first-none, first-same}
-use Rattle.script.specs.declared.layout.Script.{Script}
-use Rattle.script.specs.Layout.{layoutOf, nameCount, expressionCount, nodeCount}
-use Rattle.script.specs.Entries.{nameOf, node}
-use Rattle.script.specs.Uses.{isLoose}
-use Rattle.script.specs.Refusals.{nameIsRight, partIsRight, Sound, Joined, atFirst, placeOfNode, inOrder, atFirstPart}
+use Rattle.layout.specs.declared.Script.{Script}
+use Rattle.layout.specs.Layout.{layoutOf, nameCount, expressionCount, nodeCount}
+use Rattle.layout.specs.Entries.{nameOf, node}
+use Rattle.faults.specs.Faults.{nameIsRight, partIsRight, Sound}
+use Rattle.uses.specs.Uses.{isLoose}
+use Rattle.reach.specs.Checked.{Joined}
+use Rattle.script.specs.Refusals.{atFirst, placeOfNode, inOrder, atFirstPart}
 
 -- a test that refuses, and one that does not
 pub passes-test :

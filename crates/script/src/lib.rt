@@ -1,22 +1,13 @@
 // The script file: any bytes in; out comes a checked script, or a refusal.
-pub mod layout; // layout.rt: the layout by value, with the limits
-mod tail; // tail.rt: the layout from the tail, refusals 4 and 5
-mod roles; // roles.rt: what the fields of each kind hold
-pub mod entries; // entries.rt: names, and the parts: expressions and nodes
-mod fields; // fields.rt: the fields of a part
-mod faults; // faults.rt: refusals 6, 7 and 8
-mod uses; // uses.rt: refusal 9
-mod reach; // reach.rt: refusal 10
-pub mod sizes; // sizes.rt: how many nodes each process has
-pub mod children; // children.rt: the children of a node
-
-use crate::layout::Script;
+use layout::Script;
+use layout::tail;
 use prelude::Refusal;
 ghost use mathlib.Core.Path.{_≡_};
 ghost use Prim.Native.Nat.{_≤_};
 ghost use Rattle.prelude.specs.Refusals.{refusedBy, notRefused};
-ghost use Rattle.script.specs.Layout.{Laid, mostExpressions, mostNodes, mostParts};
-ghost use Rattle.script.specs.Refusals.{Sound, inOrder, joinRefusal, refusal};
+ghost use Rattle.layout.specs.Layout.{Laid, mostExpressions, mostNodes, mostParts};
+ghost use Rattle.faults.specs.Faults.{Sound};
+ghost use Rattle.script.specs.Refusals.{inOrder, joinRefusal, refusal};
 ghost use Rattle.script.specs.Load.{loaded};
 
 // What the bytes of a script give: the refusal, and beside it the layout of the file, all 0 where it is refused.
@@ -81,15 +72,15 @@ fn refusal(s: &[u8], levels: usize) -> Refusal
     }
     let e = c.expressions;
     let n = c.nodes;
-    let wrong_name = faults::first_wrong_name(s, c, levels);
+    let wrong_name = faults::names::first_wrong_name(s, c, levels);
     if wrong_name < c.names {
         return refused(6, wrong_name);
     }
-    let wrong = faults::first_wrong_part(s, c, 0, e);
+    let wrong = faults::parts::first_wrong_part(s, c, 0, e);
     if wrong < e {
         return refused(7, wrong);
     }
-    let wrong_node = faults::first_wrong_part(s, c, e, n);
+    let wrong_node = faults::parts::first_wrong_part(s, c, e, n);
     if wrong_node < n {
         return refused(8, wrong_node);
     }

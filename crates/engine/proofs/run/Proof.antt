@@ -16,14 +16,14 @@ use Rattle.lattice.proofs.Passing.{passing}
 use Rattle.lattice.proofs.Sizes.{few-read}
 use Rattle.lattice.proofs.Theorems.{order-at}
 use Rattle.language.specs.Calls.{readable}
-use Rattle.script.specs.Layout.{nameCount, Laid}
-use Rattle.script.specs.Entries.{nameOf}
-use Rattle.script.specs.Tree.{namesOf}
-use Rattle.script.proofs.Layouts.{few-bounds, names-are, nodes-are}
+use Rattle.layout.specs.Layout.{nameCount, Laid}
+use Rattle.layout.specs.Entries.{nameOf}
+use Rattle.tree.specs.Tree.{namesOf}
+use Rattle.layout.proofs.Layouts.{few-bounds, names-are, nodes-are}
 use Rattle.script.proofs.Theorems.{accepted-exactly}
 use Rattle.runner.specs.Contracts.{seenIn}
 use Rattle.runner.proofs.Residuals.{take-zeros}
-use Rattle.script.specs.Checked.{Checked, Levelled}
+use Rattle.reach.specs.Checked.{Checked, Levelled}
 use Rattle.engine.specs.Refusals.{checkRefusal, callRefusal, runRefusal}
 use Rattle.engine.specs.Answers.{Left}
 use Rattle.engine.proofs.Passing.{Accepted, accepted, run-accepted, run-bounds}

@@ -11,12 +11,12 @@ use Rattle.prelude.specs.declared.Refusal.{Refusal}
 use Rattle.prelude.specs.Refusals.{notRefused, passes}
 use Rattle.prelude.specs.Search.{first}
 use Rattle.prelude.proofs.Searches.{first-same}
-use Rattle.script.specs.Layout.{mostParts, mostExpressions, mostNodes, expressionCount, nodeCount}
-use Rattle.script.specs.Entries.{node}
-use Rattle.script.specs.Uses.{isLoose, KeepsTimes}
-use Rattle.script.specs.Reach.{isOutOfReach}
+use Rattle.layout.specs.Layout.{mostParts, mostExpressions, mostNodes, expressionCount, nodeCount}
+use Rattle.layout.specs.Entries.{node}
+use Rattle.layout.proofs.Layouts.{few-bounds, expressions-are, nodes-are}
+use Rattle.uses.specs.Uses.{isLoose, KeepsTimes}
+use Rattle.reach.specs.Reach.{isOutOfReach}
 use Rattle.script.specs.Refusals.{inOrder, atFirstPart, joinRefusal}
-use Rattle.script.proofs.Layouts.{few-bounds, expressions-are, nodes-are}
 use Rattle.script.proofs.Refusing.{missed, in-order-found, in-order-past, joined, over-expressions, over-nodes, over-parts}
 use borrow.Author.Needs.{needs}
 use Rattle.script.proofs.join_refusal.Statement.{statement}

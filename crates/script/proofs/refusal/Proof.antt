@@ -9,12 +9,13 @@ use borrow.Author.Tests.{not-true, not-false}
 use Rattle.prelude.specs.Refusals.{refusedBy}
 use Rattle.prelude.specs.Search.{first}
 use Rattle.prelude.proofs.Searches.{NoneBelow}
-use Rattle.script.specs.declared.layout.Script.{Script}
-use Rattle.script.specs.Layout.{mostNames, mostExpressions, mostNodes, tailIsRight, countsAreRight, layoutOf, nameCount, expressionCount, nodeCount, Laid}
-use Rattle.script.specs.Entries.{node}
-use Rattle.script.specs.Refusals.{nameIsRight, partIsRight, refusal}
-use Rattle.script.proofs.Layouts.{few-bounds, names-are, expressions-are, nodes-are}
-use Rattle.script.proofs.Layouts as layouts
+use Rattle.layout.specs.declared.Script.{Script}
+use Rattle.layout.specs.Layout.{mostNames, mostExpressions, mostNodes, tailIsRight, countsAreRight, layoutOf, nameCount, expressionCount, nodeCount, Laid}
+use Rattle.layout.specs.Entries.{node}
+use Rattle.layout.proofs.Layouts.{few-bounds, names-are, expressions-are, nodes-are}
+use Rattle.layout.proofs.Layouts as layouts
+use Rattle.faults.specs.Faults.{nameIsRight, partIsRight}
+use Rattle.script.specs.Refusals.{refusal}
 use Rattle.script.proofs.Refusing.{past-test, missed, at-first, past-first, sound, over-expressions, over-nodes}
 use borrow.Author.Needs.{needs}
 use Rattle.script.proofs.refusal.Statement.{statement}

@@ -3,9 +3,9 @@ use mathlib.Core.Path.{sym, ap, _∙_, subst}
 use native.Mathlib.Omega.{arith}
 use borrow.Author.Needs.{needs, fits-under}
 use Rattle.lattice.specs.LevelBook.{mostLevels}
-use Rattle.script.specs.Roles.{nodeKinds}
-use Rattle.script.specs.Entries.{partOf}
-use Rattle.script.proofs.Layouts.{few-bounds, expressions-are, nodes-are}
+use Rattle.fields.specs.Roles.{nodeKinds}
+use Rattle.layout.specs.Entries.{partOf}
+use Rattle.layout.proofs.Layouts.{few-bounds, expressions-are, nodes-are}
 use Rattle.flow.specs.Flow.{FlowWithin, IsNodeAt}
 use Rattle.flow.proofs.BookLevels.{flow-index}
 use Rattle.flow.proofs.Shapes.{kind-below}
@@ -22,8 +22,8 @@ use Rattle.flow.proofs.nodes.both_of.Reads as both-of-reads
 use Rattle.flow.proofs.nodes.node_flow.Reads as node-flow-reads
 use Rattle.flow.proofs.nodes.own_levels.Reads as own-levels-reads
 use Rattle.flow.proofs.nodes.pair_need.Reads as pair-need-reads
-use Rattle.script.proofs.children.children_of.Reads as children-of-reads
-use Rattle.script.proofs.entries.part_at.Reads as part-at-reads
+use Rattle.fields.proofs.children.children_of.Reads as children-of-reads
+use Rattle.layout.proofs.entries.part_at.Reads as part-at-reads
 use Rattle.flow.proofs.walk.+flow_at.{statement}
 use Rattle.flow.proofs.walk.+flow_at.Tie.{close}
 

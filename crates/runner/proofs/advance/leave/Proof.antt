@@ -6,7 +6,7 @@ use native.Mathlib.Numerals.{add-one}
 use native.Mathlib.Omega.{arith}
 use denote.Ref.{now}
 use lib.ListN.{set}
-use Rattle.script.specs.Layout.{layoutOf}
+use Rattle.layout.specs.Layout.{layoutOf}
 use Rattle.runner.specs.declared.forms.Front.{Front}
 use Rattle.runner.specs.Residual.{own}
 use Rattle.runner.specs.Moves.{Silent}

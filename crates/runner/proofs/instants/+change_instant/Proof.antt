@@ -6,7 +6,7 @@ use native.Mathlib.Omega.{arith}
 use lib.ListN.{length-set}
 use borrow.Author.Tests.{not-true, not-false}
 use Rattle.language.specs.Steps.{present}
-use Rattle.script.specs.Layout.{layoutOf}
+use Rattle.layout.specs.Layout.{layoutOf}
 use Rattle.runner.specs.Forms.{watched, guarded}
 use Rattle.runner.proofs.Sights.{signalAt}
 use Rattle.runner.proofs.Advancing.{some-bytes}

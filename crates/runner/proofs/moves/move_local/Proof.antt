@@ -4,9 +4,9 @@ use Prim.Native.Nat.{_<_}
 use native.Mathlib.Omega.{arith}
 use denote.Ref.{now}
 use lib.ListN.{length}
-use Rattle.script.specs.declared.entries.Part.{Part}
-use Rattle.script.specs.Entries.{partOf, node}
-use Rattle.script.proofs.Layouts.{few-bounds, names-are, nodes-are}
+use Rattle.layout.specs.declared.entries.Part.{Part}
+use Rattle.layout.specs.Entries.{partOf, node}
+use Rattle.layout.proofs.Layouts.{few-bounds, names-are, nodes-are}
 use Rattle.runner.proofs.Reading.{node-read}
 use Rattle.runner.proofs.Advancing.{some-bytes}
 use Rattle.runner.proofs.Movers.{known, local-moves}

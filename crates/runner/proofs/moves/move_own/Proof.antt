@@ -8,10 +8,10 @@ use denote.Ref.{now}
 use mir.Syntax.{w32}
 use mir.Facts.{toZ-ofZ}
 use lib.ListN.{length}
-use Rattle.script.specs.declared.entries.Part.{Part}
-use Rattle.script.specs.Layout.{nameCount, expressionCount}
-use Rattle.script.specs.Entries.{partOf, node}
-use Rattle.script.proofs.Layouts.{few-bounds, names-are, nodes-are}
+use Rattle.layout.specs.declared.entries.Part.{Part}
+use Rattle.layout.specs.Layout.{nameCount, expressionCount}
+use Rattle.layout.specs.Entries.{partOf, node}
+use Rattle.layout.proofs.Layouts.{few-bounds, names-are, nodes-are}
 use Rattle.runner.specs.Residual.{own}
 use Rattle.runner.specs.Moves.{spent}
 use Rattle.runner.specs.Contracts.{runningAt}

@@ -3,14 +3,14 @@ use mathlib.Core.Path.{_≡_, sym, ap, _∙_, subst}
 use Prim.Native.Nat.{_<_}
 use native.Mathlib.Omega.{arith}
 use denote.Ref.{now}
-use Rattle.script.specs.declared.entries.Part.{Part}
-use Rattle.script.specs.Layout.{expressionCount}
-use Rattle.script.specs.Entries.{partOf, node}
-use Rattle.script.proofs.Layouts.{nodes-are}
+use Rattle.layout.specs.declared.entries.Part.{Part}
+use Rattle.layout.specs.Layout.{expressionCount}
+use Rattle.layout.specs.Entries.{partOf, node}
+use Rattle.layout.proofs.Layouts.{nodes-are}
 use Rattle.runner.proofs.Reading.{node-read}
 use Rattle.runner.proofs.Advancing.{some-bytes}
 use Rattle.language.specs.Steps.{test}
-use Rattle.script.specs.Tree.{expressionOf}
+use Rattle.tree.specs.Tree.{expressionOf}
 use lib.ListN.{length-set}
 use Rattle.runner.proofs.Movers.{known, round-moves, cleared-long, done-moves}
 use borrow.Author.Needs.{needs}

@@ -2,11 +2,11 @@
 use mathlib.Core.Path.{_≡_, sym, ap, _∙_, subst}
 use Prim.Native.Nat.{_+_, _<_}
 use native.Mathlib.Omega.{arith}
-use Rattle.script.specs.declared.entries.Part.{Part}
-use Rattle.script.specs.Entries.{partAt, partOf, node}
-use Rattle.script.specs.Tree.{processOf, size}
-use Rattle.script.proofs.Layouts.{few-bounds, nodes-are}
-use Rattle.script.proofs.Values.{word-fits}
+use Rattle.layout.specs.declared.entries.Part.{Part}
+use Rattle.layout.specs.Entries.{partAt, partOf, node}
+use Rattle.tree.specs.Tree.{processOf, size}
+use Rattle.layout.proofs.Layouts.{few-bounds, nodes-are}
+use Rattle.layout.proofs.Values.{word-fits}
 use Rattle.runner.proofs.Reading.{node-read}
 use Rattle.runner.proofs.Fronts.{kind-known}
 use Rattle.runner.proofs.Plans.{forms-fit, planned}

@@ -7,7 +7,7 @@ use lib.ListN.{length}
 use borrow.Author.Tests.{not-true, not-false}
 use Rattle.language.specs.Steps.{present, suspended}
 use Rattle.runner.specs.Residual.{own}
-use Rattle.script.specs.Layout.{layoutOf}
+use Rattle.layout.specs.Layout.{layoutOf}
 use Rattle.runner.specs.Forms.{guarded, frontOf, partIn}
 use Rattle.runner.specs.Contracts.{left, RearWaits}
 use Rattle.runner.proofs.Sights.{signalAt}

@@ -8,10 +8,10 @@ use lib.ListN.{getD}
 use Rattle.language.specs.Values.{negation}
 use Rattle.language.specs.Steps.{value}
 use Rattle.language.proofs.Bits.{given-back}
-use Rattle.script.specs.Layout.{layoutOf, expressionCount}
-use Rattle.script.specs.Tree.{expressionOf}
-use Rattle.script.specs.Checked.{Checked}
-use Rattle.script.proofs.Layouts.{few-bounds, expressions-are}
+use Rattle.layout.specs.Layout.{layoutOf, expressionCount}
+use Rattle.tree.specs.Tree.{expressionOf}
+use Rattle.reach.specs.Checked.{Checked}
+use Rattle.layout.proofs.Layouts.{few-bounds, expressions-are}
 use Rattle.runner.specs.Plan.{kindIn, operandIn, laterIn, KeepsPlan}
 use Rattle.runner.specs.Contracts.{applied, Evaluable}
 use Rattle.runner.proofs.Evaluating.{Tells, word-tells}

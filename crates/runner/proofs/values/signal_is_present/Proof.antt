@@ -3,9 +3,9 @@ use mathlib.Core.Path.{_≡_, ap, _∙_}
 use Prim.Native.Nat.{_<_}
 use native.Mathlib.Omega.{arith}
 use Rattle.language.specs.Steps.{present}
-use Rattle.script.specs.Layout.{layoutOf}
-use Rattle.script.specs.Entries.{partOf, node}
-use Rattle.script.proofs.Layouts.{few-bounds, nodes-are}
+use Rattle.layout.specs.Layout.{layoutOf}
+use Rattle.layout.specs.Entries.{partOf, node}
+use Rattle.layout.proofs.Layouts.{few-bounds, nodes-are}
 use borrow.Author.Needs.{needs}
 use Rattle.runner.proofs.values.signal_is_present.Statement.{statement}
 use Rattle.runner.proofs.values.signal_is_present.Tie as tie

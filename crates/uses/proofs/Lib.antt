@@ -1,0 +1,2 @@
+-- Laws about what a field uses, which other crates use.
+pub mod Used
