@@ -12,7 +12,7 @@ use lib.ListN.{length, List·getD-eq-default}
 use borrow.Author.Tests.{eq-eqb, ne-eqb, eqb-true, ltb-true, ltb-false, lt-ltb, le-ltb, not-false}
 use Rattle.prelude.specs.declared.Refusal.{Refusal}
 use Rattle.prelude.specs.Refusals.{refusedBy, notRefused, passes}
-use Rattle.prelude.proofs.Bools.{and-right, or-second, by-cases}
+use Rattle.prelude.proofs.Bools.{and-right, or-second}
 use Rattle.prelude.proofs.Searches.{first-within, first-at-end}
 use Rattle.lattice.specs.LevelBook.{count}
 use Rattle.lattice.specs.Refusals as books
@@ -29,7 +29,9 @@ use Rattle.script.proofs.Theorems.{accepted-exactly}
 use Rattle.flow.specs.Flow.{firstFailing}
 use Rattle.flow.proofs.Theorems.{needs-everywhere}
 use Rattle.runner.specs.Contracts.{mostSteps}
-use Rattle.engine.specs.Refusals.{orElse, flowRefusal, checkRefusal, valueIsRight, firstWrong, valuesRefusal, callRefusal, runRefusal}
+use Rattle.prelude.specs.Refusals.{orElse}
+use Rattle.prelude.proofs.Refusing.{passes-both, both-pass}
+use Rattle.engine.specs.Refusals.{flowRefusal, checkRefusal, valueIsRight, firstWrong, valuesRefusal, callRefusal, runRefusal}
 
 -- a row of the table passes where no fault is found, and where what it tests is right
 module _ (number place : ℕ) (refuses : passes (refusedBy number place) ≡ false) where
@@ -45,19 +47,6 @@ module _ (number place : ℕ) (refuses : passes (refusedBy number place) ≡ fal
       (right ≡ true) × (passes rest ≡ true)
   passes-test true rest h = (refl, h)
   passes-test false rest h = absurd (true≢false (sym h ∙ refuses))
-
--- two rows pass where each does
-module _ (r next : Refusal) where
-  passes-both : passes (orElse r next) ≡ true → (passes r ≡ true) × (passes next ≡ true)
-  passes-both =
-      by-cases
-      (λ z. passes z ≡ true → (passes r ≡ true) × (passes next ≡ true))
-      (passes r)
-      (λ t h. (t, h))
-      (λ f h. absurd (true≢false (sym h ∙ f)))
-
-  both-pass : passes r ≡ true → passes next ≡ true → passes (orElse r next) ≡ true
-  both-pass h k = rw h k
 
 module _ (b s : List ℕ) where
   -- what rows 1 to 11 leave

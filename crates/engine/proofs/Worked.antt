@@ -11,9 +11,9 @@ use Rattle.language.specs.Syntax.{isNil}
 use Rattle.language.specs.Levels.{expLevel, writeLevel, testLevel, need}
 use Rattle.language.specs.Steps.{evaluate, value, suspended, move, change, instantStart, step}
 use Rattle.language.specs.Calls.{calledFor, givenBack, logged, run}
-use Rattle.faults.specs.Faults.{holds}
-use Rattle.uses.specs.Uses.{used, timesUsed}
-use Rattle.reach.specs.Reach.{isOutOfReach}
+use Rattle.faults.specs.Faults.{holds, faultRefusal}
+use Rattle.uses.specs.Uses.{used, timesUsed, useRefusal}
+use Rattle.reach.specs.Reach.{isOutOfReach, reachRefusal}
 use Rattle.script.specs.Refusals as scripts
 use Rattle.tree.specs.Tree.{expressionOf, processOf}
 use Rattle.runner.specs.Outcome.{words}
@@ -22,5 +22,5 @@ use Rattle.engine.specs.Answers.{verdict, left}
 use Rattle.engine.specs.Examples.{PegsHold}
 
 pub pegs-hold : PegsHold
-unfolding firstFrom first any all count course entry table leastUpper top books.isFaulty books.firstFaulty books.firstLacking books.refusal clamped quotient isNil expLevel writeLevel testLevel need evaluate value suspended move change instantStart step calledFor givenBack logged run used timesUsed isOutOfReach holds scripts.joinRefusal scripts.refusal expressionOf processOf words checkRefusal valuesRefusal callRefusal runRefusal verdict left
+unfolding firstFrom first any all count course entry table leastUpper top books.isFaulty books.firstFaulty books.firstLacking books.refusal clamped quotient isNil expLevel writeLevel testLevel need evaluate value suspended move change instantStart step calledFor givenBack logged run used timesUsed isOutOfReach holds faultRefusal useRefusal reachRefusal scripts.entryRefusal scripts.refusal expressionOf processOf words checkRefusal valuesRefusal callRefusal runRefusal verdict left
 pegs-hold = refl

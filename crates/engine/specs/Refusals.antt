@@ -19,10 +19,7 @@ use Rattle.script.specs.Refusals as scripts
 use Rattle.tree.specs.Tree.{namesOf}
 use Rattle.flow.specs.Flow.{firstFailing}
 use Rattle.runner.specs.Contracts.{mostSteps}
-
--- the first refusal, if there is one
-abbrev pub orElse : Refusal → Refusal → Refusal
-orElse r next = cond (passes r) next r
+use Rattle.prelude.specs.Refusals.{orElse}
 
 -- row 11: 'a need above fails', 'first node'
 abbrev pub flowRefusal : List ℕ → List ℕ → Refusal

@@ -1,7 +1,7 @@
 // A level book and a script file are checked: refusals 1 to 11.
 use lattice::book::Book;
-use prelude::Refusal;
 use layout::Script;
+use prelude::Refusal;
 ghost use mathlib.Core.Path.{_≡_};
 ghost use Prim.Native.Nat.{_<_};
 ghost use Rattle.engine.specs.Contracts.{Prepares, refusedWith};

@@ -4,9 +4,12 @@ use mathlib.Core.Bool.{Bool, true, cond, not, _&&_, _||_}
 use mathlib.Core.List.{List}
 use Prim.Native.Nat.{ℕ, _<_}
 use lib.Dec.{eqb, leb, ltb}
+use Rattle.prelude.specs.declared.Refusal.{Refusal}
+use Rattle.prelude.specs.Refusals.{refusedBy, notRefused}
 use Rattle.prelude.specs.Search.{all}
 use Rattle.layout.specs.Layout.{nameCount, expressionCount, nodeCount, partCount}
 use Rattle.layout.specs.Entries.{nameOf, isSession, partOf, node}
+use Rattle.refusals.specs.Places.{atFirst}
 use Rattle.fields.specs.declared.Field.{Field}
 use Rattle.fields.specs.Roles.{unused, register, newRegister, newSignal, expression, child, half, expressionKinds, nodeKinds, isNew}
 use Rattle.fields.specs.Fields.{fieldCount, fieldOf}
@@ -63,3 +66,11 @@ partIsRight s q =
 pub record Sound (s : List ℕ) : Type 0 where
   pub owners : (x : ℕ) → x < nameCount s → ownerIsRight s x ≡ true
   pub parts : (q : ℕ) → q < partCount s → partIsRight s q ≡ true
+
+-- rows 6 to 8: the smallest name, then expression, then node at fault
+unfoldable pub faultRefusal : List ℕ → ℕ → Refusal
+faultRefusal s levels =
+    atFirst (λ x. not (nameIsRight s levels x)) (nameCount s) (refusedBy 6)
+    (atFirst (λ e. not (partIsRight s e)) (expressionCount s) (refusedBy 7)
+    (atFirst (λ k. not (partIsRight s (node s k))) (nodeCount s) (refusedBy 8)
+    notRefused))

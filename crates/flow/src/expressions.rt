@@ -3,9 +3,9 @@ use crate::kinds;
 use crate::levels::Levels;
 use lattice::book::PairTable;
 use lattice::book::level_at;
+use layout::Script;
 use layout::entries::name_at;
 use layout::entries::part_at;
-use layout::Script;
 ghost use Prim.Native.Nat.{_<_};
 ghost use Rattle.flow.specs.Flow.{Ready, Joins, LevelAt};
 

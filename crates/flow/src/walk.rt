@@ -3,10 +3,10 @@ use crate::kinds;
 use crate::levels::Flow;
 use crate::levels::Levels;
 use crate::nodes;
-use lattice::book::PairTable;
 use fields::children::children_of;
-use layout::entries::part_at;
+use lattice::book::PairTable;
 use layout::Script;
+use layout::entries::part_at;
 ghost use Prim.Native.Nat.{_<_};
 ghost use Rattle.flow.specs.Flow.{Ready, Joins, Meets, FlowAt};
 

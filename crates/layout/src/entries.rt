@@ -1,9 +1,9 @@
 // Names, and the parts, which are the expressions and then the nodes.
 use crate::Script;
-use crate::tail::word_at;
 ghost use mathlib.Core.Path.{_≡_};
-ghost use Prim.Native.Nat.{_+_, _<_};
-ghost use Rattle.layout.specs.Layout.{Laid};
+ghost use Prim.Native.Nat.{_+_, _<_, _≤_};
+ghost use lib.ListN.{length};
+ghost use Rattle.layout.specs.Layout.{wordAt, Laid};
 ghost use Rattle.layout.specs.Entries.{nameOf, partOf};
 
 pub struct Name {
@@ -28,6 +28,14 @@ impl Part {
 
 // The owner of a session name.
 pub const SESSION: usize = 65535;
+
+// A number of two bytes.
+pub fn word_at(s: &[u8], i: usize) -> usize
+    requires { ⌜ i + 2 ≤ length (now s) ⌝ }
+    ensures { λ r. ⌜ r ≡ wordAt (now (s .entry)) i ⌝ }
+{
+    prelude::word_of(s[i], s[i + 1]) as usize
+}
 
 pub fn name_at(s: &[u8], c: Script, x: usize) -> Name
     requires { ⌜ Laid (now s) c × (x < c .names) ⌝ }

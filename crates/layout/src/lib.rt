@@ -1,5 +1,4 @@
 // The layout of a script file by value, the limits of 01, and the entries that stand in it.
-pub mod tail; // tail.rt: the layout from the tail, refusals 4 and 5
 pub mod entries; // entries.rt: names, and the parts: expressions and nodes
 
 // The counts of a script file, and the offset of its parts: the expressions, then the nodes. Names start at 0.

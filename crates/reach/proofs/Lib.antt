@@ -4,3 +4,4 @@ pub mod Reaching
 pub mod Sets
 pub mod Entering
 pub mod ReachTables
+pub mod Refusing

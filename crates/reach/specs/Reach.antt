@@ -6,10 +6,12 @@ use mathlib.Core.List.{List}
 use Prim.Native.Nat.{ℕ, suc, _+_, _*_, _/_, _≤_, _<_}
 use lib.Dec.{eqb}
 use lib.ListN.{getD, length}
+use Rattle.prelude.specs.declared.Refusal.{Refusal}
 use Rattle.prelude.specs.Search.{any}
 use Rattle.prelude.specs.Course.{entry}
 use Rattle.prelude.specs.Sets.{IsSet}
-use Rattle.layout.specs.Layout.{mostParts, nameCount, partCount}
+use Rattle.layout.specs.Layout.{mostParts, nameCount, nodeCount, partCount}
+use Rattle.refusals.specs.Places.{atFirstPart}
 use Rattle.layout.specs.Entries.{nameOf, isSession, node}
 use Rattle.fields.specs.Roles.{child, isUse, isNew}
 use Rattle.fields.specs.Fields.{fieldCount, fieldOf}
@@ -54,3 +56,7 @@ pub record KeepsReachFrom (s : List ℕ) (i : ℕ) (sets : List ℕ) : Type 0 wh
 -- a table that keeps for each part the names in reach
 abbrev pub KeepsReach : List ℕ → List ℕ → Type 0
 KeepsReach s sets = (q : ℕ) → q < partCount s → IsSet (nameCount s) (λ x. inReach s x q) (getD sets q 0)
+
+-- row 10: 'owned name outside its body'
+unfoldable pub reachRefusal : List ℕ → Refusal
+reachRefusal s = atFirstPart s 10 (isOutOfReach s) (nodeCount s)

@@ -5,6 +5,8 @@ use layout::Script;
 use layout::entries::Part;
 use layout::entries::SESSION;
 use layout::entries::name_at;
+use prelude::Refusal;
+use refusals::places::in_order;
 use uses::used_at;
 ghost use mathlib.Core.Path.{_≡_};
 ghost use mathlib.Core.Bool.{_||_};
@@ -16,7 +18,7 @@ ghost use Rattle.layout.specs.Layout.{Laid, mostNames};
 ghost use Rattle.layout.specs.Entries.{isSession};
 ghost use Rattle.fields.specs.Fields.{fieldCount};
 ghost use Rattle.faults.specs.Faults.{Sound};
-ghost use Rattle.reach.specs.Reach.{missesName, isOutOfReach, opens, KeepsReachFrom, KeepsReach};
+ghost use Rattle.reach.specs.Reach.{missesName, isOutOfReach, opens, KeepsReachFrom, KeepsReach, reachRefusal};
 ghost use Rattle.reach.specs.Checked.{Joined};
 
 // Name x is in the set: bit x.
@@ -86,7 +88,7 @@ fn enter_fields(s: &[u8], c: Script, q: usize, sets: &mut [u64; Script::MAX_PART
 }
 
 // For each part the names in reach. A part is used by a later one, so this goes from the last part to the first.
-pub fn find_reach(s: &[u8], c: Script) -> [u64; Script::MAX_PARTS]
+fn find_reach(s: &[u8], c: Script) -> [u64; Script::MAX_PARTS]
     requires { ⌜ Laid (now s) c × Joined (now s) ⌝ }
     ensures { λ r. ⌜ KeepsReach (now (s .entry)) r ⌝ }
 {
@@ -128,7 +130,7 @@ fn is_out_of_reach(s: &[u8], c: Script, sets: &[u64; Script::MAX_PARTS], q: usiz
 }
 
 // Of the n parts from part `from` on, the smallest that uses a name out of reach by its number among them, or n.
-pub fn first_out_of_reach(
+fn first_out_of_reach(
     s: &[u8],
     c: Script,
     sets: &[u64; Script::MAX_PARTS],
@@ -146,4 +148,17 @@ pub fn first_out_of_reach(
         k += 1;
     }
     k
+}
+
+// Row 10.
+pub fn refusal(s: &[u8], c: Script) -> Refusal
+    requires { ⌜ Laid (now s) c × Joined (now s) ⌝ }
+    ensures { λ r. ⌜ r ≡ reachRefusal (now (s .entry)) ⌝ }
+{
+    let e = c.expressions;
+    let n = c.nodes;
+    let sets = find_reach(s, c);
+    let outside = first_out_of_reach(s, c, &sets, 0, e);
+    let outside_node = first_out_of_reach(s, c, &sets, e, n);
+    in_order(10, outside, e, outside_node, n)
 }

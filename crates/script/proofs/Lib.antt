@@ -1,5 +1,4 @@
 -- Laws that the proofs of several functions use, and the theorems of the crate.
-pub mod Refusing
 pub mod Accepting
 pub mod Theorems
 pub mod Worked

@@ -2,11 +2,13 @@
 use mathlib.Core.Path.{_≡_}
 use mathlib.Core.Bool.{Bool, cond, not}
 use mathlib.Core.List.{List}
-use Prim.Native.Nat.{ℕ, _+_, _*_, _/_, _%_, _<_}
+use Prim.Native.Nat.{ℕ, _+_, _-_, _*_, _/_, _%_, _<_}
 use lib.Dec.{eqb}
 use lib.ListN.{getD, length}
+use Rattle.prelude.specs.declared.Refusal.{Refusal}
 use Rattle.prelude.specs.Search.{count}
-use Rattle.layout.specs.Layout.{mostParts, expressionCount, partCount}
+use Rattle.layout.specs.Layout.{mostParts, expressionCount, nodeCount, partCount}
+use Rattle.refusals.specs.Places.{atFirstPart}
 use Rattle.fields.specs.declared.Field.{Field}
 use Rattle.fields.specs.Roles.{expression, child}
 use Rattle.fields.specs.Fields.{fieldCount, fieldOf}
@@ -41,3 +43,7 @@ KeepsTimes s times = (q : ℕ) → q < mostParts → getD times q 0 ≡ timesUse
 abbrev pub KeepsTimesTo : List ℕ → ℕ → List ℕ → Type 0
 KeepsTimesTo s i times =
     (length times ≡ mostParts) × ((q : ℕ) → q < mostParts → getD times q 0 ≡ count (λ k. eqb (used s k) q) i)
+
+-- row 9: 'used not exactly once'; the last node is not used
+unfoldable pub useRefusal : List ℕ → Refusal
+useRefusal s = atFirstPart s 9 (isLoose s) (nodeCount s - 1)

@@ -4,6 +4,8 @@ use fields::field_at;
 use fields::roles;
 use layout::Script;
 use layout::entries::Part;
+use prelude::Refusal;
+use refusals::places::in_order;
 ghost use mathlib.Core.Path.{_≡_};
 ghost use mathlib.Core.Bool.{not};
 ghost use lib.Dec.{eqb};
@@ -12,7 +14,7 @@ ghost use Prim.Native.Nat.{_+_, _*_, _<_, _≤_};
 ghost use Rattle.prelude.specs.Search.{first};
 ghost use Rattle.layout.specs.Layout.{mostParts, Laid};
 ghost use Rattle.fields.specs.Fields.{fieldCount};
-ghost use Rattle.uses.specs.Uses.{usedBy, used, KeepsTimes, KeepsTimesTo};
+ghost use Rattle.uses.specs.Uses.{usedBy, used, KeepsTimes, KeepsTimesTo, useRefusal};
 
 // The part that a field uses, or MAX_PARTS.
 fn used_by(c: Script, field: Field) -> usize
@@ -52,7 +54,7 @@ fn count_fields(s: &[u8], c: Script, q: usize, times: &mut [u16; Script::MAX_PAR
 }
 
 // For each part how often it is used.
-pub fn count_uses(s: &[u8], c: Script) -> [u16; Script::MAX_PARTS]
+fn count_uses(s: &[u8], c: Script) -> [u16; Script::MAX_PARTS]
     requires { ⌜ Laid (now s) c ⌝ }
     ensures { λ r. ⌜ KeepsTimes (now (s .entry)) r ⌝ }
 {
@@ -67,7 +69,7 @@ pub fn count_uses(s: &[u8], c: Script) -> [u16; Script::MAX_PARTS]
 }
 
 // Of the n parts from part `from` on, the smallest that is not used exactly once by its number among them, or n.
-pub fn first_loose(times: &[u16; Script::MAX_PARTS], from: usize, n: usize) -> usize
+fn first_loose(times: &[u16; Script::MAX_PARTS], from: usize, n: usize) -> usize
     requires { ⌜ from + n ≤ mostParts ⌝ }
     ensures { λ r. ⌜ r ≡ first (λ k. not (eqb (getD (now (times .entry)) (from + k) 0) 1)) n ⌝ }
 {
@@ -79,4 +81,21 @@ pub fn first_loose(times: &[u16; Script::MAX_PARTS], from: usize, n: usize) -> u
         k += 1;
     }
     k
+}
+
+// Row 9. The last node is used by nothing.
+pub fn refusal(s: &[u8], c: Script) -> Refusal
+    requires { ⌜ Laid (now s) c ⌝ }
+    ensures { λ r. ⌜ r ≡ useRefusal (now (s .entry)) ⌝ }
+{
+    let e = c.expressions;
+    let n = c.nodes - 1;
+    let times = count_uses(s, c);
+    in_order(
+        9,
+        first_loose(&times, 0, e),
+        e,
+        first_loose(&times, e, n),
+        n,
+    )
 }

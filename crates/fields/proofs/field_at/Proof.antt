@@ -35,7 +35,7 @@ word-at-requires c κs = search needs
 returns : tie.Need-returns
 returns c =
     let start = c .before .before .before .before .before .before in
-    simp (
+    rw (
       c .before .role-of .ensures,
       c .before .before .wide .ensures,
       c .word-at .ensures,

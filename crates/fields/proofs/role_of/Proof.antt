@@ -8,13 +8,13 @@ expression-role-requires : tie.Need-expression-role-requires
 expression-role-requires c κs = search needs
 
 returns : tie.Need-returns
-returns c = simp (lt-ltb _ _ (c .before .if1 .taken)) (c .expression-role .ensures)
+returns c = rw (lt-ltb _ _ (c .before .if1 .taken)) (c .expression-role .ensures)
 
 node-role-requires : tie.Need-node-role-requires
 node-role-requires c κs = search needs
 
 returns-2 : tie.Need-returns-2
-returns-2 c = simp (le-ltb _ _ (c .before .if1 .left)) (c .node-role .ensures)
+returns-2 c = rw (le-ltb _ _ (c .before .if1 .left)) (c .node-role .ensures)
 
 pub role-of-spec : {M : Type 1} → statement M
 role-of-spec = tie.close (tie.spec expression-role-requires returns node-role-requires returns-2)

@@ -4,10 +4,10 @@ use Rattle.faults.proofs.parts.kinds_for.Statement.{statement}
 use Rattle.faults.proofs.parts.kinds_for.Tie as tie
 
 returns : tie.Need-returns
-returns c = simp (lt-ltb _ _ (c .if1 .taken))
+returns c = rw (lt-ltb _ _ (c .if1 .taken))
 
 returns-2 : tie.Need-returns-2
-returns-2 c = simp (le-ltb _ _ (c .if1 .left))
+returns-2 c = rw (le-ltb _ _ (c .if1 .left))
 
 pub kinds-for-spec : {M : Type 1} → statement M
 kinds-for-spec = tie.close (tie.spec returns returns-2)

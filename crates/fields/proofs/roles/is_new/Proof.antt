@@ -4,10 +4,10 @@ use Rattle.fields.proofs.roles.is_new.Statement.{statement}
 use Rattle.fields.proofs.roles.is_new.Tie as tie
 
 returns : tie.Need-returns
-returns c = simp (eq-eqb _ _ (c .if1 .taken))
+returns c = rw (eq-eqb _ _ (c .if1 .taken))
 
 returns-2 : tie.Need-returns-2
-returns-2 c = simp (ne-eqb _ _ (c .if1 .left))
+returns-2 c = rw (ne-eqb _ _ (c .if1 .left))
 
 pub is-new-spec : {M : Type 1} → statement M
 is-new-spec = tie.close (tie.spec returns returns-2)

@@ -28,7 +28,7 @@ word-at-requires : tie.Need-word-at-requires
 word-at-requires c κs = search needs
 
 returns : tie.Need-returns
-returns c = simp (c .before .before .before .wide .ensures, c .before .wide2 .ensures, c .word-at .ensures)
+returns c = rw (c .before .before .before .wide .ensures, c .before .wide2 .ensures, c .word-at .ensures)
 
 pub name-at-spec : {M : Type 1} → statement M
 name-at-spec =

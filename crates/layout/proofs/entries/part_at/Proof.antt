@@ -45,7 +45,7 @@ word-at-requires-3 c κs = search needs
 
 returns : tie.Need-returns
 returns c =
-    simp (
+    rw (
       c .before .before .before .before .before .wide .ensures,
       c .before .before .before .wide2 .ensures,
       c .before .before .word-at .ensures,

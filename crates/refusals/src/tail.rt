@@ -1,20 +1,12 @@
 // The tail of a script file, and the layout that it gives: refusals 4 and 5.
-use crate::Script;
+use layout::Script;
+use layout::entries::word_at;
 ghost use mathlib.Core.Path.{_≡_};
 ghost use mathlib.Core.Bool.{true};
-ghost use Prim.Native.Nat.{_+_, _≤_};
-ghost use lib.ListN.{length};
-ghost use Rattle.layout.specs.Layout.{wordAt, offsetsAreRight, tailIsRight, countsAreRight, layoutOf};
+ghost use Rattle.layout.specs.Layout.{offsetsAreRight, tailIsRight, countsAreRight, layoutOf};
 
 // The last two bytes of a file.
 const MARK: usize = 0x5354;
-
-pub fn word_at(s: &[u8], i: usize) -> usize
-    requires { ⌜ i + 2 ≤ length (now s) ⌝ }
-    ensures { λ r. ⌜ r ≡ wordAt (now (s .entry)) i ⌝ }
-{
-    prelude::word_of(s[i], s[i + 1]) as usize
-}
 
 fn offsets_are_right(expressions: usize, nodes: usize, tail: usize) -> bool
     ensures { λ r. ⌜ r ≡ offsetsAreRight expressions nodes tail ⌝ }

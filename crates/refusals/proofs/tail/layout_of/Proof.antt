@@ -1,9 +1,9 @@
 -- `layout_of`: the file has a tail, whose offsets ascend.
 use native.Mathlib.Omega.{arith}
 use Rattle.layout.proofs.Layouts.{Tail, tail-is}
 use borrow.Author.Needs.{needs}
-use Rattle.layout.proofs.tail.layout_of.Statement.{statement}
-use Rattle.layout.proofs.tail.layout_of.Tie as tie
+use Rattle.refusals.proofs.tail.layout_of.Statement.{statement}
+use Rattle.refusals.proofs.tail.layout_of.Tie as tie
 
 tailed : (c : tie.After-shared-slice-known) → Tail (c .before .args .s .now)
 tailed c = tail-is (c .before .args .s .now) (c .before .pre)
@@ -27,7 +27,7 @@ sub-t8 : tie.Need-sub-t8
 sub-t8 c = omega (arith, tailed (c .before .before), c .word-at2 .ensures)
 
 returns : tie.Need-returns
-returns c = simp (c .before .word-at .ensures, c .word-at2 .ensures)
+returns c = rw (c .before .word-at .ensures, c .word-at2 .ensures)
 
 pub layout-of-spec : {M : Type 1} → statement M
 layout-of-spec =

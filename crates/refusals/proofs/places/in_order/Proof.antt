@@ -1,8 +1,8 @@
 -- `in_order`: each way out decides one test of the definition.
 use borrow.Author.Tests.{lt-ltb, le-ltb}
 use borrow.Author.Needs.{needs}
-use Rattle.script.proofs.in_order.Statement.{statement}
-use Rattle.script.proofs.in_order.Tie as tie
+use Rattle.refusals.proofs.places.in_order.Statement.{statement}
+use Rattle.refusals.proofs.places.in_order.Tie as tie
 
 refused-requires : tie.Need-refused-requires
 refused-requires c κs = search needs

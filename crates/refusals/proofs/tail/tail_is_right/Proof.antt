@@ -2,11 +2,11 @@
 use mathlib.Core.Path.{sym, _∙_}
 use borrow.Author.Tests.{le-leb, lt-leb, eq-eqb, ne-eqb}
 use borrow.Author.Needs.{needs}
-use Rattle.layout.proofs.tail.tail_is_right.Statement.{statement}
-use Rattle.layout.proofs.tail.tail_is_right.Tie as tie
+use Rattle.refusals.proofs.tail.tail_is_right.Statement.{statement}
+use Rattle.refusals.proofs.tail.tail_is_right.Tie as tie
 
 returns : tie.Need-returns
-returns c = simp (lt-leb _ _ (c .if1 .taken))
+returns c = rw (lt-leb _ _ (c .if1 .taken))
 
 add-word-at : tie.Need-add-word-at
 add-word-at c = search needs
@@ -16,7 +16,7 @@ word-at-requires c κs = search needs
 
 returns-2 : tie.Need-returns-2
 returns-2 c =
-    simp (le-leb _ _ (c .before .before .if1 .left), ne-eqb _ _ (λ e. c .if2 .taken (c .before .word-at .ensures ∙ e)))
+    rw (le-leb _ _ (c .before .before .if1 .left), ne-eqb _ _ (λ e. c .if2 .taken (c .before .word-at .ensures ∙ e)))
 
 add-word-at-2 : tie.Need-add-word-at-2
 add-word-at-2 c = search needs
@@ -26,7 +26,7 @@ word-at-requires-2 c κs = search needs
 
 returns-3 : tie.Need-returns-3
 returns-3 c =
-    simp (
+    rw (
       le-leb _ _ (c .before .before .before .before .if1 .left),
       eq-eqb _ _ (sym (c .before .before .before .word-at .ensures) ∙ c .before .before .if2 .left),
       ne-eqb _ _ (λ e. c .if3 .taken (c .before .word-at2 .ensures ∙ e)),
@@ -46,7 +46,7 @@ offsets-are-right-requires c κs = search needs
 
 returns-4 : tie.Need-returns-4
 returns-4 c =
-    simp (
+    rw (
       le-leb _ _ (c .before .before .before .before .before .before .before .if1 .left),
       eq-eqb _ _ (sym (c .before .before .before .before .before .before .word-at .ensures)
           ∙ c .before .before .before .before .before .if2 .left),
