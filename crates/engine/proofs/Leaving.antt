@@ -13,9 +13,9 @@ use Rattle.prelude.specs.Refusals.{passes}
 use Rattle.book.specs.LevelBook.{count}
 use Rattle.lattice.specs.Lattice.{bookLattice}
 use Rattle.language.specs.Calls.{starts, readable}
-use Rattle.script.specs.Layout.{nameCount}
-use Rattle.script.specs.Checked.{Checked}
-use Rattle.script.specs.Tree.{namesOf, tree}
+use Rattle.layout.specs.Layout.{nameCount}
+use Rattle.reach.specs.Checked.{Checked}
+use Rattle.tree.specs.Tree.{namesOf, tree}
 use Rattle.runner.specs.declared.Ran.{Ran}
 use Rattle.runner.specs.Outcome.{outcome, recorded}
 use Rattle.moves.specs.Contracts.{seenIn}

@@ -13,9 +13,9 @@ use Rattle.book.specs.Load.{bookOf}
 use Rattle.lattice.specs.Refusals as books
 use Rattle.lattice.specs.Lattice.{bookLattice}
 use Rattle.language.specs.Levels.{writeLevel, testLevel}
-use Rattle.script.specs.declared.layout.Script.{Script}
-use Rattle.script.specs.Layout.{nodeCount, layoutOf}
-use Rattle.script.specs.Tree.{namesOf, tree}
+use Rattle.layout.specs.declared.Script.{Script}
+use Rattle.layout.specs.Layout.{nodeCount, layoutOf}
+use Rattle.tree.specs.Tree.{namesOf, tree}
 use Rattle.script.specs.Refusals as scripts
 use Rattle.flow.specs.Flow.{firstFailing}
 use Rattle.engine.specs.Refusals.{checkRefusal}

@@ -26,12 +26,12 @@ use Rattle.language.proofs.Theorems as language
 use Rattle.report.specs.Scope.{Script}
 use Rattle.report.proofs.Starts.{begun-begins}
 use Rattle.report.proofs.Theorems as report
-use Rattle.script.specs.Layout.{nameCount}
-use Rattle.script.specs.Entries.{isSessionName}
-use Rattle.script.specs.Checked.{Checked}
+use Rattle.layout.specs.Layout.{nameCount}
+use Rattle.layout.specs.Entries.{isSessionName}
+use Rattle.reach.specs.Checked.{Checked}
 use Rattle.script.specs.Refusals as scripts
-use Rattle.script.specs.Tree.{namesOf, tree}
-use Rattle.script.proofs.Theorems.{tree-scoped, tree-named}
+use Rattle.tree.specs.Tree.{namesOf, tree}
+use Rattle.tree.proofs.Theorems.{tree-scoped, tree-named}
 use Rattle.runner.specs.Outcome.{lineWords}
 use Rattle.engine.specs.declared.Verdict.{Verdict}
 use Rattle.engine.specs.Refusals.{checkRefusal, runRefusal}

@@ -16,10 +16,10 @@ use Rattle.language.specs.Typing.{Environment, environment, Below, Typed}
 use Rattle.language.specs.Paths.{IsRun}
 use Rattle.report.specs.Configurations.{Configuration, Begins, begun}
 use Rattle.report.specs.Results.{Reported}
-use Rattle.script.specs.Layout.{nameCount}
-use Rattle.script.specs.Entries.{isSessionName}
+use Rattle.layout.specs.Layout.{nameCount}
+use Rattle.layout.specs.Entries.{isSessionName}
 use Rattle.script.specs.Refusals as scripts
-use Rattle.script.specs.Tree.{namesOf, tree}
+use Rattle.tree.specs.Tree.{namesOf, tree}
 use Rattle.engine.specs.Answers.{verdict, runOf, Left, leftBy, left}
 use Rattle.engine.specs.Records.{recordOf, stampedUpTo}
 

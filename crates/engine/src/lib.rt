@@ -3,8 +3,8 @@ mod prepare; // prepare.rt: book and script are checked, refusals 1 to 11
 mod values; // values.rt: refusals 12 to 14, and which names the reader sees
 pub mod interface; // interface.rt: the calls for C
 
+use layout::Script;
 use prelude::Refusal;
-use script::layout::Script;
 ghost use mathlib.Core.Path.{_≡_};
 ghost use Rattle.engine.specs.Answers.{verdict, left, refusedReport};
 

@@ -11,7 +11,7 @@ pub fn show(s: &[u8]) {
     }
     let c = loaded.script;
     let n = c.nodes;
-    let sizes = script::sizes::find_sizes(s, c);
+    let sizes = tree::sizes::find_sizes(s, c);
     let size = sizes[n - 1] as usize;
     say(b"names ", c.names);
     say(b" expressions ", c.expressions);

@@ -13,11 +13,12 @@ use Rattle.book.specs.LevelBook.{atOrBelow}
 use Rattle.pairs.specs.Bounds.{kept}
 use Rattle.language.specs.Syntax.{Proc}
 use Rattle.language.specs.Levels.{writeLevel, testLevel}
-use Rattle.script.specs.declared.layout.Script.{Script}
-use Rattle.script.specs.Layout.{nodeCount}
-use Rattle.script.specs.Entries.{partOf, node, firstChild, secondChild}
-use Rattle.script.specs.Tree.{namesOf, processOf}
-use Rattle.script.proofs.Layouts.{nodes-are}
+use Rattle.layout.specs.declared.Script.{Script}
+use Rattle.layout.specs.Layout.{nodeCount}
+use Rattle.layout.specs.Entries.{partOf, node}
+use Rattle.fields.specs.Fields.{firstChild, secondChild}
+use Rattle.tree.specs.Tree.{namesOf, processOf}
+use Rattle.layout.proofs.Layouts.{nodes-are}
 use Rattle.flow.specs.declared.levels.Levels.{Levels}
 use Rattle.flow.specs.declared.levels.Flow.{Flow}
 use Rattle.flow.specs.declared.nodes.Own.{Own}

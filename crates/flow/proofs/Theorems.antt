@@ -11,9 +11,9 @@ use Rattle.lattice.specs.Refusals.{isAccepted}
 use Rattle.book.specs.Load.{bookOf, noBook}
 use Rattle.lattice.specs.Load.{loaded, Loads}
 use Rattle.lattice.proofs.Theorems.{level-lattice, loads-few}
-use Rattle.script.specs.declared.layout.Script.{Script}
-use Rattle.script.specs.Layout.{Laid}
-use Rattle.script.specs.Checked.{Checked, Levelled}
+use Rattle.layout.specs.declared.Script.{Script}
+use Rattle.layout.specs.Layout.{Laid}
+use Rattle.reach.specs.Checked.{Checked, Levelled}
 use Rattle.flow.specs.Flow.{orderOf, lattice, levelsOf, Ordered, Ready, Joins, Meets}
 use Rattle.flow.specs.Results.{NeedsEverywhere, CallersReady}
 use Rattle.flow.proofs.Everywhere as everywhere

@@ -11,12 +11,13 @@ use Rattle.book.specs.LevelBook.{mostLevels, atOrBelow}
 use Rattle.pairs.specs.Bounds.{Keeps}
 use Rattle.lattice.specs.Lattice.{Lattice, latticeOf}
 use Rattle.language.specs.Levels.{expLevel, writeLevel, testLevel, need}
-use Rattle.script.specs.declared.layout.Script.{Script}
-use Rattle.script.specs.declared.entries.Part.{Part}
-use Rattle.script.specs.Layout.{nodeCount, Laid}
-use Rattle.script.specs.Entries.{partOf, node, firstChild, secondChild}
-use Rattle.script.specs.Tree.{namesOf, expressionOf, processOf, tree}
-use Rattle.script.specs.Checked.{Checked, Levelled}
+use Rattle.layout.specs.declared.Script.{Script}
+use Rattle.layout.specs.declared.entries.Part.{Part}
+use Rattle.layout.specs.Layout.{nodeCount, Laid}
+use Rattle.layout.specs.Entries.{partOf, node}
+use Rattle.fields.specs.Fields.{firstChild, secondChild}
+use Rattle.tree.specs.Tree.{namesOf, expressionOf, processOf, tree}
+use Rattle.reach.specs.Checked.{Checked, Levelled}
 use Rattle.flow.specs.declared.levels.Levels.{Levels}
 use Rattle.flow.specs.declared.levels.Flow.{Flow}
 use Rattle.flow.specs.declared.nodes.Own.{Own}

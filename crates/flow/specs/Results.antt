@@ -10,10 +10,10 @@ use Rattle.lattice.specs.Refusals.{isAccepted}
 use Rattle.lattice.specs.Load.{Loads}
 use Rattle.lattice.specs.Lattice.{Lattice, bookLattice}
 use Rattle.language.specs.Levels.{needs}
-use Rattle.script.specs.declared.layout.Script.{Script}
-use Rattle.script.specs.Layout.{nodeCount, Laid}
-use Rattle.script.specs.Tree.{namesOf, tree}
-use Rattle.script.specs.Checked.{Checked, Levelled}
+use Rattle.layout.specs.declared.Script.{Script}
+use Rattle.layout.specs.Layout.{nodeCount, Laid}
+use Rattle.tree.specs.Tree.{namesOf, tree}
+use Rattle.reach.specs.Checked.{Checked, Levelled}
 use Rattle.flow.specs.Flow.{needAt, firstFailing, lattice, levelsOf, Ready, Joins, Meets}
 
 -- The needs of a checked script hold exactly when every node of the file has its own, so exactly when no node is the

@@ -3,7 +3,7 @@ ghost use mathlib.Core.Path.{_≡_};
 ghost use mathlib.Core.Bool.{_||_};
 ghost use Prim.Native.Nat.{_<_};
 ghost use lib.Dec.{eqb};
-ghost use Rattle.script.specs.Roles.{nodeKinds};
+ghost use Rattle.fields.specs.Roles.{nodeKinds};
 ghost use Rattle.flow.specs.Kinds.{hasSignal, hasTest, childCount};
 
 // Expressions: those of the kinds between have two operands.

@@ -3,11 +3,11 @@
 use mathlib.Core.Path.{_≡_, ap, _∙_}
 use mathlib.Core.List.{List}
 use Prim.Native.Nat.{ℕ, _+_}
-use Rattle.script.specs.declared.layout.Script.{Script}
-use Rattle.script.specs.declared.entries.Part.{Part}
-use Rattle.script.specs.Layout.{Laid}
-use Rattle.script.specs.Entries.{partOf, node}
-use Rattle.script.proofs.Layouts.{expressions-are}
+use Rattle.layout.specs.declared.Script.{Script}
+use Rattle.layout.specs.declared.entries.Part.{Part}
+use Rattle.layout.specs.Layout.{Laid}
+use Rattle.layout.specs.Entries.{partOf, node}
+use Rattle.layout.proofs.Layouts.{expressions-are}
 
 -- a part after the expressions is a node
 pub node-read :

@@ -7,3 +7,4 @@ pub mod Sets
 pub mod Courses
 pub mod Each
 pub mod Sums
+pub mod Refusing

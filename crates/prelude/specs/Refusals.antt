@@ -1,5 +1,5 @@
 -- 01, the table of refusals: a number and a place.
-use mathlib.Core.Bool.{Bool}
+use mathlib.Core.Bool.{Bool, cond}
 use Prim.Native.Nat.{ℕ}
 use lib.Dec.{eqb}
 use Rattle.prelude.specs.declared.Refusal.{Refusal}
@@ -13,3 +13,7 @@ notRefused = refusedBy 0 0
 
 abbrev pub passes : Refusal → Bool
 passes r = eqb (r .number) 0
+
+-- 'The lowest number that applies is given': later rows count only where the rows before refuse nothing.
+abbrev pub orElse : Refusal → Refusal → Refusal
+orElse r next = cond (passes r) next r

@@ -4,7 +4,7 @@ use mathlib.Core.List.{List, [], _∷_}
 use Prim.Native.Nat.{ℕ, suc}
 use lib.ListN.{getD, take, drop}
 use Rattle.language.specs.Syntax.{Proc, nil, assign, letIn, ifThenElse, while, sequence, emit, local, watching, when, parallel}
-use Rattle.script.specs.Tree.{size}
+use Rattle.tree.specs.Tree.{size}
 
 -- a node's own byte
 abbrev pub own : List ℕ → ℕ

@@ -1,7 +1,7 @@
 // A script file that is put together entry by entry: the names with their values, then the expressions, then the nodes.
 // What there is no room for is left out.
+use layout::entries::SESSION;
 use libc::STDOUT_FILENO;
-use script::entries::SESSION;
 
 // The levels of the book 02 0003 0002.
 pub const L: u8 = 0;

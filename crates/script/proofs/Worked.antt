@@ -4,16 +4,12 @@ use mathlib.Core.Path.{_≡_, refl}
 use mathlib.Core.Bool.{true}
 use Rattle.prelude.specs.Search.{firstFrom, first, any, all, count}
 use Rattle.prelude.specs.Course.{course, entry}
-use Rattle.script.specs.Uses.{used, timesUsed}
-use Rattle.script.specs.Reach.{within, inBody, isOutOfReach}
-use Rattle.script.specs.Refusals.{holds, joinRefusal, refusal}
-use Rattle.script.specs.Tree.{expressionOf, processOf, tree}
-use Rattle.script.specs.Examples.{files, allComeOut, every, everyKind}
+use Rattle.faults.specs.Faults.{holds, faultRefusal}
+use Rattle.uses.specs.Uses.{used, timesUsed, useRefusal}
+use Rattle.reach.specs.Reach.{within, inBody, isOutOfReach, reachRefusal}
+use Rattle.script.specs.Refusals.{entryRefusal, refusal}
+use Rattle.script.specs.Examples.{files, allComeOut}
 
 pub examples : allComeOut files ≡ true
-unfolding firstFrom first any all count course entry used timesUsed within inBody isOutOfReach holds joinRefusal refusal
+unfolding firstFrom first any all count course entry used timesUsed within inBody isOutOfReach holds faultRefusal useRefusal reachRefusal entryRefusal refusal
 examples = refl
-
-pub example-tree : tree every ≡ everyKind
-unfolding course entry expressionOf processOf
-example-tree = refl

@@ -1,38 +1,11 @@
 -- Script files by example: a file, and the refusal that it gets.
 use mathlib.Core.Bool.{Bool, true, _&&_}
 use mathlib.Core.List.{List, [], _∷_, _++_}
-use Prim.Native.Nat.{ℕ, _+_, _/_, _%_}
+use Prim.Native.Nat.{ℕ}
 use lib.Dec.{eqb}
-use lib.IntN.{pos, negsuc}
-use lib.ListN.{length}
-use Rattle.language.specs.Syntax as Syntax
-use Rattle.language.specs.Syntax.{Proc, add, subtract, multiply, divide, less, equal, constant, register, binary, negated, assign, letIn, ifThenElse, while, sequence, emit, local, watching, when, parallel}
-use Rattle.script.specs.Entries.{session}
+use Rattle.layout.specs.Entries.{session}
+use Rattle.layout.specs.Files.{two, name, part, all, tail, file, every}
 use Rattle.script.specs.Refusals.{refusal}
-
-abbrev pub two : ℕ → List ℕ
-two n = n / 256 ∷ n % 256 ∷ []
-
--- an entry: a name; an expression or a node
-abbrev pub name : ℕ → ℕ → ℕ → List ℕ
-name kind level owner = kind ∷ level ∷ two owner
-
-abbrev pub part : ℕ → ℕ → ℕ → ℕ → List ℕ
-part kind a b c = kind ∷ 0 ∷ two a ++ (two b ++ two c)
-
-abbrev pub all : List (List ℕ) → List ℕ
-all [] = []
-all (x ∷ xs) = x ++ all xs
-
-abbrev pub tail : ℕ → ℕ → ℕ → List ℕ
-tail expressions nodes end = two expressions ++ (two nodes ++ (two end ++ (83 ∷ 84 ∷ [])))
-
--- a file with a right tail
-abbrev pub file : List (List ℕ) → List (List ℕ) → List (List ℕ) → List ℕ
-file names expressions nodes =
-    let a : ℕ = length (all names) in
-    let b : ℕ = a + length (all expressions) in
-    all names ++ (all expressions ++ (all nodes ++ tail a b (b + length (all nodes))))
 
 -- names and parts that the examples share
 abbrev x : List ℕ
@@ -46,61 +19,6 @@ seven = part 0 0 0 7
 
 abbrev nil : List ℕ
 nil = part 0 0 0 0
-
--- a file with an entry of every kind
-abbrev pub every : List ℕ
-every =
-    file
-    (x ∷ a ∷ name 0 1 13 ∷ name 1 0 9 ∷ [])
-    (part 0 0 65535 65535
-    ∷ part 1 0 0 0
-    ∷ part 2 0 1 0
-    ∷ part 0 0 0 2
-    ∷ part 3 2 3 0
-    ∷ part 1 2 0 0
-    ∷ part 0 0 0 3
-    ∷ part 4 5 6 0
-    ∷ part 1 2 0 0
-    ∷ part 8 8 0 0
-    ∷ part 1 2 0 0
-    ∷ part 0 0 0 4
-    ∷ part 5 10 11 0
-    ∷ part 1 2 0 0
-    ∷ part 0 0 0 5
-    ∷ part 6 13 14 0
-    ∷ part 1 2 0 0
-    ∷ part 0 0 0 6
-    ∷ part 7 16 17 0
-    ∷ [])
-    (part 1 0 12 0
-    ∷ part 4 9 0 0
-    ∷ part 1 0 15 0
-    ∷ part 3 7 1 2
-    ∷ part 6 3 0 0
-    ∷ nil
-    ∷ part 9 3 5 0
-    ∷ part 8 1 6 0
-    ∷ part 5 4 7 0
-    ∷ part 7 3 8 0
-    ∷ part 10 3 9 0
-    ∷ part 1 0 18 0
-    ∷ part 5 10 11 0
-    ∷ part 2 2 4 12
-    ∷ [])
-
--- its script, where y is name 2 and b is name 3: let y = (-1 + x) - 2 in
---   ((if y * 3 then while not y do x := y / 4 else x := y < 5)
---    parallel local b in emit b; (when b do nil) watching a); x := (y equal 6)
-abbrev pub everyKind : Proc ℕ
-everyKind =
-    letIn 2 1 (binary subtract (binary add (constant (negsuc 0)) (register 0)) (constant (pos 2)))
-    (sequence
-    (parallel
-    (ifThenElse (binary multiply (register 2) (constant (pos 3)))
-    (while (negated (register 2)) (assign 0 (binary divide (register 2) (constant (pos 4)))))
-    (assign 0 (binary less (register 2) (constant (pos 5)))))
-    (local 3 0 (sequence (emit 3) (watching 1 (when 3 Syntax.nil)))))
-    (assign 0 (binary equal (register 2) (constant (pos 6)))))
 
 pub record Example : Type 0 where
   pub bytes : List ℕ

@@ -3,9 +3,9 @@ use mathlib.Core.Bool.{cond}
 use mathlib.Core.List.{List}
 use Prim.Native.Nat.{ℕ}
 use Rattle.prelude.specs.declared.Refusal.{Refusal}
+use Rattle.layout.specs.declared.Script.{Script}
+use Rattle.layout.specs.Layout.{layoutOf}
 use Rattle.script.specs.declared.Loaded.{Loaded}
-use Rattle.script.specs.declared.layout.Script.{Script}
-use Rattle.script.specs.Layout.{layoutOf}
 use Rattle.script.specs.Refusals.{refusal, isAccepted}
 
 abbrev pub answer : Refusal → Script → Loaded

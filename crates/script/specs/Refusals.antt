@@ -1,112 +1,24 @@
--- 01, the table of refusals, rows 4 to 10.
-use mathlib.Core.Path.{_≡_}
-use mathlib.Core.Bool.{Bool, true, cond, not, _&&_, _||_}
+-- 01, the table of refusals, rows 4 to 10, in their order.
+use mathlib.Core.Bool.{Bool, cond, not}
 use mathlib.Core.List.{List}
-use Prim.Native.Nat.{ℕ, suc, _+_, _-_, _<_}
-use lib.Dec.{eqb, leb, ltb}
+use Prim.Native.Nat.{ℕ}
 use Rattle.prelude.specs.declared.Refusal.{Refusal}
-use Rattle.prelude.specs.Refusals.{refusedBy, notRefused, passes}
-use Rattle.prelude.specs.Search.{first, all}
-use Rattle.script.specs.declared.fields.Field.{Field}
-use Rattle.script.specs.Layout.{tailIsRight, countsAreRight, layoutOf, nameCount, expressionCount, nodeCount, partCount}
-use Rattle.script.specs.Roles.{unused, register, newRegister, newSignal, expression, child, half, expressionKinds, nodeKinds}
-use Rattle.script.specs.Entries.{nameOf, isSession, partOf, node, fieldCount, fieldOf}
-use Rattle.script.specs.Uses.{timesUsed, isLoose}
-use Rattle.script.specs.Reach.{isNew, isOutOfReach}
+use Rattle.prelude.specs.Refusals.{refusedBy, passes, orElse}
+use Rattle.layout.specs.Layout.{tailIsRight, countsAreRight, layoutOf}
+use Rattle.faults.specs.Faults.{faultRefusal}
+use Rattle.uses.specs.Uses.{useRefusal}
+use Rattle.reach.specs.Reach.{reachRefusal}
 
--- row 6: 'a matching declaration of it': node k, whose field a declares a name of this kind, and that name is x
-abbrev pub newOf : ℕ → ℕ
-newOf kind = cond (eqb kind 0) newRegister newSignal
-
-abbrev pub declares : List ℕ → ℕ → ℕ → ℕ → Bool
-declares s k kind x =
-    ltb k (nodeCount s)
-    && (eqb (fieldOf s (node s k) 0 .role) (newOf kind) && eqb (fieldOf s (node s k) 0 .value) x)
-
-abbrev pub ownerIsRight : List ℕ → ℕ → Bool
-ownerIsRight s x = isSession s x || declares s (nameOf s x .owner) (nameOf s x .kind) x
-
--- row 6: 'kind, level, or owner not a matching declaration of it'
-abbrev pub nameIsRight : List ℕ → ℕ → ℕ → Bool
-nameIsRight s levels x =
-    leb (nameOf s x .kind) 1 && (ltb (nameOf s x .level) levels && ownerIsRight s x)
-
--- the kind of the names that a field of this role holds
-abbrev pub kindFor : ℕ → ℕ
-kindFor role = cond (eqb role register || eqb role newRegister) 0 1
-
--- a field of part q holds a name of the right kind; where it declares the name, part q owns it
-abbrev pub holdsName : List ℕ → ℕ → Field → Bool
-holdsName s q x =
-    ltb (x .value) (nameCount s)
-    && (eqb (nameOf s (x .value) .kind) (kindFor (x .role))
-    && (not (isNew (x .role)) || eqb (node s (nameOf s (x .value) .owner)) q))
-
--- A field of part q holds what its role asks for: 'each unused field is 0', 'operands and child nodes have smaller
--- numbers than their parent', a name of the right kind, no 'name it doesn't own'.
-unfoldable pub holds : List ℕ → ℕ → Field → Bool
-holds s q x =
-    cond (eqb (x .role) unused) (eqb (x .value) 0)
-    (cond (eqb (x .role) half) true
-    (cond (eqb (x .role) expression) (ltb (x .value) (expressionCount s) && ltb (x .value) q)
-    (cond (eqb (x .role) child) (ltb (node s (x .value)) q)
-    (holdsName s q x))))
-
--- how many kinds part q can have, where there are so many expressions
-abbrev pub kindsFor : ℕ → ℕ → ℕ
-kindsFor expressions q = cond (ltb q expressions) expressionKinds nodeKinds
-
--- rows 7 and 8: 'kind, field, operand' and 'kind, field, child, or declares a name it doesn't own'
-abbrev pub partIsRight : List ℕ → ℕ → Bool
-partIsRight s q =
-    ltb (partOf s q .kind) (kindsFor (expressionCount s) q)
-    && (eqb (partOf s q .zero) 0 && all (λ f. holds s q (fieldOf s q f)) fieldCount)
-
--- what refusals 6, 7 and 8 leave: each name has its owner, each part is right
-pub record Sound (s : List ℕ) : Type 0 where
-  pub owners : (x : ℕ) → x < nameCount s → ownerIsRight s x ≡ true
-  pub parts : (q : ℕ) → q < partCount s → partIsRight s q ≡ true
-
--- and refusal 9: each part but the last is used once
-pub record Joined (s : List ℕ) : Type 0 where
-  pub sound : Sound s
-  pub once : (q : ℕ) → suc q < partCount s → timesUsed s q ≡ 1
-
--- 'where several entries are at fault, the place is the smallest'
-abbrev pub atFirst : (ℕ → Bool) → ℕ → (ℕ → Refusal) → Refusal → Refusal
-atFirst fault n given rest = cond (ltb (first fault n) n) (given (first fault n)) rest
-
--- 'expression, or 256 + node'
-abbrev pub placeOfNode : ℕ → ℕ
-placeOfNode k = 256 + k
-
--- 'Under 9 and 10 expressions come first': what was found among e expressions, then among n nodes.
-abbrev pub inOrder : ℕ → ℕ → ℕ → ℕ → ℕ → Refusal → Refusal
-inOrder number expression e node n rest =
-    cond (ltb expression e) (refusedBy number expression)
-    (cond (ltb node n) (refusedBy number (placeOfNode node))
-    rest)
-
-abbrev pub atFirstPart : List ℕ → ℕ → (ℕ → Bool) → ℕ → Refusal → Refusal
-atFirstPart s number fault n rest =
-    inOrder number (first fault (expressionCount s)) (expressionCount s) (first (λ k. fault (node s k)) n) n rest
-
--- rows 9 and 10: 'used not exactly once' (the last node is not used), 'owned name outside its body'
-unfoldable pub joinRefusal : List ℕ → Refusal
-joinRefusal s =
-    atFirstPart s 9 (isLoose s) (nodeCount s - 1)
-    (atFirstPart s 10 (isOutOfReach s) (nodeCount s)
-    notRefused)
+-- rows 6 to 8, 9 and 10
+unfoldable pub entryRefusal : List ℕ → ℕ → Refusal
+entryRefusal s levels = orElse (faultRefusal s levels) (orElse (useRefusal s) (reachRefusal s))
 
 -- 'The lowest number that applies is given.'
 unfoldable pub refusal : List ℕ → ℕ → Refusal
 refusal s levels =
     cond (not (tailIsRight s)) (refusedBy 4 0)
     (cond (not (countsAreRight (layoutOf s))) (refusedBy 5 0)
-    (atFirst (λ x. not (nameIsRight s levels x)) (nameCount s) (refusedBy 6)
-    (atFirst (λ e. not (partIsRight s e)) (expressionCount s) (refusedBy 7)
-    (atFirst (λ k. not (partIsRight s (node s k))) (nodeCount s) (refusedBy 8)
-    (joinRefusal s)))))
+    (entryRefusal s levels))
 
 abbrev pub isAccepted : List ℕ → ℕ → Bool
 isAccepted s levels = passes (refusal s levels)

@@ -1,22 +1,11 @@
 // The script file: any bytes in; out comes a checked script, or a refusal.
-pub mod layout; // layout.rt: the layout by value, with the limits
-mod tail; // tail.rt: the layout from the tail, refusals 4 and 5
-mod roles; // roles.rt: what the fields of each kind hold
-pub mod entries; // entries.rt: names, and the parts: expressions and nodes
-mod fields; // fields.rt: the fields of a part
-mod faults; // faults.rt: refusals 6, 7 and 8
-mod uses; // uses.rt: refusal 9
-mod reach; // reach.rt: refusal 10
-pub mod sizes; // sizes.rt: how many nodes each process has
-pub mod children; // children.rt: the children of a node
-
-use crate::layout::Script;
+use layout::Script;
 use prelude::Refusal;
+use refusals::places::refused;
+use refusals::tail;
 ghost use mathlib.Core.Path.{_≡_};
-ghost use Prim.Native.Nat.{_≤_};
-ghost use Rattle.prelude.specs.Refusals.{refusedBy, notRefused};
-ghost use Rattle.script.specs.Layout.{Laid, mostExpressions, mostNodes, mostParts};
-ghost use Rattle.script.specs.Refusals.{Sound, inOrder, joinRefusal, refusal};
+ghost use Rattle.layout.specs.Layout.{Laid};
+ghost use Rattle.script.specs.Refusals.{entryRefusal, refusal};
 ghost use Rattle.script.specs.Load.{loaded};
 
 // What the bytes of a script give: the refusal, and beside it the layout of the file, all 0 where it is refused.
@@ -25,48 +14,20 @@ pub struct Loaded {
     pub script: Script,
 }
 
-fn refused(number: u32, place: usize) -> Refusal
-    requires { ⌜ place ≤ mostParts ⌝ }
-    ensures { λ r. ⌜ r ≡ refusedBy number place ⌝ }
+// The refusal of a file by its entries: rows 6 to 10.
+fn entry_refusal(s: &[u8], c: Script, levels: usize) -> Refusal
+    requires { ⌜ Laid (now s) c ⌝ }
+    ensures { λ r. ⌜ r ≡ entryRefusal (now (s .entry)) levels ⌝ }
 {
-    Refusal {
-        number,
-        place: place as u32,
+    let fault = faults::refusal(s, c, levels);
+    if fault.number != 0 {
+        return fault;
     }
-}
-
-// What was found among e expressions and n nodes: expressions come first.
-fn in_order(number: u32, expression: usize, e: usize, node: usize, n: usize) -> Refusal
-    requires { ⌜ (e ≤ mostExpressions) × (n ≤ mostNodes) ⌝ }
-    ensures { λ r. ⌜ r ≡ inOrder number expression e node n notRefused ⌝ }
-{
-    if expression < e {
-        return refused(number, expression);
+    let loose = uses::refusal(s, c);
+    if loose.number != 0 {
+        return loose;
     }
-    if node < n {
-        return refused(number, Script::MAX_EXPRESSIONS + node);
-    }
-    refused(0, 0)
-}
-
-// The faults of parts that are right by themselves.
-fn join_refusal(s: &[u8], c: Script) -> Refusal
-    requires { ⌜ Laid (now s) c × Sound (now s) ⌝ }
-    ensures { λ r. ⌜ r ≡ joinRefusal (now (s .entry)) ⌝ }
-{
-    let e = c.expressions;
-    let n = c.nodes;
-    let times = uses::count_uses(s, c);
-    let loose = uses::first_loose(&times, 0, e);
-    let loose_node = uses::first_loose(&times, e, n - 1);
-    let refusal = in_order(9, loose, e, loose_node, n - 1);
-    if refusal.number != 0 {
-        return refusal;
-    }
-    let sets = reach::find_reach(s, c);
-    let outside = reach::first_out_of_reach(s, c, &sets, 0, e);
-    let outside_node = reach::first_out_of_reach(s, c, &sets, e, n);
-    in_order(10, outside, e, outside_node, n)
+    reach::refusal(s, c)
 }
 
 fn refusal(s: &[u8], levels: usize) -> Refusal
@@ -79,21 +40,7 @@ fn refusal(s: &[u8], levels: usize) -> Refusal
     if !tail::counts_are_right(c) {
         return refused(5, 0);
     }
-    let e = c.expressions;
-    let n = c.nodes;
-    let wrong_name = faults::first_wrong_name(s, c, levels);
-    if wrong_name < c.names {
-        return refused(6, wrong_name);
-    }
-    let wrong = faults::first_wrong_part(s, c, 0, e);
-    if wrong < e {
-        return refused(7, wrong);
-    }
-    let wrong_node = faults::first_wrong_part(s, c, e, n);
-    if wrong_node < n {
-        return refused(8, wrong_node);
-    }
-    join_refusal(s, c)
+    entry_refusal(s, c, levels)
 }
 
 // Checks a script file of any bytes, for a book of so many levels.

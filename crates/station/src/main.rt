@@ -1,7 +1,7 @@
 // Runs the script of the folder that it is run in: levels.lvl, script.scr and values.val.
 mod values; // values.rt: the values that a file holds
 
-use script::layout::Script;
+use layout::Script;
 ghost use Prim.Native.Nat.{_≤_};
 ghost use lib.ListN.{length};
 

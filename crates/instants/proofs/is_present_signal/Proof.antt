@@ -3,7 +3,7 @@ use mathlib.Core.Path.{sym, ap, _∙_}
 use native.Mathlib.Omega.{arith}
 use lib.Dec.{eqb}
 use borrow.Author.Tests.{eq-eqb, ne-eqb}
-use Rattle.script.proofs.Layouts.{names-are}
+use Rattle.layout.proofs.Layouts.{names-are}
 use borrow.Author.Needs.{needs}
 use Rattle.instants.proofs.is_present_signal.Statement.{statement}
 use Rattle.instants.proofs.is_present_signal.Tie as tie

@@ -17,12 +17,12 @@ use Rattle.pairs.proofs.Stores.{new-square}
 use Rattle.lattice.proofs.Theorems.{loads-few}
 use Rattle.language.specs.Levels.{writeLevel, testLevel}
 use Rattle.script.specs.declared.Loaded.{Loaded as Read}
-use Rattle.script.specs.Layout.{nodeCount, layoutOf, Laid}
+use Rattle.layout.specs.Layout.{nodeCount, layoutOf, Laid}
 use Rattle.script.specs.Refusals as files
 use Rattle.script.specs.Load as scripts
-use Rattle.script.specs.Checked.{Checked, Levelled}
-use Rattle.script.specs.Tree.{namesOf, tree}
-use Rattle.script.proofs.Layouts.{few-bounds, nodes-are}
+use Rattle.reach.specs.Checked.{Checked, Levelled}
+use Rattle.tree.specs.Tree.{namesOf, tree}
+use Rattle.layout.proofs.Layouts.{few-bounds, nodes-are}
 use Rattle.script.proofs.Theorems.{loaded-checked}
 use Rattle.flow.specs.Flow.{firstFailing, lattice, levelsOf, Ready}
 use Rattle.flow.proofs.Theorems.{callers-ready}

@@ -2,9 +2,9 @@
 use Prim.Native.Nat.{_≤_}
 use native.Mathlib.Omega.{arith}
 use borrow.Author.Needs.{needs, fits-under}
-use Rattle.script.specs.Layout.{Laid}
-use Rattle.script.specs.Checked.{Checked, Levelled}
-use Rattle.script.proofs.Layouts.{few-bounds}
+use Rattle.layout.specs.Layout.{Laid}
+use Rattle.reach.specs.Checked.{Checked, Levelled}
+use Rattle.layout.proofs.Layouts.{few-bounds}
 use Rattle.script.proofs.Theorems.{loaded-checked}
 use Rattle.examples.proofs.scripts.show.Statement.{statement}
 use Rattle.examples.proofs.scripts.show.Tie as tie

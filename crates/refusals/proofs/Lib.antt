@@ -1,0 +1,2 @@
+-- Laws that the proofs of several crates use.
+pub mod Placing

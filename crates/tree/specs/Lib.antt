@@ -1,0 +1,4 @@
+-- The tree that a script file holds, and what is proved of a checked file's.
+pub mod Tree
+pub mod Results
+pub mod Examples

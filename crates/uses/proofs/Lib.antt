@@ -1,0 +1,3 @@
+-- Laws about what a field uses, which other crates use.
+pub mod Used
+pub mod Counting

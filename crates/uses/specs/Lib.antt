@@ -1,0 +1,2 @@
+-- The script file: row 9 of the table of refusals.
+pub mod Uses
