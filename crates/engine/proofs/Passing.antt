@@ -17,10 +17,10 @@ use Rattle.prelude.proofs.Searches.{first-within, first-at-end}
 use Rattle.lattice.specs.LevelBook.{count}
 use Rattle.lattice.specs.Refusals as books
 use Rattle.lattice.specs.Lattice.{bookLattice}
-use Rattle.language.specs.Values.{sameValue}
+use Rattle.arithmetic.specs.Values.{sameValue}
 use Rattle.language.specs.Steps.{held}
 use Rattle.language.specs.Levels.{needs}
-use Rattle.language.proofs.Signed.{same-is}
+use Rattle.arithmetic.proofs.Signed.{same-is}
 use Rattle.script.specs.Layout.{nameCount, nodeCount}
 use Rattle.script.specs.Refusals as scripts
 use Rattle.script.specs.Checked.{Checked}

@@ -6,7 +6,7 @@ use Rattle.prelude.specs.Course.{course, entry}
 use Rattle.prelude.specs.Table.{table}
 use Rattle.lattice.specs.Order.{leastUpper, top}
 use Rattle.lattice.specs.Refusals as books
-use Rattle.language.specs.Values.{clamped, quotient}
+use Rattle.arithmetic.specs.Values.{clamped, quotient}
 use Rattle.language.specs.Syntax.{isNil}
 use Rattle.language.specs.Levels.{expLevel, writeLevel, testLevel, need}
 use Rattle.language.specs.Steps.{evaluate, value, suspended, move, change, instantStart, step}

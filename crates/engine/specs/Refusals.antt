@@ -12,7 +12,7 @@ use Rattle.prelude.specs.Refusals.{refusedBy, notRefused, passes}
 use Rattle.lattice.specs.LevelBook.{count}
 use Rattle.lattice.specs.Refusals as books
 use Rattle.lattice.specs.Lattice.{bookLattice}
-use Rattle.language.specs.Values.{sameValue}
+use Rattle.arithmetic.specs.Values.{sameValue}
 use Rattle.language.specs.Steps.{held}
 use Rattle.script.specs.Layout.{nameCount, nodeCount}
 use Rattle.script.specs.Refusals as scripts

@@ -39,7 +39,7 @@ fn leaf_value(values: &[i32], w: usize) -> i32
     ensures { λ r. ⌜ r ≡ leafValue (now (values .entry)) w ⌝ }
 {
     if plan::kind_in(w) == 0 {
-        return language::words::value_of_word(plan::constant_in(w) as u32);
+        return arithmetic::words::value_of_word(plan::constant_in(w) as u32);
     }
     let x = plan::operand_in(w);
     values[x]
@@ -50,21 +50,21 @@ fn operate(kind: usize, a: i32, b: i32) -> i32
     ensures { λ r. ⌜ r ≡ applied kind a b ⌝ }
 {
     if kind == 2 {
-        return language::arithmetic::add(a, b);
+        return arithmetic::add(a, b);
     }
     if kind == 3 {
-        return language::arithmetic::subtract(a, b);
+        return arithmetic::subtract(a, b);
     }
     if kind == 4 {
-        return language::arithmetic::multiply(a, b);
+        return arithmetic::multiply(a, b);
     }
     if kind == 5 {
-        return language::arithmetic::divide(a, b);
+        return arithmetic::divide(a, b);
     }
     if kind == 6 {
-        return language::arithmetic::less(a, b);
+        return arithmetic::less(a, b);
     }
-    language::arithmetic::equal(a, b)
+    arithmetic::equal(a, b)
 }
 
 // The value of expression e as an operand. Most operands are constants and registers: they need no further call.
@@ -91,7 +91,7 @@ pub fn value_of(plan: &[usize; Script::MAX_PARTS], values: &[i32], e: usize) -> 
     }
     let a = operand(plan, values, plan::operand_in(w));
     if kind == 8 {
-        return language::arithmetic::not(a);
+        return arithmetic::not(a);
     }
     let b = operand(plan, values, plan::later_in(w));
     operate(kind, a, b)

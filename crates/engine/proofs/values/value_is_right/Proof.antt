@@ -12,9 +12,9 @@ use mir.Val.{SFits, hbits, ofZ}
 use mir.Facts.{sfits-lit}
 use borrow.Author.Tests.{eq-eqb, ne-eqb}
 use Rattle.prelude.proofs.Bools.{and-intro, or-first, or-true}
-use Rattle.language.specs.Values.{sameValue}
+use Rattle.arithmetic.specs.Values.{sameValue}
 use Rattle.language.specs.Steps.{held}
-use Rattle.language.proofs.Signed.{same-by-bits, other-by-bits}
+use Rattle.arithmetic.proofs.Signed.{same-by-bits, other-by-bits}
 use Rattle.script.specs.declared.entries.Name.{Name}
 use Rattle.script.specs.Entries.{nameOf, session, isSession}
 use Rattle.script.specs.Tree.{namesOf}

@@ -5,9 +5,9 @@ use Prim.Native.Nat.{ℕ, _+_, _*_, _<_}
 use native.Mathlib.Omega.{arith}
 use lib.IntN.{ℤ}
 use lib.ListN.{getD}
-use Rattle.language.specs.Values.{negation}
+use Rattle.arithmetic.specs.Values.{negation}
 use Rattle.language.specs.Steps.{value}
-use Rattle.language.proofs.Bits.{given-back}
+use Rattle.arithmetic.proofs.Bits.{given-back}
 use Rattle.script.specs.Layout.{layoutOf, expressionCount}
 use Rattle.script.specs.Tree.{expressionOf}
 use Rattle.script.specs.Checked.{Checked}
@@ -24,7 +24,7 @@ use Rattle.runner.proofs.values.+operand+value_of.Lts-operand as operan
 use Rattle.runner.proofs.values.value_of.Reads as value-of
 use Rattle.runner.proofs.values.value_of.Kinds as value-of-kinds
 use Rattle.runner.proofs.values.+operand+value_of.Lts-value_of as value-of-lts
-use Rattle.language.proofs.arithmetic.not.Reads as not-reads
+use Rattle.arithmetic.proofs.not.Reads as not-reads
 use Rattle.runner.proofs.values.leaf_value.Reads as leaf-value-reads
 use Rattle.runner.proofs.values.operate.Reads as operate-reads
 use Rattle.runner.proofs.plan.kind_in.Reads as kind-in-reads

@@ -8,9 +8,9 @@ use mir.Val.{SFits, hbits}
 use mir.Facts.{toZ-ofZ}
 use Rattle.language.specs.Syntax.{Operator, add, subtract, multiply, divide, less, equal}
 use Rattle.language.specs.Steps.{apply}
-use Rattle.language.proofs.Signed.{readBack}
+use Rattle.arithmetic.proofs.Signed.{readBack}
 use Rattle.runner.specs.Contracts.{operatorOf, applied}
-use Rattle.language.proofs.Bits.{given-back}
+use Rattle.arithmetic.proofs.Bits.{given-back}
 use borrow.Author.Needs.{needs}
 use Rattle.runner.proofs.values.operate.Statement.{statement}
 use Rattle.runner.proofs.values.operate.Tie as tie
