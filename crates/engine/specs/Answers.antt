@@ -10,11 +10,13 @@ use Rattle.lattice.specs.Lattice.{bookLattice}
 use Rattle.language.specs.Levels.{writeLevel, testLevel}
 use Rattle.language.specs.Calls.{Run, starts, readable, run}
 use Rattle.script.specs.Tree.{namesOf, tree}
+use Rattle.runner.specs.declared.Ran.{Ran}
 use Rattle.runner.specs.Outcome.{words}
 use Rattle.runner.specs.Contracts.{endingNumber}
+use Rattle.checker.specs.Refusals.{checkRefusal}
+use Rattle.call.specs.Refusals.{runRefusal}
 use Rattle.engine.specs.declared.Verdict.{Verdict}
 use Rattle.engine.specs.declared.Report.{Report}
-use Rattle.engine.specs.Refusals.{checkRefusal, runRefusal}
 
 -- 'Check returns number, place, W, T.' 'A refusal's other returned numbers are 0; 0 means not refused.'
 abbrev pub verdictBy : Refusal → ℕ → ℕ → Verdict
@@ -62,6 +64,18 @@ leftBy r log =
 abbrev pub refusedReport : Refusal → Report
 refusedReport r =
     record { number = r .number; place = r .place; ending = 0; steps = 0; instants = 0; lines = 0 }
+
+-- what the runner returns, as a report
+abbrev pub ranReport : Ran → Report
+ranReport r =
+    record {
+      number = 0;
+      place = 0;
+      ending = r .ending;
+      steps = r .steps;
+      instants = r .instants;
+      lines = r .lines;
+    }
 
 -- a refused call leaves values and log as they were
 abbrev pub refusedLeft : Refusal → List ℤ → List ℕ → Left

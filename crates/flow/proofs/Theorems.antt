@@ -6,14 +6,10 @@ use mathlib.Core.List.{List}
 use Prim.Native.Nat.{ℕ}
 use Rattle.lattice.specs.declared.Loaded.{Loaded}
 use Rattle.lattice.specs.Order.{LevelLattice}
-use Rattle.lattice.specs.LevelBook.{count}
 use Rattle.lattice.specs.Refusals.{isAccepted}
 use Rattle.lattice.specs.Load.{bookOf, noBook, loaded, Loads}
 use Rattle.lattice.proofs.Theorems.{level-lattice, loads-few}
-use Rattle.script.specs.declared.layout.Script.{Script}
-use Rattle.script.specs.Layout.{Laid}
-use Rattle.script.specs.Checked.{Checked, Levelled}
-use Rattle.flow.specs.Flow.{orderOf, lattice, levelsOf, Ordered, Ready, Joins, Meets}
+use Rattle.flow.specs.Flow.{orderOf, lattice, levelsOf, Ordered, Joins, Meets}
 use Rattle.flow.specs.Results.{NeedsEverywhere, CallersReady}
 use Rattle.flow.proofs.Everywhere as everywhere
 use Rattle.flow.proofs.Everywhere.{enough, needs-first}
@@ -39,19 +35,10 @@ module _
   tables =
       subst (λ z. Joins (levelsOf z) join × Meets (levelsOf z) meet) (sym book-is) (w .joins accepted, w .meets accepted)
 
-  ready : (s : List ℕ) (c : Script) → Laid s c → Checked s → Levelled s (count b) → Ready s c (levelsOf (r .book))
-  ready s c laid checked levelled =
-      record {
-        laid = laid;
-        checked = checked;
-        levelled = subst (λ z. Levelled s (z .count)) (sym book-is) levelled;
-        ordered = ordered;
-      }
-
 pub callers-ready : CallersReady
 callers-ready =
     record {
-      ready = λ b s c r join meet w a. ready b r join meet w a s c;
+      ordered = ordered;
       tables = tables;
       same = λ b r join meet w a. ap (λ z. lattice (levelsOf z)) (book-is b r join meet w a);
     }
