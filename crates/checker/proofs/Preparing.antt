@@ -66,7 +66,7 @@ module _ (n : ℕ) (𝓛 : Lattice ℕ) (B : Book) (s : List ℕ) (right : scrip
   by-none : ltb (found .failing) (script .nodes) ≡ false → notRefused ≡ scriptRefusal n 𝓛 s
   by-none l = sym (rw (right, ← f .failing, ← f .nodes, l))
 
-  pub flow-prepares : Prepares (scriptRefusal n 𝓛 s) 𝓛 B s (withFlow B script found)
+  pub flow-prepares : Prepares (scriptRefusal n 𝓛 s) 𝓛 B s (withFlow B script (found .write) (found .test) (found .failing))
   flow-prepares =
       by-cases
       (λ (r : Prepared). Prepares (scriptRefusal n 𝓛 s) 𝓛 B s r)

@@ -15,7 +15,6 @@ use Rattle.script.specs.declared.layout.Script.{Script}
 use Rattle.script.specs.Layout.{layoutOf}
 use Rattle.script.specs.Load.{noScript}
 use Rattle.script.specs.Tree.{namesOf, tree}
-use Rattle.flow.specs.declared.levels.Flow.{Flow}
 use Rattle.checker.specs.declared.Prepared.{Prepared}
 
 -- The refusal is R; and where it passes, beside it stand the book, the layout of the script, and W and T under the book's
@@ -32,10 +31,10 @@ pub record Prepares (R : Refusal) (𝓛 : Lattice ℕ) (B : Book) (s : List ℕ)
 abbrev pub refusedWith : Refusal → Prepared
 refusedWith r = record { refusal = r; book = noBook; script = noScript; write = 0; test = 0 }
 
--- row 11, from what a walk over the script has found
-abbrev pub withFlow : Book → Script → Flow → Prepared
-withFlow book script found =
+-- row 11: 'a need above fails', 'first node'
+abbrev pub withFlow : Book → Script → ℕ → ℕ → ℕ → Prepared
+withFlow book script write test failing =
     cond
-    (ltb (found .failing) (script .nodes))
-    (refusedWith (refusedBy 11 (found .failing)))
-    (record { refusal = notRefused; book = book; script = script; write = found .write; test = found .test })
+    (ltb failing (script .nodes))
+    (refusedWith (refusedBy 11 failing))
+    (record { refusal = notRefused; book = book; script = script; write = write; test = test })

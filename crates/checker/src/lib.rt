@@ -1,11 +1,10 @@
 // A level book and a script file are checked: refusals 1 to 11.
-use flow::levels::Flow;
 use lattice::book::Book;
 use lattice::book::PairTable;
 use prelude::Refusal;
 use script::layout::Script;
-ghost use Prim.Native.Nat.{_≤_};
 ghost use mathlib.Core.Path.{_≡_};
+ghost use Prim.Native.Nat.{_≤_};
 ghost use Rattle.lattice.specs.Load.{bookOf};
 ghost use Rattle.lattice.specs.Lattice.{bookLattice};
 ghost use Rattle.script.specs.Layout.{mostNodes};
@@ -42,15 +41,15 @@ fn refused(refusal: Refusal) -> Prepared
     }
 }
 
-// Refusal 11: a node whose need fails.
-fn with_flow(book: Book, script: Script, found: Flow) -> Prepared
+// W and T, or refusal 11: `failing` is the first node whose need fails, or the number of nodes if none does.
+fn with_flow(book: Book, script: Script, write: usize, test: usize, failing: usize) -> Prepared
     requires { ⌜ script .nodes ≤ mostNodes ⌝ }
-    ensures { λ r. ⌜ r ≡ withFlow book script found ⌝ }
+    ensures { λ r. ⌜ r ≡ withFlow book script write test failing ⌝ }
 {
-    if found.failing < script.nodes {
+    if failing < script.nodes {
         return refused(Refusal {
             number: 11,
-            place: found.failing as u32,
+            place: failing as u32,
         });
     }
     Prepared {
@@ -60,8 +59,8 @@ fn with_flow(book: Book, script: Script, found: Flow) -> Prepared
         },
         book,
         script,
-        write: found.write,
-        test: found.test,
+        write,
+        test,
     }
 }
 
@@ -75,7 +74,7 @@ fn prepare_script(s: &[u8], book: Book, join: &PairTable, meet: &PairTable) -> P
         return refused(read.refusal);
     }
     let found = flow::find_flow(s, read.script, book, join, meet);
-    with_flow(book, read.script, found)
+    with_flow(book, read.script, found.write, found.test, found.failing)
 }
 
 // Refusals 1 to 11.

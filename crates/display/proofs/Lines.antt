@@ -10,7 +10,7 @@ use lib.ListN.{length, drop}
 use Rattle.prelude.specs.Refusals.{passes}
 use Rattle.language.specs.Calls.{Line}
 use Rattle.runner.specs.Outcome.{words}
-use Rattle.engine.specs.declared.Report.{Report}
+use Rattle.answers.specs.declared.Report.{Report}
 use Rattle.call.specs.Refusals.{runRefusal}
 use Rattle.engine.specs.Answers.{Left, runOf, leftBy, refusedLeft, left}
 

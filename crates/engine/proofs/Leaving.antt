@@ -24,8 +24,8 @@ use Rattle.runner.proofs.Outcomes.{written-is}
 use Rattle.checker.specs.Refusals.{checkRefusal}
 use Rattle.call.specs.Refusals.{callRefusal, runRefusal}
 use Rattle.call.proofs.Seen.{run-seen, run-few}
-use Rattle.engine.specs.declared.Report.{Report}
-use Rattle.engine.specs.Answers.{runOf, Left, leftBy, ranReport, refusedLeft, left}
+use Rattle.answers.specs.Reports.{reportBy}
+use Rattle.engine.specs.Answers.{runOf, Left, leftBy, refusedLeft, left}
 
 module _ (b s : List ℕ) (reader : ℕ) (values : List ℤ) (limit : ℕ) (log : List ℕ) where
   -- a refused call
@@ -72,7 +72,7 @@ module _ (b s : List ℕ) (reader : ℕ) (values : List ℤ) (limit : ℕ) (log 
         unfolding left
         is = sym (rw p)
 
-        pub report-is : ranReport r ≡ left b s reader values limit log .report
+        pub report-is : reportBy (r .ending) (r .steps) (r .instants) (r .lines) ≡ left b s reader values limit log .report
         report-is =
             (λ i.
             record {

@@ -1,3 +1,3 @@
 -- Laws that the proofs of the functions use.
-pub mod Outs
 pub mod Leaving
+pub mod Asking

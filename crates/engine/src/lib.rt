@@ -1,7 +1,10 @@
 // The two calls on a level book and a script file. They take any bytes and numbers.
 pub mod interface; // interface.rt: the calls for C
 
-use prelude::Refusal;
+use answers::Report;
+use answers::Verdict;
+use answers::refused;
+use answers::report_of;
 use runner::Ran;
 use script::layout::Script;
 ghost use mathlib.Core.Path.{_≡_};
@@ -10,25 +13,7 @@ ghost use lib.ListN.{length};
 ghost use Rattle.script.specs.Tree.{namesOf};
 ghost use Rattle.runner.specs.Outcome.{outcome};
 ghost use Rattle.runner.specs.Contracts.{mostSteps, Valued, seenIn, starting, Gives};
-ghost use Rattle.engine.specs.Answers.{verdict, left, refusedReport, ranReport};
-
-// What check answers: number and place of the refusal, W and T.
-pub struct Verdict {
-    pub number: u32,
-    pub place: u32,
-    pub write: u32,
-    pub test: u32,
-}
-
-// What run answers: number and place of the refusal, how the run ended, and what it counted.
-pub struct Report {
-    pub number: u32,
-    pub place: u32,
-    pub ending: u32,
-    pub steps: u32,
-    pub instants: u32,
-    pub lines: u32,
-}
+ghost use Rattle.engine.specs.Answers.{verdict, left};
 
 // Checks a script under a book.
 pub fn check(book: &[u8], script: &[u8]) -> Verdict
@@ -40,33 +25,6 @@ pub fn check(book: &[u8], script: &[u8]) -> Verdict
         place: p.refusal.place,
         write: p.write as u32,
         test: p.test as u32,
-    }
-}
-
-fn refused(r: Refusal) -> Report
-    ensures { λ a. ⌜ a ≡ refusedReport r ⌝ }
-{
-    Report {
-        number: r.number,
-        place: r.place,
-        ending: 0,
-        steps: 0,
-        instants: 0,
-        lines: 0,
-    }
-}
-
-fn report_of(r: Ran) -> Report
-    requires { ⌜ r .lines ≤ mostSteps ⌝ }
-    ensures { λ a. ⌜ a ≡ ranReport r ⌝ }
-{
-    Report {
-        number: 0,
-        place: 0,
-        ending: r.ending,
-        steps: r.steps,
-        instants: r.instants,
-        lines: r.lines as u32,
     }
 }
 
@@ -112,5 +70,5 @@ pub fn run(
     }
     let seen = call::find_seen(script, p.script, p.book, reader as usize);
     let r = run_seen(script, p.script, seen, values, limit, log);
-    report_of(r)
+    report_of(r.ending, r.steps, r.instants, r.lines)
 }

@@ -33,10 +33,11 @@ use Rattle.script.specs.Refusals as scripts
 use Rattle.script.specs.Tree.{namesOf, tree}
 use Rattle.script.proofs.Theorems.{tree-scoped, tree-named}
 use Rattle.runner.specs.Outcome.{lineWords}
-use Rattle.engine.specs.declared.Verdict.{Verdict}
+use Rattle.answers.specs.declared.Verdict.{Verdict}
 use Rattle.checker.specs.Refusals.{checkRefusal}
 use Rattle.call.specs.Refusals.{runRefusal}
-use Rattle.engine.specs.Answers.{verdictBy, verdict, runOf, Left, leftBy, left}
+use Rattle.answers.specs.Reports.{verdictBy}
+use Rattle.engine.specs.Answers.{verdict, runOf, Left, leftBy, left}
 use Rattle.theorems.specs.Records.{stampedUpTo}
 use Rattle.theorems.specs.Results.{session, CheckAgrees, RunAgrees, RunReported, StartEqual, NothingShows, DemandThree}
 use Rattle.checker.proofs.Passing.{Accepted, checked, accepted, accepts}

@@ -8,8 +8,8 @@ use lib.ListN.{length, replicate}
 use Rattle.script.specs.Entries.{session}
 use Rattle.script.specs.Examples.{name, part, all, file}
 use Rattle.flow.specs.Kinds.{nil, assign, ifThenElse, while, sequence, emit, watching, when, parallel}
-use Rattle.engine.specs.declared.Verdict.{Verdict}
-use Rattle.engine.specs.declared.Report.{Report}
+use Rattle.answers.specs.declared.Verdict.{Verdict}
+use Rattle.answers.specs.declared.Report.{Report}
 use Rattle.engine.specs.Answers.{Left, verdict, left}
 
 -- 'Book 02 0003 0002 (hexadecimal): level 0 is L, 1 is H; the letter shows a name's level.'

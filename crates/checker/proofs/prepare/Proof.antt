@@ -11,7 +11,6 @@ use Rattle.lattice.proofs.Loads.{new-square}
 use Rattle.flow.proofs.Theorems.{callers-ready}
 use Rattle.checker.specs.Contracts.{Prepares}
 use Rattle.checker.proofs.Preparing.{refused-by, by-book, book-prepares}
-use borrow.Author.Needs.{needs}
 use Rattle.checker.proofs.prepare.Statement.{statement}
 use Rattle.checker.proofs.prepare.Tie as tie
 
@@ -33,7 +32,7 @@ load-requires : tie.Need-load-requires
 load-requires c κs = (new-square 16 0, new-square 16 0)
 
 refused-requires : tie.Need-refused-requires
-refused-requires c κs = search needs
+refused-requires c κs = tt
 
 returns : tie.Need-returns
 returns c =

@@ -15,7 +15,6 @@ use Rattle.script.proofs.Theorems.{loaded-checked}
 use Rattle.flow.specs.Flow.{lattice, levelsOf}
 use Rattle.checker.specs.Contracts.{Prepares}
 use Rattle.checker.proofs.Preparing.{refused-by, by-script, Found, flow-prepares}
-use borrow.Author.Needs.{needs}
 use Rattle.checker.proofs.prepare_script.Statement.{statement}
 use Rattle.checker.proofs.prepare_script.Tie as tie
 
@@ -36,10 +35,10 @@ script-checked :
 script-checked c = loaded-checked _ _ (c .before .before .load .result) (c .before .before .load .ensures) (c .if1 .left)
 
 load-requires : tie.Need-load-requires
-load-requires c κs = search needs
+load-requires c κs = tt
 
 refused-requires : tie.Need-refused-requires
-refused-requires c κs = search needs
+refused-requires c κs = tt
 
 returns : tie.Need-returns
 returns c =

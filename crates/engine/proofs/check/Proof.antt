@@ -10,8 +10,9 @@ use Rattle.lattice.specs.Load.{bookOf}
 use Rattle.checker.specs.declared.Prepared.{Prepared}
 use Rattle.checker.specs.Refusals.{checkRefusal}
 use Rattle.checker.specs.Contracts.{Prepares}
-use Rattle.engine.specs.Answers.{verdictBy, verdict}
-use borrow.Author.Needs.{needs, fits-under}
+use Rattle.answers.specs.Reports.{verdictBy}
+use Rattle.engine.specs.Answers.{verdict}
+use borrow.Author.Needs.{fits-under}
 use Rattle.engine.proofs.check.Statement.{statement}
 use Rattle.engine.proofs.check.Tie as tie
 
@@ -24,7 +25,7 @@ answers b s r p true e = rw (p .refusal, e, p .write e, p .test e)
 answers b s r p false e = rw (p .refusal, e, p .none e .0, p .none e .1)
 
 prepare-requires : tie.Need-prepare-requires
-prepare-requires c κs = search needs
+prepare-requires c κs = tt
 
 cast-t4 : tie.Need-cast-t4
 cast-t4 c = fits-under _ _ 17 (omega (arith, c .before .prepare .ensures .few)) tt

@@ -1,6 +1,6 @@
 -- `run_seen`: the plan of the script, and a clear state.
 use mathlib.Core.Path.{_≡_, sym, ap, _∙_}
-use Prim.Native.Nat.{ℕ, _-_, _≤_}
+use Prim.Native.Nat.{ℕ, _-_, _≤_, zero-le}
 use native.Mathlib.Omega.{arith}
 use native.Mathlib.Nat.{sub-zero}
 use lib.ListN.{length, take, replicate}
@@ -21,10 +21,10 @@ slice-aggregate-run : tie.Need-slice-aggregate-run
 slice-aggregate-run c = search needs
 
 sub-run : tie.Need-sub-run
-sub-run c = search needs
+sub-run c = zero-le
 
 part-state-start : tie.Need-part-state-start
-part-state-start c = search needs
+part-state-start c = zero-le
 
 part-state-end : tie.Need-part-state-end
 part-state-end c = omega (arith, few-bounds (c .before .before .before .before .before .before .args .c) (c .before .before .before .before .before .before .pre .0 .laid .few))
@@ -50,10 +50,10 @@ run-requires c κs =
     )
 
 same-length : tie.Need-same-length
-same-length c = search needs
+same-length c = c .before .before .before .before .run .kept .1 .1 .1 .1 .0
 
 same-length-2 : tie.Need-same-length-2
-same-length-2 c = search needs
+same-length-2 c = c .before .before .before .before .run .kept .1 .1 .1 .1 .1 .1 .0
 
 returns : tie.Need-returns
 returns c = c .before .before .before .before .run .ensures
