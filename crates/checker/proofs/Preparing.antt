@@ -18,7 +18,7 @@ use Rattle.script.specs.declared.layout.Script.{Script}
 use Rattle.script.specs.Layout.{nodeCount, layoutOf}
 use Rattle.script.specs.Refusals as scripts
 use Rattle.script.specs.Tree.{namesOf, tree}
-use Rattle.flow.specs.declared.levels.Flow.{Flow}
+use Rattle.levels.specs.declared.Flow.{Flow}
 use Rattle.flow.specs.Flow.{firstFailing}
 use Rattle.checker.specs.declared.Prepared.{Prepared}
 use Rattle.checker.specs.Refusals.{scriptRefusal, checkRefusal}

@@ -18,9 +18,9 @@ use Rattle.script.specs.Entries.{partOf, node, firstChild, secondChild}
 use Rattle.script.specs.Tree.{namesOf, processOf, tree}
 use Rattle.script.specs.Checked.{Checked}
 use Rattle.script.proofs.Layouts.{few-bounds}
-use Rattle.flow.specs.Kinds.{childCount, childrenOf}
+use Rattle.levels.specs.Kinds.{childCount, childrenOf}
 use Rattle.flow.specs.Flow.{needAt, firstFailing, Under, itself, inFirst, inSecond, Smallest, FailsUnder}
-use Rattle.flow.proofs.ByKind.{needsOf, needs-by-kind}
+use Rattle.levels.proofs.ByKind.{needsOf, needs-by-kind}
 use Rattle.flow.proofs.Shapes.{Children, none, one, two, children}
 use Rattle.flow.proofs.UnderLast.{under-last}
 

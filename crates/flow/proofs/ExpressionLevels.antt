@@ -16,8 +16,7 @@ use Rattle.script.specs.Entries.{nameOf, partOf}
 use Rattle.script.specs.Tree.{namesOf, expressionOf}
 use Rattle.script.proofs.Layouts.{names-are, expressions-are}
 use Rattle.script.proofs.Views.{code, UsesExpression, ExpressionView, aConstant, aRegister, aBinary, aNegated, expression-view}
-use Rattle.flow.specs.declared.levels.Levels.{Levels}
-use Rattle.flow.specs.Flow.{lattice, Ready, Joins, LevelAt}
+use Rattle.flow.specs.Flow.{Levels, lattice, Ready, Joins, LevelAt}
 use Rattle.flow.proofs.BookLevels.{bottom-is, bottom-inside, join-kept, join-inside}
 
 code-within : (o : Operator) → (2 ≤ code o) × (code o ≤ 7)

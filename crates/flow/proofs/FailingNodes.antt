@@ -10,9 +10,8 @@ use Rattle.prelude.specs.Search.{lesser}
 use Rattle.script.specs.declared.entries.Part.{Part}
 use Rattle.script.specs.Layout.{nodeCount}
 use Rattle.script.specs.Entries.{partOf, node, firstChild, secondChild}
-use Rattle.flow.specs.declared.levels.Levels.{Levels}
-use Rattle.flow.specs.Kinds.{childCount}
-use Rattle.flow.specs.Flow.{needAt, Under, itself, inFirst, inSecond, Smallest, FailsUnder, lattice}
+use Rattle.levels.specs.Kinds.{childCount}
+use Rattle.flow.specs.Flow.{Levels, needAt, Under, itself, inFirst, inSecond, Smallest, FailsUnder, lattice}
 use Rattle.flow.proofs.Least.{smallest-same, smallest-either}
 
 module _ (l : Levels) (s : List ℕ) (k : ℕ) where

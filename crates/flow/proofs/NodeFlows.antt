@@ -18,15 +18,14 @@ use Rattle.script.specs.Layout.{nodeCount}
 use Rattle.script.specs.Entries.{partOf, node, firstChild, secondChild}
 use Rattle.script.specs.Tree.{namesOf, processOf}
 use Rattle.script.proofs.Layouts.{nodes-are}
-use Rattle.flow.specs.declared.levels.Levels.{Levels}
-use Rattle.flow.specs.declared.levels.Flow.{Flow}
-use Rattle.flow.specs.declared.nodes.Own.{Own}
-use Rattle.flow.specs.Kinds as kind
-use Rattle.flow.specs.Kinds.{kindOf, hasWrite, hasTest, childCount, childrenOf}
-use Rattle.flow.specs.Nodes.{ownOf, writeFrom, testFrom, ownNeed, pairNeed, bothFrom, flowFrom}
-use Rattle.flow.specs.Flow.{needAt, Smallest, FailsUnder, lattice, Ready, Joins, Meets, OwnWithin, FlowWithin, FlowAt}
+use Rattle.levels.specs.declared.Flow.{Flow}
+use Rattle.levels.specs.declared.Own.{Own}
+use Rattle.levels.specs.Kinds as kind
+use Rattle.levels.specs.Kinds.{kindOf, hasWrite, hasTest, childCount, childrenOf}
+use Rattle.levels.specs.Nodes.{ownOf, writeFrom, testFrom, ownNeed, pairNeed, bothFrom, flowFrom, OwnWithin, FlowWithin}
+use Rattle.flow.specs.Flow.{Levels, needAt, Smallest, FailsUnder, lattice, Ready, Joins, Meets, FlowAt}
 use Rattle.flow.proofs.BookLevels.{top-is, bottom-is, top-inside, bottom-inside, order-said, join-kept, meet-kept, join-inside, meet-inside, write-inside, test-inside}
-use Rattle.flow.proofs.ByKind.{together, pairHolds, write-by-kind, test-by-kind, need-by-kind}
+use Rattle.levels.proofs.ByKind.{together, pairHolds, write-by-kind, test-by-kind, need-by-kind}
 use Rattle.flow.proofs.Shapes.{Children, none, one, two, kind-is}
 use Rattle.flow.proofs.FailingNodes.{FailsBelow, passes, fails}
 use Rattle.flow.proofs.Least.{smallest-none, smallest-same, smallest-either}

@@ -14,10 +14,9 @@ use Rattle.script.specs.Entries.{nameOf, partOf, node}
 use Rattle.script.specs.Tree.{namesOf, processOf}
 use Rattle.script.proofs.Layouts.{names-are, expressions-are}
 use Rattle.script.proofs.Views.{NodeView, aNil, anAssign, aLet, anIf, aWhile, aSequence, anEmit, aLocal, aWatching, aWhen, aParallel, node-view}
-use Rattle.flow.specs.declared.levels.Levels.{Levels}
-use Rattle.flow.specs.Kinds.{hasValue, hasCondition, hasSignal}
-use Rattle.flow.specs.Nodes.{brings, ownOf}
-use Rattle.flow.specs.Flow.{lattice, Ready, LevelAt, IsNodeAt, IsNode, OwnOf}
+use Rattle.levels.specs.Kinds.{hasValue, hasCondition, hasSignal}
+use Rattle.levels.specs.Nodes.{brings, ownOf}
+use Rattle.flow.specs.Flow.{Levels, lattice, Ready, LevelAt, IsNodeAt, IsNode, OwnOf}
 use Rattle.flow.proofs.BookLevels.{bottom-is, bottom-inside}
 use Rattle.flow.proofs.ExpressionLevels.{levelOf}
 

@@ -15,7 +15,7 @@ use Rattle.script.specs.Tree.{processOf}
 use Rattle.script.specs.Checked.{Checked}
 use Rattle.script.proofs.Holding.{right-kind}
 use Rattle.script.proofs.Views.{NodeView, aNil, anAssign, aLet, anIf, aWhile, aSequence, anEmit, aLocal, aWatching, aWhen, aParallel, node-view}
-use Rattle.flow.specs.Kinds.{kindOf, childCount, childrenOf}
+use Rattle.levels.specs.Kinds.{kindOf, childCount, childrenOf}
 
 module _ (s : List ℕ) (k : ℕ) where
   abbrev part : Part

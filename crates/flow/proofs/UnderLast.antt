@@ -20,7 +20,7 @@ use Rattle.script.proofs.Layouts.{few-parts}
 use Rattle.script.proofs.Holding.{holds-expression, right-field}
 use Rattle.script.proofs.Reaching.{used-of, used-earlier, user}
 use Rattle.script.proofs.Views.{NodeView, aNil, anAssign, aLet, anIf, aWhile, aSequence, anEmit, aLocal, aWatching, aWhen, aParallel, node-view, role}
-use Rattle.flow.specs.Kinds.{childCount}
+use Rattle.levels.specs.Kinds.{childCount}
 use Rattle.flow.specs.Flow.{Under, itself, inFirst, inSecond}
 use Rattle.flow.proofs.Shapes.{firstIn, secondIn, first-is, second-is}
 

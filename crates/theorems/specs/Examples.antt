@@ -7,7 +7,7 @@ use lib.IntN.{ℤ, pos, negsuc}
 use lib.ListN.{length, replicate}
 use Rattle.script.specs.Entries.{session}
 use Rattle.script.specs.Examples.{name, part, all, file}
-use Rattle.flow.specs.Kinds.{nil, assign, ifThenElse, while, sequence, emit, watching, when, parallel}
+use Rattle.levels.specs.Kinds.{nil, assign, ifThenElse, while, sequence, emit, watching, when, parallel}
 use Rattle.answers.specs.declared.Verdict.{Verdict}
 use Rattle.answers.specs.declared.Report.{Report}
 use Rattle.engine.specs.Answers.{Left, verdict, left}
