@@ -10,8 +10,8 @@ use lib.ListN.{length, drop}
 use Rattle.prelude.specs.Refusals.{passes}
 use Rattle.language.specs.Calls.{Line}
 use Rattle.runner.specs.Outcome.{words}
-use Rattle.engine.specs.declared.Report.{Report}
-use Rattle.engine.specs.Refusals.{runRefusal}
+use Rattle.answers.specs.declared.Report.{Report}
+use Rattle.call.specs.Refusals.{runRefusal}
 use Rattle.engine.specs.Answers.{Left, runOf, leftBy, refusedLeft, left}
 
 words-fit : (ls : List Line) (rest : List ℕ) → 4 * length ls ≤ length (words ls ++ rest)

@@ -10,22 +10,22 @@ use lib.IntN.{ℤ}
 use lib.ListN.{length}
 use Rattle.prelude.specs.declared.Refusal.{Refusal}
 use Rattle.prelude.specs.Refusals.{passes}
-use Rattle.book.specs.LevelBook.{count}
+use Rattle.lattice.specs.LevelBook.{count}
 use Rattle.lattice.specs.Lattice.{bookLattice}
 use Rattle.language.specs.Calls.{starts, readable}
-use Rattle.layout.specs.Layout.{nameCount}
-use Rattle.reach.specs.Checked.{Checked}
-use Rattle.tree.specs.Tree.{namesOf, tree}
+use Rattle.language.proofs.Theorems.{runs-agree}
+use Rattle.script.specs.Layout.{nameCount}
+use Rattle.script.specs.Checked.{Checked}
+use Rattle.script.specs.Tree.{namesOf, tree}
 use Rattle.runner.specs.declared.Ran.{Ran}
 use Rattle.runner.specs.Outcome.{outcome, recorded}
-use Rattle.moves.specs.Contracts.{seenIn}
-use Rattle.runner.specs.Contracts.{starting, Gives}
+use Rattle.runner.specs.Contracts.{seenIn, starting, Gives}
 use Rattle.runner.proofs.Outcomes.{written-is}
-use Rattle.engine.specs.declared.Report.{Report}
-use Rattle.engine.specs.Refusals.{checkRefusal, callRefusal, runRefusal}
+use Rattle.checker.specs.Refusals.{checkRefusal}
+use Rattle.call.specs.Refusals.{callRefusal, runRefusal}
+use Rattle.call.proofs.Seen.{run-seen, run-few}
+use Rattle.answers.specs.Reports.{reportBy}
 use Rattle.engine.specs.Answers.{runOf, Left, leftBy, refusedLeft, left}
-use Rattle.engine.proofs.Seen.{run-seen, run-few}
-use Rattle.engine.proofs.Theorems.{run-agrees}
 
 module _ (b s : List ℕ) (reader : ℕ) (values : List ℤ) (limit : ℕ) (log : List ℕ) where
   -- a refused call
@@ -56,18 +56,6 @@ module _ (b s : List ℕ) (reader : ℕ) (values : List ℤ) (limit : ℕ) (log 
         rw (sub-zero limit, sub-zero (length log / 4))
         (ap (recorded 0 log) (run-seen s ok (seenIn seen) _ agree limit (length log / 4) values))
 
-    -- the report of a run
-    abbrev reported : Ran → Report
-    reported r =
-        record {
-          number = 0;
-          place = 0;
-          ending = r .ending;
-          steps = r .steps;
-          instants = r .instants;
-          lines = r .lines;
-        }
-
     module _ {r : Ran} {values′ : List ℤ} {log′ : List ℕ}
         (g :
         Gives (outcome (namesOf s) (seenIn seen) limit (length log / 4) (starting s values log)) r values′ log′) where
@@ -84,7 +72,7 @@ module _ (b s : List ℕ) (reader : ℕ) (values : List ℤ) (limit : ℕ) (log 
         unfolding left
         is = sym (rw p)
 
-        pub report-is : reported r ≡ left b s reader values limit log .report
+        pub report-is : reportBy (r .ending) (r .steps) (r .instants) (r .lines) ≡ left b s reader values limit log .report
         report-is =
             (λ i.
             record {
@@ -104,5 +92,6 @@ module _ (b s : List ℕ) (reader : ℕ) (values : List ℤ) (limit : ℕ) (log 
         log-is =
             given .logged
             ∙ written-is (runOf b s reader values limit log .lines) log
-            (omega (arith, run-agrees b s reader values limit log .path .inRoom))
+            (omega
+            (arith, runs-agree (namesOf s) (readable (bookLattice b) (namesOf s) reader) limit (length log / 4) (starts (tree s) values) .path .inRoom))
             ∙ ap (λ (l : Left). l .log) is

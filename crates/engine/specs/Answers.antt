@@ -9,17 +9,16 @@ use Rattle.prelude.specs.Refusals.{passes}
 use Rattle.lattice.specs.Lattice.{bookLattice}
 use Rattle.language.specs.Levels.{writeLevel, testLevel}
 use Rattle.language.specs.Calls.{Run, starts, readable, run}
-use Rattle.tree.specs.Tree.{namesOf, tree}
+use Rattle.script.specs.Tree.{namesOf, tree}
 use Rattle.runner.specs.Outcome.{words}
 use Rattle.runner.specs.Contracts.{endingNumber}
-use Rattle.engine.specs.declared.Verdict.{Verdict}
-use Rattle.engine.specs.declared.Report.{Report}
-use Rattle.engine.specs.Refusals.{checkRefusal, runRefusal}
+use Rattle.answers.specs.declared.Verdict.{Verdict}
+use Rattle.answers.specs.declared.Report.{Report}
+use Rattle.answers.specs.Reports.{verdictBy, refusedReport, reportBy}
+use Rattle.checker.specs.Refusals.{checkRefusal}
+use Rattle.call.specs.Refusals.{runRefusal}
 
 -- 'Check returns number, place, W, T.' 'A refusal's other returned numbers are 0; 0 means not refused.'
-abbrev pub verdictBy : Refusal → ℕ → ℕ → Verdict
-verdictBy r w t = record { number = r .number; place = r .place; write = w; test = t }
-
 unfoldable pub verdict : List ℕ → List ℕ → Verdict
 verdict b s =
     cond
@@ -46,22 +45,10 @@ pub record Left : Type 0 where
 abbrev pub leftBy : Run → List ℕ → Left
 leftBy r log =
     record {
-      report =
-          record {
-            number = 0;
-            place = 0;
-            ending = endingNumber (r .ending);
-            steps = r .steps;
-            instants = r .instants;
-            lines = length (r .lines);
-          };
+      report = reportBy (endingNumber (r .ending)) (r .steps) (r .instants) (length (r .lines));
       values = r .values;
       log = words (r .lines) ++ drop (4 * length (r .lines)) log;
     }
-
-abbrev pub refusedReport : Refusal → Report
-refusedReport r =
-    record { number = r .number; place = r .place; ending = 0; steps = 0; instants = 0; lines = 0 }
 
 -- a refused call leaves values and log as they were
 abbrev pub refusedLeft : Refusal → List ℤ → List ℕ → Left

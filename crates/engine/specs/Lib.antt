@@ -1,8 +1,3 @@
--- The two calls: 01, 'Calls', and rows 11 to 14 of its table of refusals.
-pub mod Refusals
+-- The two calls: 01, 'Calls'. What they refuse is in `checker` and `call`, what is proved of them in `theorems`.
 pub mod Answers
-pub mod Contracts
-pub mod Records
-pub mod Results
 pub mod Interface
-pub mod Examples

@@ -1,10 +1,11 @@
 // The two calls for C. A slice is a pointer and then a length in elements. An `out` of another length than 4 or 6 is left
 // untouched, and nothing else happens.
-use crate::Report;
+use answers::words::put_report;
+use answers::words::put_verdict;
 ghost use mathlib.Core.Path.{_≡_};
-ghost use lib.ListN.{length};
 ghost use Rattle.engine.specs.Answers.{verdict, left};
-ghost use Rattle.engine.specs.Interface.{verdictWords, reportWords, whereAsked};
+ghost use Rattle.answers.specs.Words.{verdictWords, reportWords};
+ghost use Rattle.engine.specs.Interface.{whereAsked};
 
 // `out` becomes number, place, W, T.
 #[no_mangle]
@@ -15,22 +16,7 @@ pub extern "C" fn station_check(book: &[u8], script: &[u8], out: &mut [u32])
         return;
     }
     let v = crate::check(book, script);
-    out[0] = v.number;
-    out[1] = v.place;
-    out[2] = v.write;
-    out[3] = v.test;
-}
-
-fn put_report(r: Report, out: &mut [u32])
-    requires { ⌜ length (now out) ≡ 6 ⌝ }
-    ensures { λ _. ⌜ now (out .exit) ≡ reportWords r ⌝ }
-{
-    out[0] = r.number;
-    out[1] = r.place;
-    out[2] = r.ending;
-    out[3] = r.steps;
-    out[4] = r.instants;
-    out[5] = r.lines;
+    put_verdict(v, out);
 }
 
 // `out` becomes number, place, ending, steps, instants, lines.

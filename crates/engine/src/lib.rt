@@ -1,36 +1,25 @@
 // The two calls on a level book and a script file. They take any bytes and numbers.
-mod prepare; // prepare.rt: book and script are checked, refusals 1 to 11
-mod values; // values.rt: refusals 12 to 14, and which names the reader sees
 pub mod interface; // interface.rt: the calls for C
 
-use layout::Script;
-use prelude::Refusal;
+use answers::Report;
+use answers::Verdict;
+use answers::refused;
+use answers::report_of;
+use runner::Ran;
+use script::layout::Script;
 ghost use mathlib.Core.Path.{_≡_};
-ghost use Rattle.engine.specs.Answers.{verdict, left, refusedReport};
-
-// What check answers: number and place of the refusal, W and T.
-pub struct Verdict {
-    pub number: u32,
-    pub place: u32,
-    pub write: u32,
-    pub test: u32,
-}
-
-// What run answers: number and place of the refusal, how the run ended, and what it counted.
-pub struct Report {
-    pub number: u32,
-    pub place: u32,
-    pub ending: u32,
-    pub steps: u32,
-    pub instants: u32,
-    pub lines: u32,
-}
+ghost use Prim.Native.Nat.{_/_, _≤_};
+ghost use lib.ListN.{length};
+ghost use Rattle.script.specs.Tree.{namesOf};
+ghost use Rattle.runner.specs.Outcome.{outcome};
+ghost use Rattle.runner.specs.Contracts.{mostSteps, Valued, seenIn, starting, Gives};
+ghost use Rattle.engine.specs.Answers.{verdict, left};
 
 // Checks a script under a book.
 pub fn check(book: &[u8], script: &[u8]) -> Verdict
     ensures { λ r. ⌜ r ≡ verdict (now (book .entry)) (now (script .entry)) ⌝ }
 {
-    let p = prepare::prepare(book, script);
+    let p = checker::prepare(book, script);
     Verdict {
         number: p.refusal.number,
         place: p.refusal.place,
@@ -39,17 +28,22 @@ pub fn check(book: &[u8], script: &[u8]) -> Verdict
     }
 }
 
-fn refused(r: Refusal) -> Report
-    ensures { λ a. ⌜ a ≡ refusedReport r ⌝ }
+// Runs a script that no row of the table refuses; `seen` has 1 for each name that the reader sees.
+fn run_seen(
+    s: &[u8],
+    c: Script,
+    seen: [u8; Script::MAX_NAMES],
+    values: &mut [i32],
+    limit: u32,
+    log: &mut [u32],
+) -> Ran
+    requires { ⌜ Valued (now s) c (now values) × (limit ≤ mostSteps) ⌝ }
+    ensures { λ r. ⌜ Gives (outcome (namesOf (now (s .entry))) (seenIn seen) limit (length (now (log .entry)) / 4) (starting (now (s .entry)) (now (values .entry)) (now (log .entry)))) r (now (values .exit)) (now (log .exit)) ⌝ }
 {
-    Report {
-        number: r.number,
-        place: r.place,
-        ending: 0,
-        steps: 0,
-        instants: 0,
-        lines: 0,
-    }
+    let plan = runner::plan::find_plan(s, c);
+    let mut state = [0u8; Script::MAX_NODES];
+    let n = c.nodes;
+    runner::run(s, c, &plan, &seen, values, &mut state[0..n], log, limit)
 }
 
 // Runs a script under a book for a reader, from these values, for at most `limit` steps. A refused call changes nothing.
@@ -66,36 +60,15 @@ pub fn run(
     ensures { λ _. ⌜ now (values .exit) ≡ left (now (book .entry)) (now (script .entry)) reader (now (values .entry)) limit (now (log .entry)) .values ⌝ }
     ensures { λ _. ⌜ now (log .exit) ≡ left (now (book .entry)) (now (script .entry)) reader (now (values .entry)) limit (now (log .entry)) .log ⌝ }
 {
-    let p = prepare::prepare(book, script);
+    let p = checker::prepare(book, script);
     if p.refusal.number != 0 {
         return refused(p.refusal);
     }
-    let c = p.script;
-    let b = p.book;
-    let refusal = values::call_refusal(script, c, b.count, reader, values, limit);
+    let refusal = call::call_refusal(script, p.script, p.book.count, reader, values, limit);
     if refusal.number != 0 {
         return refused(refusal);
     }
-    let plan = plan::find_plan(script, c);
-    let seen = values::find_seen(script, c, b, reader as usize);
-    let mut state = [0u8; Script::MAX_NODES];
-    let n = c.nodes;
-    let r = runner::run(
-        script,
-        c,
-        &plan,
-        &seen,
-        values,
-        &mut state[0..n],
-        log,
-        limit,
-    );
-    Report {
-        number: 0,
-        place: 0,
-        ending: r.ending,
-        steps: r.steps,
-        instants: r.instants,
-        lines: r.lines as u32,
-    }
+    let seen = call::find_seen(script, p.script, p.book, reader as usize);
+    let r = run_seen(script, p.script, seen, values, limit, log);
+    report_of(r.ending, r.steps, r.instants, r.lines)
 }

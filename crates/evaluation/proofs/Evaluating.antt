@@ -11,7 +11,7 @@ use mir.Syntax.{w32}
 use mir.Val.{toZ}
 use borrow.Author.Tests.{eqb-true, eqb-false}
 use Rattle.prelude.proofs.Bools.{by-cases}
-use Rattle.language.specs.Values.{negation}
+use Rattle.arithmetic.specs.Values.{negation}
 use Rattle.language.specs.Syntax.{Operator, add, subtract, multiply, divide, less, equal}
 use Rattle.language.specs.Steps.{held, apply, evaluate, value}
 use Rattle.script.specs.declared.entries.Part.{Part}

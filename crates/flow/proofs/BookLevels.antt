@@ -1,20 +1,20 @@
 -- Of levels of a book, what its tables keep and its rows say is what its lattice says, and it is a level of the book.
 -- Assumes nothing.
 use mathlib.Core.Path.{_≡_, sym, ap, _∙_, subst}
-use mathlib.Core.Bool.{cond}
+use mathlib.Core.Bool.{Bool, cond, _&&_}
 use mathlib.Core.List.{List}
 use Prim.Native.Nat.{ℕ, _<_}
 use native.Mathlib.Omega.{arith}
+use Rattle.prelude.specs.Search.{lesser}
 use Rattle.prelude.proofs.Bools.{by-cases}
-use Rattle.book.specs.LevelBook.{mostLevels, atOrBelow}
-use Rattle.pairs.specs.Bounds.{kept}
+use Rattle.lattice.specs.LevelBook.{mostLevels, atOrBelow}
+use Rattle.lattice.specs.Bounds.{kept}
 use Rattle.lattice.proofs.Theorems.{as-level-own}
-use Rattle.flow.specs.declared.levels.Levels.{Levels}
-use Rattle.flow.specs.declared.levels.Flow.{Flow}
-use Rattle.flow.specs.declared.nodes.Own.{Own}
-use Rattle.flow.specs.Kinds.{hasTest, hasWrite}
-use Rattle.flow.specs.Nodes.{writeFrom, testFrom, ownNeed}
-use Rattle.flow.specs.Flow.{lattice, Ordered, Joins, Meets, OwnWithin, FlowWithin}
+use Rattle.levels.specs.declared.Flow.{Flow}
+use Rattle.levels.specs.declared.Own.{Own}
+use Rattle.levels.specs.Kinds.{hasTest, hasWrite}
+use Rattle.levels.specs.Nodes.{writeFrom, testFrom, ownNeed, flowFrom, OwnWithin, FlowWithin}
+use Rattle.flow.specs.Flow.{Levels, lattice, Ordered, Joins, Meets}
 
 module _ {l : Levels} (o : Ordered l) where
   pub top-is : l .top ≡ lattice l .top
@@ -78,3 +78,29 @@ module _ {l : Levels} (o : Ordered l) where
           order-said t w ht hw,
           order-said (own .level) w (known .level) hw,
         )
+
+    abbrev made : ℕ → Bool → ℕ → Bool → Flow
+    made test need k pair =
+        record {
+          write = writeFrom kind own parts;
+          test = test;
+          failing = cond (pair && need) (parts .failing) (lesser k (parts .failing));
+        }
+
+    -- what `node_flow` finds by the table and the rows
+    pub flow-same :
+        (t : List (List ℕ)) → Joins l t → (k : ℕ) (pair : Bool) →
+        flowFrom (kept t) (atOrBelow (l .book .rows)) k kind own parts pair
+        ≡ flowFrom (lattice l .join) (lattice l .leq) k kind own parts pair
+    flow-same t keeps k pair =
+        ap (λ m. made m (ownNeed (atOrBelow (l .book .rows)) kind own (writeFrom kind own parts) m) k pair)
+        (test-same t keeps)
+        ∙ ap (λ n. made (testFrom (lattice l .join) kind own parts) n k pair)
+        (need-same (writeFrom kind own parts) (testFrom (lattice l .join) kind own parts) write-inside test-inside)
+
+    -- what it asks
+    pub test-index : (t : List (List ℕ)) → Joins l t → testFrom (kept t) kind own parts < mostLevels
+    test-index t keeps = omega (arith, o .few, test-same t keeps, test-inside)
+
+  pub own-index : {own : Own} → OwnWithin (l .book .count) own → OwnWithin mostLevels own
+  own-index h = record { level = omega (arith, o .few, h .level); name = omega (arith, o .few, h .name) }

@@ -7,13 +7,11 @@ use mathlib.Core.Logic.{_⊎_, inl, inr, ⊎-elim}
 use Prim.Native.Nat.{ℕ, _<_}
 use native.Mathlib.Omega.{arith}
 use Rattle.prelude.specs.Search.{lesser}
-use Rattle.layout.specs.declared.entries.Part.{Part}
-use Rattle.layout.specs.Layout.{nodeCount}
-use Rattle.layout.specs.Entries.{partOf, node}
-use Rattle.fields.specs.Fields.{firstChild, secondChild}
-use Rattle.flow.specs.declared.levels.Levels.{Levels}
-use Rattle.flow.specs.Kinds.{childCount}
-use Rattle.flow.specs.Flow.{needAt, Under, itself, inFirst, inSecond, Smallest, FailsUnder, lattice}
+use Rattle.script.specs.declared.entries.Part.{Part}
+use Rattle.script.specs.Layout.{nodeCount}
+use Rattle.script.specs.Entries.{partOf, node, firstChild, secondChild}
+use Rattle.levels.specs.Kinds.{childCount}
+use Rattle.flow.specs.Flow.{Levels, needAt, Under, itself, inFirst, inSecond, Smallest, FailsUnder, lattice}
 use Rattle.flow.proofs.Least.{smallest-same, smallest-either}
 
 module _ (l : Levels) (s : List ℕ) (k : ℕ) where

@@ -2,7 +2,6 @@
 pub mod BookLevels
 pub mod ExpressionLevels
 pub mod OwnViews
-pub mod ByKind
 pub mod Least
 pub mod Shapes
 pub mod FailingNodes

@@ -9,25 +9,23 @@ use native.Mathlib.Omega.{arith}
 use lib.Dec.{eqb}
 use Rattle.prelude.specs.Search.{lesser}
 use Rattle.prelude.proofs.Bools.{by-cases}
-use Rattle.book.specs.LevelBook.{atOrBelow}
-use Rattle.pairs.specs.Bounds.{kept}
+use Rattle.lattice.specs.LevelBook.{atOrBelow}
+use Rattle.lattice.specs.Bounds.{kept}
 use Rattle.language.specs.Syntax.{Proc}
 use Rattle.language.specs.Levels.{writeLevel, testLevel}
-use Rattle.layout.specs.declared.Script.{Script}
-use Rattle.layout.specs.Layout.{nodeCount}
-use Rattle.layout.specs.Entries.{partOf, node}
-use Rattle.fields.specs.Fields.{firstChild, secondChild}
-use Rattle.tree.specs.Tree.{namesOf, processOf}
-use Rattle.layout.proofs.Layouts.{nodes-are}
-use Rattle.flow.specs.declared.levels.Levels.{Levels}
-use Rattle.flow.specs.declared.levels.Flow.{Flow}
-use Rattle.flow.specs.declared.nodes.Own.{Own}
-use Rattle.flow.specs.Kinds as kind
-use Rattle.flow.specs.Kinds.{kindOf, hasWrite, hasTest, childCount, childrenOf}
-use Rattle.flow.specs.Nodes.{ownOf, writeFrom, testFrom, ownNeed, pairNeed, bothFrom, flowFrom}
-use Rattle.flow.specs.Flow.{needAt, Smallest, FailsUnder, lattice, Ready, Joins, Meets, OwnWithin, FlowWithin, FlowAt}
+use Rattle.script.specs.declared.layout.Script.{Script}
+use Rattle.script.specs.Layout.{nodeCount}
+use Rattle.script.specs.Entries.{partOf, node, firstChild, secondChild}
+use Rattle.script.specs.Tree.{namesOf, processOf}
+use Rattle.script.proofs.Layouts.{nodes-are}
+use Rattle.levels.specs.declared.Flow.{Flow}
+use Rattle.levels.specs.declared.Own.{Own}
+use Rattle.levels.specs.Kinds as kind
+use Rattle.levels.specs.Kinds.{kindOf, hasWrite, hasTest, childCount, childrenOf}
+use Rattle.levels.specs.Nodes.{ownOf, writeFrom, testFrom, ownNeed, pairNeed, bothFrom, flowFrom, OwnWithin, FlowWithin}
+use Rattle.flow.specs.Flow.{Levels, needAt, Smallest, FailsUnder, lattice, Ready, Joins, Meets, FlowAt}
 use Rattle.flow.proofs.BookLevels.{top-is, bottom-is, top-inside, bottom-inside, order-said, join-kept, meet-kept, join-inside, meet-inside, write-inside, test-inside}
-use Rattle.flow.proofs.ByKind.{together, pairHolds, write-by-kind, test-by-kind, need-by-kind}
+use Rattle.levels.proofs.ByKind.{together, pairHolds, write-by-kind, test-by-kind, need-by-kind}
 use Rattle.flow.proofs.Shapes.{Children, none, one, two, kind-is}
 use Rattle.flow.proofs.FailingNodes.{FailsBelow, passes, fails}
 use Rattle.flow.proofs.Least.{smallest-none, smallest-same, smallest-either}

@@ -4,25 +4,23 @@ use mathlib.Core.Bool.{Bool, false, not}
 use mathlib.Core.List.{List}
 use Prim.Native.Nat.{ℕ, _≤_, _<_}
 use Rattle.prelude.specs.Search.{first}
-use Rattle.book.specs.declared.Book.{Book}
-use Rattle.order.specs.Order as orders
-use Rattle.order.specs.Order.{Relation, leastUpper, greatestLower, LevelLattice}
-use Rattle.book.specs.LevelBook.{mostLevels, atOrBelow}
-use Rattle.pairs.specs.Bounds.{Keeps}
+use Rattle.lattice.specs.declared.book.Book.{Book}
+use Rattle.lattice.specs.Order as orders
+use Rattle.lattice.specs.Order.{Relation, leastUpper, greatestLower, LevelLattice}
+use Rattle.lattice.specs.LevelBook.{mostLevels, atOrBelow}
+use Rattle.lattice.specs.Bounds.{Keeps}
 use Rattle.lattice.specs.Lattice.{Lattice, latticeOf}
 use Rattle.language.specs.Levels.{expLevel, writeLevel, testLevel, need}
-use Rattle.layout.specs.declared.Script.{Script}
-use Rattle.layout.specs.declared.entries.Part.{Part}
-use Rattle.layout.specs.Layout.{nodeCount, Laid}
-use Rattle.layout.specs.Entries.{partOf, node}
-use Rattle.fields.specs.Fields.{firstChild, secondChild}
-use Rattle.tree.specs.Tree.{namesOf, expressionOf, processOf, tree}
-use Rattle.reach.specs.Checked.{Checked, Levelled}
-use Rattle.flow.specs.declared.levels.Levels.{Levels}
-use Rattle.flow.specs.declared.levels.Flow.{Flow}
-use Rattle.flow.specs.declared.nodes.Own.{Own}
-use Rattle.flow.specs.Kinds.{childCount}
-use Rattle.flow.specs.Nodes.{ownOf}
+use Rattle.script.specs.declared.layout.Script.{Script}
+use Rattle.script.specs.declared.entries.Part.{Part}
+use Rattle.script.specs.Layout.{nodeCount, Laid}
+use Rattle.script.specs.Entries.{partOf, node, firstChild, secondChild}
+use Rattle.script.specs.Tree.{namesOf, expressionOf, processOf, tree}
+use Rattle.script.specs.Checked.{Checked, Levelled}
+use Rattle.levels.specs.declared.Flow.{Flow}
+use Rattle.levels.specs.declared.Own.{Own}
+use Rattle.levels.specs.Kinds.{childCount}
+use Rattle.levels.specs.Nodes.{ownOf, OwnWithin, FlowWithin}
 
 -- row 11: 'a need above fails', at 'first node': node k has its need
 abbrev pub needAt : Lattice ℕ → List ℕ → ℕ → Bool
@@ -51,6 +49,11 @@ abbrev pub FailsUnder : Lattice ℕ → List ℕ → ℕ → ℕ → Type 0
 FailsUnder 𝓛 s k j = Under s k j × (needAt 𝓛 s j ≡ false)
 
 -- a book with its top and bottom, and its lattice
+pub record Levels : Type 0 where
+  pub book : Book
+  pub top : ℕ
+  pub bottom : ℕ
+
 abbrev pub orderOf : Book → Relation
 orderOf b = atOrBelow (b .rows)
 
@@ -80,6 +83,20 @@ Joins l t = Keeps t (l .book .count) (leastUpper (orderOf (l .book)) (l .book .c
 abbrev pub Meets : Levels → List (List ℕ) → Type 0
 Meets l t = Keeps t (l .book .count) (greatestLower (orderOf (l .book)) (l .book .count))
 
+-- What the readers of expressions are handed of some levels l: a checked script, the bottom and the table of joins.
+pub record Reads (s : List ℕ) (c : Script) (least : ℕ) (join : List (List ℕ)) (l : Levels) : Type 0 where
+  pub ready : Ready s c l
+  pub joins : Joins l join
+  pub bottom : least ≡ l .bottom
+
+-- What the walk is handed: also the rows, the top and the table of meets.
+pub record Walks
+    (s : List ℕ) (c : Script) (sets : List ℕ) (greatest least : ℕ) (join meet : List (List ℕ)) (l : Levels) : Type 0 where
+  pub reads : Reads s c least join l
+  pub meets : Meets l meet
+  pub rows : sets ≡ l .book .rows
+  pub top : greatest ≡ l .top
+
 -- p has the bytes of node k
 pub record IsNodeAt (s : List ℕ) (p : Part) (k : ℕ) : Type 0 where
   pub known : k < nodeCount s
@@ -87,15 +104,6 @@ pub record IsNodeAt (s : List ℕ) (p : Part) (k : ℕ) : Type 0 where
 
 abbrev pub IsNode : List ℕ → Part → Type 0
 IsNode s p = (k : ℕ) × IsNodeAt s p k
-
--- levels below n
-pub record OwnWithin (n : ℕ) (own : Own) : Type 0 where
-  pub level : own .level < n
-  pub name : own .name < n
-
-pub record FlowWithin (n : ℕ) (f : Flow) : Type 0 where
-  pub write : f .write < n
-  pub test : f .test < n
 
 -- What the walks find: of an expression, ..
 pub record LevelAt (l : Levels) (s : List ℕ) (e level : ℕ) : Type 0 where

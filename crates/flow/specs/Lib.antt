@@ -1,5 +1,3 @@
 -- 01, 'Write level and test level' and row 11 of the table of refusals, of the nodes of a script file.
-pub mod Kinds
-pub mod Nodes
 pub mod Flow
 pub mod Results

@@ -4,17 +4,15 @@ use mathlib.Core.Bool.{true}
 use mathlib.Core.List.{List}
 use Prim.Native.Nat.{ℕ, _<_}
 use lib.Dec.{eqb}
-use Rattle.book.specs.declared.Loaded.{Loaded}
-use Rattle.book.specs.LevelBook.{count}
+use Rattle.lattice.specs.declared.Loaded.{Loaded}
 use Rattle.lattice.specs.Refusals.{isAccepted}
 use Rattle.lattice.specs.Load.{Loads}
 use Rattle.lattice.specs.Lattice.{Lattice, bookLattice}
 use Rattle.language.specs.Levels.{needs}
-use Rattle.layout.specs.declared.Script.{Script}
-use Rattle.layout.specs.Layout.{nodeCount, Laid}
-use Rattle.tree.specs.Tree.{namesOf, tree}
-use Rattle.reach.specs.Checked.{Checked, Levelled}
-use Rattle.flow.specs.Flow.{needAt, firstFailing, lattice, levelsOf, Ready, Joins, Meets}
+use Rattle.script.specs.Layout.{nodeCount}
+use Rattle.script.specs.Tree.{namesOf, tree}
+use Rattle.script.specs.Checked.{Checked}
+use Rattle.flow.specs.Flow.{needAt, firstFailing, lattice, levelsOf, Ordered, Joins, Meets}
 
 -- The needs of a checked script hold exactly when every node of the file has its own, so exactly when no node is the
 -- first that fails: under any lattice.
@@ -29,11 +27,11 @@ pub record NeedsEverywhere : Type 0 where
       (𝓛 : Lattice ℕ) (s : List ℕ) → Checked s →
       needs 𝓛 (namesOf s) (tree s) ≡ eqb (firstFailing 𝓛 s) (nodeCount s)
 
--- What a caller of `find_flow` has: a book that `load` accepted, with its tables, and a checked script.
+-- What a caller of `find_flow` has of a book that `load` accepted, with its tables.
 pub record CallersReady : Type 0 where
-  pub ready :
-      (b s : List ℕ) (c : Script) (r : Loaded) (join meet : List (List ℕ)) → Loads b r join meet →
-      isAccepted b ≡ true → Laid s c → Checked s → Levelled s (count b) → Ready s c (levelsOf (r .book))
+  pub ordered :
+      (b : List ℕ) (r : Loaded) (join meet : List (List ℕ)) → Loads b r join meet → isAccepted b ≡ true →
+      Ordered (levelsOf (r .book))
   pub tables :
       (b : List ℕ) (r : Loaded) (join meet : List (List ℕ)) → Loads b r join meet → isAccepted b ≡ true →
       Joins (levelsOf (r .book)) join × Meets (levelsOf (r .book)) meet

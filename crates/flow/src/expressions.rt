@@ -1,31 +1,30 @@
 // The level of an expression.
 use crate::kinds;
-use crate::levels::Levels;
-use pairs::PairTable;
-use pairs::level_at;
+use lattice::book::PairTable;
+use lattice::book::level_at;
 use script::entries::name_at;
 use script::entries::part_at;
 use script::layout::Script;
 ghost use Prim.Native.Nat.{_<_};
-ghost use Rattle.flow.specs.Flow.{Ready, Joins, LevelAt};
+ghost use Rattle.flow.specs.Flow.{Levels, Reads, LevelAt};
 
 // The join of the levels of the registers of expression e, bottom if it has none.
-pub fn level_of(s: &[u8], c: Script, l: Levels, join: &PairTable, e: usize) -> usize
-    requires { ⌜ Ready (now s) c l × (Joins l (now join) × (e < c .expressions)) ⌝ }
-    ensures { λ r. ⌜ LevelAt l (now (s .entry)) e r ⌝ }
+pub fn level_of(s: &[u8], c: Script, bottom: usize, join: &PairTable, e: usize) -> usize
+    requires { ⌜ ((l : Levels) × Reads (now s) c bottom (now join) l) × (e < c .expressions) ⌝ }
+    ensures { λ r. ⌜ ((l : Levels) → Reads (now (s .entry)) c bottom (now (join .entry)) l → LevelAt l (now (s .entry)) e r) ⌝ }
 {
     let part = part_at(s, c, e);
     if part.kind == kinds::CONSTANT {
-        return l.bottom;
+        return bottom;
     }
     if part.kind == kinds::REGISTER {
         let name = name_at(s, c, part.a);
         return name.level;
     }
-    let left = level_of(s, c, l, join, part.a);
+    let left = level_of(s, c, bottom, join, part.a);
     if part.kind == kinds::NOT {
         return left;
     }
-    let right = level_of(s, c, l, join, part.b);
+    let right = level_of(s, c, bottom, join, part.b);
     level_at(join, left, right)
 }

@@ -1,14 +1,12 @@
 // Write level, test level and refusal 11: one walk over the tree of a checked script.
-mod kinds; // kinds.rt: the kinds of expressions and nodes that the levels tell apart
-pub mod levels; // levels.rt: a checked book with its top and bottom, and what a walk finds
+mod kinds; // kinds.rt: the kinds of expressions, and the number of children of a node
 mod expressions; // expressions.rt: the level of an expression
-mod nodes; // nodes.rt: what a node has, from what its children have
+mod own; // own.rt: what a node brings itself
 mod walk; // walk.rt: the walk over the nodes
 
-use crate::levels::Flow;
-use crate::levels::Levels;
-use book::Book;
-use pairs::PairTable;
+use lattice::book::Book;
+use lattice::book::PairTable;
+use levels::Flow;
 use script::layout::Script;
 ghost use Rattle.flow.specs.Flow.{levelsOf, Ready, Joins, Meets, FlowOf};
 
@@ -18,10 +16,7 @@ pub fn find_flow(s: &[u8], c: Script, b: Book, join: &PairTable, meet: &PairTabl
     requires { ⌜ Ready (now s) c (levelsOf b) × (Joins (levelsOf b) (now join) × Meets (levelsOf b) (now meet)) ⌝ }
     ensures { λ r. ⌜ FlowOf (levelsOf b) (now (s .entry)) r ⌝ }
 {
-    let l = Levels {
-        book: b,
-        top: lattice::top_of(b),
-        bottom: lattice::bottom_of(b),
-    };
-    walk::flow_at(s, c, l, join, meet, c.nodes - 1)
+    let top = lattice::top_of(b);
+    let bottom = lattice::bottom_of(b);
+    walk::flow_at(s, c, &b.rows, top, bottom, join, meet, c.nodes - 1)
 }

@@ -1,6 +1,4 @@
--- Laws that the proofs of several functions use, and the theorems of the crate.
-pub mod Signed
-pub mod Bits
+-- Laws of the definitions, and the theorems of the crate.
 pub mod Orders
 pub mod Needs
 pub mod NameKinds

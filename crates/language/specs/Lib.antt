@@ -1,5 +1,4 @@
--- The language of scripts: 01, 'Script file' (values) to 'Calls', then the figures of RR-5594, then what is proved.
-pub mod Values
+-- The language of scripts: 01, 'Script file' to 'Calls', then the figures of RR-5594, then what is proved.
 pub mod Syntax
 pub mod NameKinds
 pub mod Scope

@@ -1,3 +1,2 @@
-// The language of scripts. Its code is its arithmetic; its definitions and theorems are in specs/ and proofs/.
-pub mod arithmetic; // arithmetic.rt: the operators
-pub mod words; // words.rt: signed values and their words
+// The language of scripts: its trees, steps and levels, the report's rules, and the theorems about them. The crate has no
+// code: its definitions are in specs/, its theorems in proofs/Theorems.antt.

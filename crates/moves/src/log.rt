@@ -41,7 +41,7 @@ pub fn note(
     if log.len() / 4 <= lines {
         return Noted { fits: false, lines };
     }
-    let word = language::words::word_of(value);
+    let word = arithmetic::words::word_of(value);
     put_line(log, 4 * lines, steps + 1, instant, x as u32, word);
     Noted {
         fits: true,

@@ -11,7 +11,7 @@ use lib.IntN.{ℤ, pos, negsuc}
 use lib.ListN.{getD, length, List·getD-eq-default}
 use Rattle.prelude.proofs.Bools.{and-second, by-cases}
 use Rattle.prelude.proofs.Searches.{none-of-any}
-use Rattle.language.specs.Values.{holds}
+use Rattle.arithmetic.specs.Values.{holds}
 use Rattle.language.specs.Syntax.{Names, Proc, nil, assign, letIn, ifThenElse, while, sequence, emit, local, watching, when, parallel}
 use Rattle.language.specs.Scope.{withName, Scoped}
 use Rattle.language.specs.Steps.{held, present, suspended, change, instantStart}

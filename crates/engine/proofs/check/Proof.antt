@@ -5,22 +5,27 @@ use mathlib.Core.List.{List}
 use Prim.Native.Nat.{ℕ}
 use native.Mathlib.Omega.{arith}
 use Rattle.prelude.specs.Refusals.{passes}
-use Rattle.engine.specs.declared.prepare.Prepared.{Prepared}
-use Rattle.engine.specs.Refusals.{checkRefusal}
-use Rattle.engine.specs.Answers.{verdictBy, verdict}
-use Rattle.engine.specs.Contracts.{Prepares}
-use borrow.Author.Needs.{needs, fits-under}
+use Rattle.lattice.specs.Lattice.{bookLattice}
+use Rattle.lattice.specs.Load.{bookOf}
+use Rattle.checker.specs.declared.Prepared.{Prepared}
+use Rattle.checker.specs.Refusals.{checkRefusal}
+use Rattle.checker.specs.Contracts.{Prepares}
+use Rattle.answers.specs.Reports.{verdictBy}
+use Rattle.engine.specs.Answers.{verdict}
+use borrow.Author.Needs.{fits-under}
 use Rattle.engine.proofs.check.Statement.{statement}
 use Rattle.engine.proofs.check.Tie as tie
 
 -- by whether it is refused
-answers : (b s : List ℕ) (r : Prepared) → Prepares b s r → (t : Bool) → passes (checkRefusal b s) ≡ t → verdictBy (r .refusal) (r .write) (r .test) ≡ verdict b s
+answers :
+    (b s : List ℕ) (r : Prepared) → Prepares (checkRefusal b s) (bookLattice b) (bookOf b) s r → (t : Bool) →
+    passes (checkRefusal b s) ≡ t → verdictBy (r .refusal) (r .write) (r .test) ≡ verdict b s
 unfolding verdict
 answers b s r p true e = rw (p .refusal, e, p .write e, p .test e)
 answers b s r p false e = rw (p .refusal, e, p .none e .0, p .none e .1)
 
 prepare-requires : tie.Need-prepare-requires
-prepare-requires c κs = search needs
+prepare-requires c κs = tt
 
 cast-t4 : tie.Need-cast-t4
 cast-t4 c = fits-under _ _ 17 (omega (arith, c .before .prepare .ensures .few)) tt

@@ -1,34 +1,32 @@
 -- `run`: what was prepared is run, unless the call is refused.
-use mathlib.Core.Path.{_≡_, sym, ap, _∙_, subst}
+use mathlib.Core.Path.{_≡_, refl, sym, ap, _∙_, subst}
 use mathlib.Core.Bool.{true}
-use Prim.Native.Nat.{ℕ, _-_, _≤_, _<_}
+use Prim.Native.Nat.{ℕ, _<_}
 use native.Mathlib.Omega.{arith}
 use denote.Ref.{now}
 use borrow.Author.Tests.{eq-eqb, ne-eqb}
-use native.Mathlib.Nat.{sub-zero}
-use lib.ListN.{length, take, replicate}
 use Rattle.prelude.specs.Refusals.{passes}
-use Rattle.book.specs.declared.Book.{Book}
-use Rattle.book.specs.LevelBook.{count, atOrBelow}
-use Rattle.book.specs.Load.{bookOf}
+use Rattle.lattice.specs.declared.book.Book.{Book}
+use Rattle.lattice.specs.LevelBook.{count, atOrBelow}
+use Rattle.lattice.specs.Load.{bookOf}
 use Rattle.lattice.specs.Lattice.{bookLattice}
 use Rattle.lattice.proofs.Passing.{passing}
-use Rattle.book.proofs.Sizes.{few-read}
+use Rattle.lattice.proofs.Sizes.{few-read}
 use Rattle.lattice.proofs.Theorems.{order-at}
 use Rattle.language.specs.Calls.{readable}
 use Rattle.script.specs.Layout.{nameCount, Laid}
 use Rattle.script.specs.Entries.{nameOf}
-use Rattle.script.specs.Tree.{namesOf}
-use Rattle.script.proofs.Layouts.{few-bounds, names-are, nodes-are}
-use Rattle.script.proofs.Theorems.{accepted-exactly}
-use Rattle.moves.specs.Contracts.{seenIn}
-use Rattle.residual.proofs.Residuals.{take-zeros}
 use Rattle.script.specs.Checked.{Checked, Levelled}
-use Rattle.engine.specs.Refusals.{checkRefusal, callRefusal, runRefusal}
+use Rattle.script.specs.Tree.{namesOf}
+use Rattle.script.proofs.Theorems.{accepted-exactly}
+use Rattle.runner.specs.Contracts.{seenIn}
+use Rattle.checker.specs.Refusals.{checkRefusal}
+use Rattle.checker.proofs.Passing.{Accepted, accepted}
+use Rattle.call.specs.Refusals.{callRefusal, runRefusal}
+use Rattle.call.proofs.Passing.{run-accepted, run-bounds}
 use Rattle.engine.specs.Answers.{Left}
-use Rattle.engine.proofs.Passing.{Accepted, accepted, run-accepted, run-bounds}
 use Rattle.engine.proofs.Leaving.{refused-left, by-check, by-call, few-lines, report-is, values-are, log-is}
-use borrow.Author.Needs.{needs, fits-under}
+use borrow.Author.Needs.{needs}
 use Rattle.engine.proofs.run.Statement.{statement}
 use Rattle.engine.proofs.run.Tie as tie
 
@@ -39,16 +37,11 @@ prepared c = ap passes (sym (c .before .before .prepare .ensures .refusal)) ∙ 
 right : (c : tie.Else1) → Accepted (now (c .before .before .before .before .before .before .args .book)) (now (c .before .before .before .before .before .before .args .script))
 right c = accepted _ _ (prepared c)
 
-checked-file :
-    (c : tie.Else1) →
-    Checked (now (c .before .before .before .before .before .before .args .script)) × Levelled (now (c .before .before .before .before .before .before .args .script)) (count (now (c .before .before .before .before .before .before .args .book)))
-checked-file c = accepted-exactly .checked _ _ (right c .script)
-
-file : (c : tie.Else1) → Checked (now (c .before .before .before .before .before .before .args .script))
-file c = checked-file c .0
+file : (c : tie.Else1) → Checked (now (c .before .before .before .before .before .before .args .script)) × Levelled (now (c .before .before .before .before .before .before .args .script)) (count (now (c .before .before .before .before .before .before .args .book)))
+file c = accepted-exactly .checked _ _ (right c .script)
 
 laid : (c : tie.Else1) → Laid (now (c .before .before .before .before .before .before .args .script)) (c .before .before .prepare .result .script)
-laid c = subst (Laid (now (c .before .before .before .before .before .before .args .script))) (sym (c .before .before .prepare .ensures .layout (prepared c))) (file c .laid)
+laid c = subst (Laid (now (c .before .before .before .before .before .before .args .script))) (sym (c .before .before .prepare .ensures .layout (prepared c))) (file c .0 .laid)
 
 book-is : (c : tie.Else1) → c .before .before .prepare .result .book ≡ bookOf (now (c .before .before .before .before .before .before .args .book))
 book-is c = c .before .before .prepare .ensures .book (prepared c)
@@ -56,137 +49,126 @@ book-is c = c .before .before .prepare .ensures .book (prepared c)
 -- the refusal of the call
 call-is :
     (c : tie.After-call-refusal) →
-    let start = c .before .before .before .before .before .before .before .before .before .before in
-    c .call-refusal .result ≡ runRefusal (now (start .args .book)) (now (start .args .script)) (start .args .reader) (now (start .args .values)) (start .args .limit)
+    let a = c .before .before .before .before .before .before .before .before .args in
+    c .call-refusal .result ≡ runRefusal (now (a .book)) (now (a .script)) (a .reader) (now (a .values)) (a .limit)
 call-is c =
-    let start = c .before .before .before .before .before .before .before .before .before .before in
-    by-call (now (start .args .book)) (now (start .args .script)) (start .args .reader) (now (start .args .values)) (start .args .limit) (now (start .args .log)) (prepared (c .before .before .before .before))
+    let a = c .before .before .before .before .before .before .before .before .args in
+    by-call (now (a .book)) (now (a .script)) (a .reader) (now (a .values)) (a .limit) (now (a .log)) (prepared ((c .before .before)))
     (c .call-refusal .ensures
-    ∙ ap (λ (b : Book). callRefusal (b .count) (now (start .args .script)) (start .args .reader) (now (start .args .values)) (start .args .limit)) (book-is (c .before .before .before .before)))
+    ∙ ap (λ (b : Book). callRefusal (b .count) (now (a .script)) (a .reader) (now (a .values)) (a .limit))
+    (book-is ((c .before .before))))
 
 passed :
     (c : tie.Else2) →
-    let start = c .before .before .before .before .before .before .before .before .before .before .before .before in
-    passes (runRefusal (now (start .args .book)) (now (start .args .script)) (start .args .reader) (now (start .args .values)) (start .args .limit)) ≡ true
-passed c = ap passes (sym (call-is (c .before .before))) ∙ eq-eqb _ 0 (c .if2 .left)
+    let a = c .before .before .before .before .before .before .before .before .before .before .args in
+    passes (runRefusal (now (a .book)) (now (a .script)) (a .reader) (now (a .values)) (a .limit)) ≡ true
+passed c = ap passes (sym (call-is ((c .before .before)))) ∙ eq-eqb _ 0 (c .if2 .left)
 
 -- what the reader sees
 agrees :
     (c : tie.After-find-seen) →
-    let start = c .before .before .before .before .before .before .before .before .before .before .before .before .before .before in
-    (x : ℕ) → x < nameCount (now (start .args .script)) →
-    seenIn (c .find-seen .result) x
-    ≡ readable (bookLattice (now (start .args .book))) (namesOf (now (start .args .script))) (start .args .reader) x
+    let a = c .before .before .before .before .before .before .before .before .before .before .before .args in
+    (x : ℕ) → x < nameCount (now (a .script)) →
+    seenIn (c .find-seen .result) x ≡ readable (bookLattice (now (a .book))) (namesOf (now (a .script))) (a .reader) x
 agrees c x h =
-    let start = c .before .before .before .before .before .before .before .before .before .before .before .before .before .before in
-    let s = now (start .args .script) in
+    let a = c .before .before .before .before .before .before .before .before .before .before .before .args in
+    let level = nameOf (now (a .script)) x .level in
     c .find-seen .ensures x h
-    ∙ ap (λ (b : Book). atOrBelow (b .rows) (nameOf s x .level) (start .args .reader)) (book-is (c .before .before .before .before .before .before .before .before))
-    ∙ order-at (now (start .args .book)) (nameOf s x .level) (start .args .reader) (checked-file (c .before .before .before .before .before .before .before .before) .1 x h)
-    (run-bounds (now (start .args .book)) (now (start .args .script)) (start .args .reader) (now (start .args .values)) (start .args .limit) (passed (c .before .before)) .0)
-
--- the state is clear
-cleared : (n m : ℕ) → n ≤ 256 → n ≡ m → take {A = ℕ} (n - 0) (replicate 256 0) ≡ replicate m 0
-cleared n m h e = rw sub-zero (take-zeros n 256 h ∙ ap (λ k. replicate k 0) e)
+    ∙ ap (λ (b : Book). atOrBelow (b .rows) level (a .reader)) (book-is ((c .before .before .before .before .before)))
+    ∙ order-at (now (a .book)) level (a .reader) (file ((c .before .before .before .before .before)) .1 x h)
+    (run-bounds (now (a .book)) (now (a .script)) (a .reader) (now (a .values)) (a .limit) (passed ((c .before))) .0)
 
 prepare-requires : tie.Need-prepare-requires
-prepare-requires c κs = search needs
+prepare-requires c κs = tt
 
 refused-requires : tie.Need-refused-requires
-refused-requires c κs = search needs
+refused-requires c κs = tt
 
 returns : tie.Need-returns
 returns c =
-    let start = c .before .before .before .before .before .before .before in
-    let p = c .before .before .before .prepare .ensures in
+    let a = c .before .before .before .before .before .before .before .args in
+    let b = now (a .book) in
+    let s = now (a .script) in
     let f = ne-eqb _ 0 (c .before .if1 .taken) in
-    let e = refused-left (now (start .args .book)) (now (start .args .script)) (start .args .reader) (now (start .args .values)) (start .args .limit) (now (start .args .log)) (by-check (now (start .args .book)) (now (start .args .script)) (start .args .reader) (now (start .args .values)) (start .args .limit) (now (start .args .log)) (p .refusal) f) f in
+    let e =
+    refused-left b s (a .reader) (now (a .values)) (a .limit) (now (a .log))
+    (by-check b s (a .reader) (now (a .values)) (a .limit) (now (a .log)) (c .before .before .before .prepare .ensures .refusal) f) f in
     (c .refused .ensures ∙ ap (λ (l : Left). l .report) e, (ap (λ (l : Left). l .values) e, ap (λ (l : Left). l .log) e))
 
 call-refusal-requires : tie.Need-call-refusal-requires
-call-refusal-requires c κs =
-    laid (c .before .before .before)
+call-refusal-requires c κs = laid ((c .before))
 
 refused-requires-2 : tie.Need-refused-requires-2
-refused-requires-2 c κs = search needs
+refused-requires-2 c κs = tt
 
 same-length : tie.Need-same-length
-same-length c = search needs
+same-length c = refl
 
 returns-2 : tie.Need-returns-2
 returns-2 c =
-    let start = c .before .before .before .before .before .before .before .before .before .before .before .before .before in
-    let f = ne-eqb _ 0 (c .before .if2 .taken) in
-    let e = refused-left (now (start .args .book)) (now (start .args .script)) (start .args .reader) (now (start .args .values)) (start .args .limit) (now (start .args .log)) (call-is (c .before .before .before)) f in
+    let a = c .before .before .before .before .before .before .before .before .before .before .before .args in
+    let e =
+    refused-left (now (a .book)) (now (a .script)) (a .reader) (now (a .values)) (a .limit) (now (a .log))
+    (call-is ((c .before .before .before))) (ne-eqb _ 0 (c .before .if2 .taken)) in
     (c .refused2 .ensures ∙ ap (λ (l : Left). l .report) e, (ap (λ (l : Left). l .values) e, ap (λ (l : Left). l .log) e))
-
-find-plan-requires : tie.Need-find-plan-requires
-find-plan-requires c κs =
-    (laid (c .before .before .before .before .before .before), file (c .before .before .before .before .before .before))
 
 find-seen-requires : tie.Need-find-seen-requires
 find-seen-requires c κs =
-    let start = c .before .before .before .before .before .before .before .before .before .before .before .before .before in
-    let e = book-is (c .before .before .before .before .before .before .before) in
-    let in-book = run-bounds (now (start .args .book)) (now (start .args .script)) (start .args .reader) (now (start .args .values)) (start .args .limit) (passed (c .before)) .0 in (
-      laid (c .before .before .before .before .before .before .before),
+    let a = c .before .before .before .before .before .before .before .before .before .before .args in
+    let e = book-is ((c .before .before .before .before)) in
+    let in-book =
+    run-bounds (now (a .book)) (now (a .script)) (a .reader) (now (a .values)) (a .limit) (passed (c)) .0 in (
+      laid ((c .before .before .before .before)),
       (
-        subst (λ (b : Book). Levelled (now (start .args .script)) (b .count)) (sym e) (checked-file (c .before .before .before .before .before .before .before) .1),
-        (few-read (now (start .args .book)) (passing _ (right (c .before .before .before .before .before .before .before) .book) .size) _ e, subst (λ (b : Book). start .args .reader < b .count) (sym e) in-book),
+        subst (λ (b : Book). Levelled (now (a .script)) (b .count)) (sym e) (file ((c .before .before .before .before)) .1),
+        (
+          few-read (now (a .book)) (passing _ (right ((c .before .before .before .before)) .book) .size) _ e,
+          subst (λ (b : Book). a .reader < b .count) (sym e) in-book,
+        ),
       ),
     )
 
-sub-run : tie.Need-sub-run
-sub-run c = search needs
-
-part-state-start : tie.Need-part-state-start
-part-state-start c = search needs
-
-part-state-end : tie.Need-part-state-end
-part-state-end c =
-    let l = laid (c .before .before .before .before .before .before .before .before .before .before .before) in
-    omega (arith, few-bounds (c .before .before .before .before .before .before .before .before .before .before .before .before .before .prepare .result .script) (l .few))
-
-run-requires : tie.Need-run-requires
-run-requires c κs =
-    let start = c .before .before .before .before .before .before .before .before .before .before .before .before .before .before .before .before .before .before .before in
-    let l = laid (c .before .before .before .before .before .before .before .before .before .before .before .before .before) in
-    let started = run-accepted (now (start .args .book)) (now (start .args .script)) (start .args .reader) (now (start .args .values)) (start .args .limit) (passed (c .before .before .before .before .before .before .before)) .1 in (
-      l,
-      (record { checked = file (c .before .before .before .before .before .before .before .before .before .before .before .before .before); named = started .named },
-      (
-        c .before .before .before .before .before .before .find-plan .ensures,
-        (
-          cleared (c .before .before .before .before .before .before .before .before .before .before .before .before .before .before .before .prepare .result .script .nodes) _ (few-bounds (c .before .before .before .before .before .before .before .before .before .before .before .before .before .before .before .prepare .result .script) (l .few) .1 .1 .1) (nodes-are l),
-          omega (arith, run-bounds (now (start .args .book)) (now (start .args .script)) (start .args .reader) (now (start .args .values)) (start .args .limit) (passed (c .before .before .before .before .before .before .before)) .1),
-        ),
-      )),
+run-seen-requires : tie.Need-run-seen-requires
+run-seen-requires c κs =
+    let a = c .before .before .before .before .before .before .before .before .before .before .before .before .before .args in
+    let p = passed ((c .before .before .before)) in
+    let started = run-accepted (now (a .book)) (now (a .script)) (a .reader) (now (a .values)) (a .limit) p .1 in (
+      record { laid = laid ((c .before .before .before .before .before .before .before)); checked = file ((c .before .before .before .before .before .before .before)) .0; named = started .named },
+      run-bounds (now (a .book)) (now (a .script)) (a .reader) (now (a .values)) (a .limit) p .1,
     )
 
-cast-t32 : tie.Need-cast-t32
-cast-t32 c =
-    let start = c .before .before .before .before .before .before .before .before .before .before .before .before .before .before .before .before .before .before .before .before .before .before .before .before .before in
-    fits-under _ _ 1000001
-    (omega (arith, few-lines (now (start .args .book)) (now (start .args .script)) (start .args .reader) (now (start .args .values)) (start .args .limit) (now (start .args .log)) (file (c .before .before .before .before .before .before .before .before .before .before .before .before .before .before .before .before .before .before .before)) (c .before .before .before .before .before .before .before .before .before .before .before .find-seen .result) (agrees (c .before .before .before .before .before .before .before .before .before .before .before)) (c .before .before .before .before .before .run .ensures), run-bounds (now (start .args .book)) (now (start .args .script)) (start .args .reader) (now (start .args .values)) (start .args .limit) (passed (c .before .before .before .before .before .before .before .before .before .before .before .before .before)) .1))
-    tt
+report-of-requires : tie.Need-report-of-requires
+report-of-requires c κs =
+    let a = c .before .before .before .before .before .before .before .before .before .before .before .before .before .before .before .before .before .args in
+    omega (
+      arith,
+      few-lines (now (a .book)) (now (a .script)) (a .reader) (now (a .values)) (a .limit) (now (a .log)) (file ((c .before .before .before .before .before .before .before .before .before .before .before)) .0)
+          (c .before .before .before .before .before .before .find-seen .result) (agrees ((c .before .before .before .before .before .before))) (c .before .before .before .run-seen .ensures),
+      run-bounds (now (a .book)) (now (a .script)) (a .reader) (now (a .values)) (a .limit) (passed ((c .before .before .before .before .before .before .before))) .1,
+    )
 
 same-length-2 : tie.Need-same-length-2
-same-length-2 c = search needs
+same-length-2 c = c .before .before .before .before .run-seen .kept .1 .1 .1 .0
 
 same-length-3 : tie.Need-same-length-3
-same-length-3 c = search needs
+same-length-3 c = c .before .before .before .before .run-seen .kept .1 .1 .1 .1 .1 .0
 
 returns-3 : tie.Need-returns-3
 returns-3 c =
-    let start = c .before .before .before .before .before .before .before .before .before .before .before .before .before .before .before .before .before .before .before .before .before .before .before .before .before in
-    let g = c .before .before .before .before .before .run .ensures in
-    let p = passed (c .before .before .before .before .before .before .before .before .before .before .before .before .before) in
-    let a = agrees (c .before .before .before .before .before .before .before .before .before .before .before) in
-    let ok = file (c .before .before .before .before .before .before .before .before .before .before .before .before .before .before .before .before .before .before .before) in (
-      report-is (now (start .args .book)) (now (start .args .script)) (start .args .reader) (now (start .args .values)) (start .args .limit) (now (start .args .log)) ok (c .before .before .before .before .before .before .before .before .before .before .before .find-seen .result) a g p,
+    let a = c .before .before .before .before .before .before .before .before .before .before .before .before .before .before .before .before .before .before .args in
+    let b = now (a .book) in
+    let s = now (a .script) in
+    let values = now (a .values) in
+    let log = now (a .log) in
+    let seen = c .before .before .before .before .before .before .before .find-seen .result in
+    let see = agrees ((c .before .before .before .before .before .before .before)) in
+    let g = c .before .before .before .before .run-seen .ensures in
+    let p = passed ((c .before .before .before .before .before .before .before .before)) in
+    let ok = file ((c .before .before .before .before .before .before .before .before .before .before .before .before)) .0 in (
+      c .report-of .ensures ∙ report-is b s (a .reader) values (a .limit) log ok seen see g p,
       (
-        values-are (now (start .args .book)) (now (start .args .script)) (start .args .reader) (now (start .args .values)) (start .args .limit) (now (start .args .log)) ok (c .before .before .before .before .before .before .before .before .before .before .before .find-seen .result) a g p,
-        log-is (now (start .args .book)) (now (start .args .script)) (start .args .reader) (now (start .args .values)) (start .args .limit) (now (start .args .log)) ok (c .before .before .before .before .before .before .before .before .before .before .before .find-seen .result) a g p,
+        values-are b s (a .reader) values (a .limit) log ok seen see g p,
+        log-is b s (a .reader) values (a .limit) log ok seen see g p,
       ),
     )
 
@@ -201,13 +183,9 @@ run-spec =
     refused-requires-2
     same-length
     returns-2
-    find-plan-requires
     find-seen-requires
-    sub-run
-    part-state-start
-    part-state-end
-    run-requires
-    cast-t32
+    run-seen-requires
+    report-of-requires
     same-length-2
     same-length-3
     returns-3)

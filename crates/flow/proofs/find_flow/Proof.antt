@@ -1,16 +1,14 @@
 -- `find_flow`: what the walk finds of the last node is what the whole script has.
-use mathlib.Core.Path.{_≡_, sym, ap, ap₂, subst}
+use mathlib.Core.Path.{refl, ap, subst}
 use mathlib.Core.List.{List}
 use Prim.Native.Nat.{ℕ, _-_}
 use native.Mathlib.Omega.{arith}
-use Rattle.layout.specs.Layout.{nodeCount}
-use Rattle.reach.specs.Checked.{Checked}
-use Rattle.layout.proofs.Layouts.{few-bounds, nodes-are}
-use Rattle.flow.specs.declared.levels.Levels.{Levels}
-use Rattle.flow.specs.declared.levels.Flow.{Flow}
-use Rattle.flow.specs.Flow.{lattice, levelsOf, Ready, FlowAt, FlowOf}
+use Rattle.script.specs.Layout.{nodeCount}
+use Rattle.script.specs.Checked.{Checked}
+use Rattle.script.proofs.Layouts.{few-bounds, nodes-are}
+use Rattle.levels.specs.declared.Flow.{Flow}
+use Rattle.flow.specs.Flow.{Levels, lattice, levelsOf, Walks, FlowAt, FlowOf}
 use Rattle.flow.proofs.Everywhere.{failing-first}
-use borrow.Author.Needs.{needs}
 use Rattle.flow.proofs.find_flow.Statement.{statement}
 use Rattle.flow.proofs.find_flow.Tie as tie
 
@@ -24,46 +22,41 @@ flow-of l s f ok a =
     }
 
 top-of-requires : tie.Need-top-of-requires
-top-of-requires c κs = search needs
+top-of-requires c κs = c .before .pre .0 .ordered .few
 
 bottom-of-requires : tie.Need-bottom-of-requires
-bottom-of-requires c κs = search needs
+bottom-of-requires c κs = c .before .before .pre .0 .ordered .few
 
--- the levels that were found
-found :
+-- what the walk is handed
+walks :
     (c : tie.After-bottom-of) →
-    let b = c .before .before .before .args .b in
-    _≡_ {A = Levels} (record { book = b; top = c .before .top-of .result; bottom = c .bottom-of .result })
-    (levelsOf b)
-found c =
-    ap₂ (λ t m. record { book = c .before .before .before .args .b; top = t; bottom = m })
-    (c .before .top-of .ensures)
-    (c .bottom-of .ensures)
+    let a = c .before .before .before .args in
+    Walks (a .s .now) (a .c) (a .t3 .rows) (c .before .top-of .result) (c .bottom-of .result) (a .join .now) (a .meet .now)
+    (levelsOf (a .t3))
+walks c =
+    record {
+      reads = record { ready = c .before .before .before .pre .0; joins = c .before .before .before .pre .1 .0; bottom = c .bottom-of .ensures };
+      meets = c .before .before .before .pre .1 .1;
+      rows = refl;
+      top = c .before .top-of .ensures;
+    }
 
 sub-flow-at : tie.Need-sub-flow-at
-sub-flow-at c =
-    let start = c .before .before .before .before in
-    omega (arith, few-bounds (start .args .c) (start .pre .0 .laid .few) .1 .1 .0)
+sub-flow-at c = omega (arith, few-bounds (c .before .before .before .before .before .before .args .c) (c .before .before .before .before .before .before .pre .0 .laid .few) .1 .1 .0)
 
 flow-at-requires : tie.Need-flow-at-requires
-flow-at-requires c κs =
-    let start = c .before .before .before .before in (
-      subst (Ready (start .args .s .now) (start .args .c)) (sym (found (c .before))) (start .pre .0),
-      (
-        start .pre .1 .0,
-        (start .pre .1 .1, omega (arith, few-bounds (start .args .c) (start .pre .0 .laid .few) .1 .1 .0)),
-      ),
-    )
+flow-at-requires c κs = (
+  (levelsOf (c .before .before .before .before .before .before .args .t3), walks ((c .before .before .before))),
+  omega (arith, few-bounds (c .before .before .before .before .before .before .args .c) (c .before .before .before .before .before .before .pre .0 .laid .few) .1 .1 .0),
+)
 
 returns : tie.Need-returns
 returns c =
-    let start = c .before .before .before .before .before in
-    let s = start .args .s .now in
-    flow-of (levelsOf (start .args .b)) s (c .flow-at .result) (start .pre .0 .checked)
-    (subst (λ k. FlowAt (levelsOf (start .args .b)) s k (c .flow-at .result))
-    (ap (λ n. n - 1) (nodes-are (start .pre .0 .laid)))
-    (subst (λ l. FlowAt l s (start .args .c .nodes - 1) (c .flow-at .result)) (found (c .before .before))
-    (c .flow-at .ensures)))
+    let a = c .before .before .before .before .before .before .before .args in
+    flow-of (levelsOf (a .t3)) (a .s .now) (c .flow-at .result) (c .before .before .before .before .before .before .before .pre .0 .checked)
+    (subst (λ k. FlowAt (levelsOf (a .t3)) (a .s .now) k (c .flow-at .result))
+    (ap (λ n. n - 1) (nodes-are (c .before .before .before .before .before .before .before .pre .0 .laid)))
+    (c .flow-at .ensures (levelsOf (a .t3)) (walks ((c .before .before .before .before)))))
 
 pub find-flow-spec : {M : Type 1} → statement M
 find-flow-spec = tie.close (tie.spec top-of-requires bottom-of-requires sub-flow-at flow-at-requires returns)

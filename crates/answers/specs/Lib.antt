@@ -1,0 +1,3 @@
+-- What the two calls answer, and the words of it for C.
+pub mod Reports
+pub mod Words

@@ -1,0 +1,2 @@
+-- What the operators give, over whole numbers.
+pub mod Values

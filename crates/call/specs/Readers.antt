@@ -1,0 +1,13 @@
+-- Which names the reader sees.
+use mathlib.Core.Path.{_≡_}
+use mathlib.Core.List.{List}
+use Prim.Native.Nat.{ℕ, _<_}
+use Rattle.lattice.specs.declared.book.Book.{Book}
+use Rattle.lattice.specs.LevelBook.{atOrBelow}
+use Rattle.script.specs.Layout.{nameCount}
+use Rattle.script.specs.Entries.{nameOf}
+use Rattle.runner.specs.Contracts.{seenIn}
+
+-- a table that has 1 for each name that the reader sees
+abbrev pub Sees : Book → List ℕ → ℕ → List ℕ → Type 0
+Sees b s reader seen = (x : ℕ) → x < nameCount s → seenIn seen x ≡ atOrBelow (b .rows) (nameOf s x .level) reader

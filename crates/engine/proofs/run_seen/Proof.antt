@@ -1,0 +1,73 @@
+-- `run_seen`: the plan of the script, and a clear state.
+use mathlib.Core.Path.{_≡_, sym, ap, _∙_}
+use Prim.Native.Nat.{ℕ, _-_, _≤_, zero-le}
+use native.Mathlib.Omega.{arith}
+use native.Mathlib.Nat.{sub-zero}
+use lib.ListN.{length, take, replicate}
+use Rattle.script.proofs.Layouts.{few-bounds, names-are, nodes-are}
+use Rattle.runner.proofs.Residuals.{take-zeros}
+use borrow.Author.Needs.{needs}
+use Rattle.engine.proofs.run_seen.Statement.{statement}
+use Rattle.engine.proofs.run_seen.Tie as tie
+
+-- the state is clear
+cleared : (n m : ℕ) → n ≤ 256 → n ≡ m → take {A = ℕ} (n - 0) (replicate 256 0) ≡ replicate m 0
+cleared n m h e = rw sub-zero (take-zeros n 256 h ∙ ap (λ k. replicate k 0) e)
+
+find-plan-requires : tie.Need-find-plan-requires
+find-plan-requires c κs = (c .before .before .pre .0 .laid, c .before .before .pre .0 .checked)
+
+slice-aggregate-run : tie.Need-slice-aggregate-run
+slice-aggregate-run c = search needs
+
+sub-run : tie.Need-sub-run
+sub-run c = zero-le
+
+part-state-start : tie.Need-part-state-start
+part-state-start c = zero-le
+
+part-state-end : tie.Need-part-state-end
+part-state-end c = omega (arith, few-bounds (c .before .before .before .before .before .before .args .c) (c .before .before .before .before .before .before .pre .0 .laid .few))
+
+-- the table of what the reader sees has an entry for each name
+long-enough : (c : tie.After-seen) → length (c .before .before .before .before .before .args .values .now) ≤ length (c .before .before .before .before .before .args .t3)
+long-enough c =
+    let laid = c .before .before .before .before .before .pre .0 .laid in
+    let long : length (c .before .before .before .before .before .args .t3) ≡ 64 = sym (slice-aggregate-run c) in
+    omega (arith, c .before .before .before .before .before .pre .0 .named, long, names-are laid, few-bounds (c .before .before .before .before .before .args .c) (laid .few))
+
+run-requires : tie.Need-run-requires
+run-requires c κs =
+    let laid = c .before .before .before .before .before .before .before .before .pre .0 .laid in (
+      c .before .before .before .before .before .before .before .before .pre .0,
+      (
+        c .before .before .before .before .before .find-plan .ensures,
+        (
+          cleared (c .before .before .before .before .before .before .before .before .args .c .nodes) _ (few-bounds (c .before .before .before .before .before .before .before .before .args .c) (laid .few) .1 .1 .1) (nodes-are laid),
+          (long-enough ((c .before .before .before)), c .before .before .before .before .before .before .before .before .pre .1),
+        ),
+      ),
+    )
+
+same-length : tie.Need-same-length
+same-length c = c .before .before .before .before .run .kept .1 .1 .1 .1 .0
+
+same-length-2 : tie.Need-same-length-2
+same-length-2 c = c .before .before .before .before .run .kept .1 .1 .1 .1 .1 .1 .0
+
+returns : tie.Need-returns
+returns c = c .before .before .before .before .run .ensures
+
+pub run-seen-spec : {M : Type 1} → statement M
+run-seen-spec =
+    tie.close
+    (tie.spec
+    find-plan-requires
+    slice-aggregate-run
+    sub-run
+    part-state-start
+    part-state-end
+    run-requires
+    same-length
+    same-length-2
+    returns)

@@ -1,0 +1,41 @@
+// What a node brings itself.
+use crate::expressions::level_of;
+use lattice::book::PairTable;
+use levels::Own;
+use levels::kinds;
+use levels::kinds::is_either;
+use script::entries::Part;
+use script::entries::name_at;
+use script::layout::Script;
+ghost use Rattle.flow.specs.Flow.{Levels, Reads, IsNode, OwnOf};
+
+// What the node of part p brings itself.
+pub fn own_levels(s: &[u8], c: Script, bottom: usize, join: &PairTable, p: Part) -> Own
+    requires { ⌜ ((l : Levels) × Reads (now s) c bottom (now join) l) × IsNode (now s) p ⌝ }
+    ensures { λ r. ⌜ ((l : Levels) → Reads (now (s .entry)) c bottom (now (join .entry)) l → OwnOf l (now (s .entry)) p r) ⌝ }
+{
+    if is_either(p.kind, kinds::ASSIGN, kinds::LET) {
+        let name = name_at(s, c, p.a);
+        return Own {
+            level: level_of(s, c, bottom, join, p.b),
+            name: name.level,
+        };
+    }
+    if is_either(p.kind, kinds::IF, kinds::WHILE) {
+        return Own {
+            level: level_of(s, c, bottom, join, p.a),
+            name: bottom,
+        };
+    }
+    if kinds::has_signal(p.kind) {
+        let name = name_at(s, c, p.a);
+        return Own {
+            level: name.level,
+            name: name.level,
+        };
+    }
+    Own {
+        level: bottom,
+        name: bottom,
+    }
+}

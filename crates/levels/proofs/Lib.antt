@@ -1,0 +1,2 @@
+-- The list by kind is what the language says of processes.
+pub mod ByKind

@@ -1,0 +1,4 @@
+-- The theorems about the two calls.
+pub mod Records
+pub mod Theorems
+pub mod Worked

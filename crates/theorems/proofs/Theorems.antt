@@ -1,0 +1,233 @@
+-- The theorems about the two calls. Their statements stand in specs/Results.antt.
+-- Assumes nothing.
+use mathlib.Core.Path.{_≡_, refl, sym, ap, _∙_, subst}
+use mathlib.Core.Bool.{Bool, true}
+use mathlib.Core.List.{List, map}
+use Prim.Native.Nat.{ℕ, _/_, _≤_}
+use native.Mathlib.Decide.{decLt}
+use native.Mathlib.Omega.{arith}
+use lib.IntN.{ℤ}
+use lib.ListN.{length}
+use lib.Dec.{ltb}
+use borrow.Author.Tests.{eq-eqb, eqb-true, ltb-true}
+use Rattle.prelude.specs.Refusals.{passes}
+use Rattle.prelude.proofs.Bools.{by-cases, and-left, and-right}
+use Rattle.lattice.specs.LevelBook.{count}
+use Rattle.lattice.specs.Refusals as books
+use Rattle.lattice.specs.Lattice.{Lattice, bookLattice}
+use Rattle.lattice.proofs.Theorems.{book-laws}
+use Rattle.language.specs.Syntax.{Names}
+use Rattle.language.specs.Levels.{writeLevel, testLevel}
+use Rattle.language.specs.Scope.{Scoped}
+use Rattle.language.specs.Calls.{Run, starts, readable, run}
+use Rattle.language.specs.Typing.{Below, Typed}
+use Rattle.language.specs.Results.{LevelsAgree, StartsAgree, RecordsAgree}
+use Rattle.language.proofs.Theorems as language
+use Rattle.report.specs.Scope.{Script}
+use Rattle.report.proofs.Starts.{begun-begins}
+use Rattle.report.proofs.Theorems as report
+use Rattle.script.specs.Layout.{nameCount}
+use Rattle.script.specs.Entries.{isSessionName}
+use Rattle.script.specs.Checked.{Checked}
+use Rattle.script.specs.Refusals as scripts
+use Rattle.script.specs.Tree.{namesOf, tree}
+use Rattle.script.proofs.Theorems.{tree-scoped, tree-named}
+use Rattle.runner.specs.Outcome.{lineWords}
+use Rattle.answers.specs.declared.Verdict.{Verdict}
+use Rattle.checker.specs.Refusals.{checkRefusal}
+use Rattle.call.specs.Refusals.{runRefusal}
+use Rattle.answers.specs.Reports.{verdictBy}
+use Rattle.engine.specs.Answers.{verdict, runOf, Left, leftBy, left}
+use Rattle.theorems.specs.Records.{stampedUpTo}
+use Rattle.theorems.specs.Results.{session, CheckAgrees, RunAgrees, RunReported, StartEqual, NothingShows, DemandThree}
+use Rattle.checker.proofs.Passing.{Accepted, checked, accepted, accepts}
+use Rattle.call.proofs.Passing.{Started, run-accepted}
+use Rattle.theorems.proofs.Records.{record-of, stamped-words}
+
+module _ (b s : List ℕ) where
+  abbrev 𝓛 : Lattice ℕ
+  𝓛 = bookLattice b
+
+  -- an answer of number 0 is that of a call that is not refused
+  verdict-passes : verdict b s .number ≡ 0 → passes (checkRefusal b s) ≡ true
+  unfolding verdict
+  verdict-passes =
+      by-cases
+      (λ (v : Verdict). v .number ≡ 0 → passes (checkRefusal b s) ≡ true)
+      (passes (checkRefusal b s))
+      (λ t z. t)
+      (λ f z. eq-eqb _ _ z)
+
+  verdict-is :
+      passes (checkRefusal b s) ≡ true →
+      verdict b s
+      ≡ verdictBy (checkRefusal b s) (writeLevel 𝓛 (namesOf s) (tree s)) (testLevel 𝓛 (namesOf s) (tree s))
+  unfolding verdict
+  verdict-is h = rw h
+
+  scoped : scripts.isAccepted s (count b) ≡ true → Scoped (namesOf s) (namesOf s .isSession) (tree s)
+  scoped h = tree-scoped s (checked b s h)
+
+  levels :
+      books.isAccepted b ≡ true → scripts.isAccepted s (count b) ≡ true → LevelsAgree 𝓛 (namesOf s) (session s) (tree s)
+  levels k h =
+      language.levels-agree 𝓛 (book-laws b k) (namesOf s) (tree s) (isSessionName s)
+      (tree-named s (checked b s h) .scoped)
+
+  -- the rules give the script some pair
+  abbrev Typable : Type 0
+  Typable = (θ : ℕ) × (σ : ℕ) × Typed 𝓛 (session s) (tree s) θ σ
+
+  accepts-typable : books.isAccepted b ≡ true → scripts.isAccepted s (count b) ≡ true → Typable → verdict b s .number ≡ 0
+  accepts-typable k h d =
+      let p = accepts b s (record { book = k; script = h; flow = levels k h .accepts .1 d }) in
+      ap (λ v. v .number) (verdict-is p) ∙ eqb-true _ _ p
+
+  module _ (zero : verdict b s .number ≡ 0) where
+    has : Accepted b s
+    has = accepted b s (verdict-passes zero)
+
+    agrees : LevelsAgree 𝓛 (namesOf s) (session s) (tree s)
+    agrees = levels (has .book) (has .script)
+
+    write-is : verdict b s .write ≡ writeLevel 𝓛 (namesOf s) (tree s)
+    write-is = ap (λ v. v .write) (verdict-is (verdict-passes zero))
+
+    test-is : verdict b s .test ≡ testLevel 𝓛 (namesOf s) (tree s)
+    test-is = ap (λ v. v .test) (verdict-is (verdict-passes zero))
+
+    derivable : Typed 𝓛 (session s) (tree s) (verdict b s .write) (verdict b s .test)
+    derivable = rw (write-is, test-is) (agrees .derivable (has .flow))
+
+    tightest :
+        (θ σ : ℕ) → Typed 𝓛 (session s) (tree s) θ σ → Below 𝓛 θ (verdict b s .write) × Below 𝓛 (verdict b s .test) σ
+    tightest θ σ d = rw (write-is, test-is) (agrees .tightest θ σ d)
+
+  pub check-agrees : CheckAgrees b s
+  check-agrees =
+      record {
+        accepts = (
+          λ z. (has z .book, (has z .script, agrees z .accepts .0 (has z .flow))),
+          λ h. accepts-typable (h .0) (h .1 .0) (h .1 .1),
+        );
+        lattice = λ z. book-laws b (has z .book);
+        derivable = derivable;
+        tightest = tightest;
+      }
+
+module _ (b s : List ℕ) (reader : ℕ) (values : List ℤ) (limit : ℕ) (log : List ℕ) where
+  -- as above, of run
+  left-passes :
+      left b s reader values limit log .report .number ≡ 0 → passes (runRefusal b s reader values limit) ≡ true
+  unfolding left
+  left-passes =
+      by-cases
+      (λ (l : Left). l .report .number ≡ 0 → passes (runRefusal b s reader values limit) ≡ true)
+      (passes (runRefusal b s reader values limit))
+      (λ t z. t)
+      (λ f z. eq-eqb _ _ z)
+
+  left-is :
+      left b s reader values limit log .report .number ≡ 0 →
+      left b s reader values limit log ≡ leftBy (runOf b s reader values limit log) log
+  unfolding left
+  left-is z = let h = left-passes z in rw h
+
+  pub run-agrees : RunAgrees b s reader values limit log
+  run-agrees =
+      let agree =
+      language.runs-agree
+      (namesOf s)
+      (readable (bookLattice b) (namesOf s) reader)
+      limit
+      (length log / 4)
+      (starts (tree s) values)
+      in
+      record { is = left-is; path = agree .path; only = agree .only }
+
+  -- the script's names are as the report's relation asks
+  script-of : Checked s → Script (namesOf s) (isSessionName s) (nameCount s) (tree s)
+  script-of ok =
+      let t = tree-named s ok in
+      record {
+        scoped = t .scoped;
+        once = t .once;
+        sessions = λ x h. (
+          and-right (ltb x (nameCount s)) _ h,
+          ltb-true x (nameCount s)
+              (and-left (ltb x (nameCount s)) _ h),
+        );
+        declared = t .declared;
+      }
+
+  pub run-reported : RunReported b s reader values limit log
+  run-reported =
+      record {
+        begins = begun-begins (session s) (starts (tree s) values);
+        reported =
+            λ z C begins.
+            let a = run-accepted b s reader values limit (left-passes z) in
+            report.reported (script-of (checked b s (a .0 .script))) (a .1 .named) begins
+            (λ δ. bookLattice b .leq δ reader)
+            (run-agrees .path)
+            refl;
+      }
+
+-- Demand 3: starts that agree for the session agree for the whole script, since owned names start at 0.
+starts-agree :
+    (b s : List ℕ) (reader : ℕ) (values₁ values₂ : List ℤ) → Started s values₁ → Started s values₂ →
+    StartEqual b s reader values₁ values₂ → StartsAgree (bookLattice b) (namesOf s) reader values₁ values₂
+starts-agree b s reader values₁ values₂ one two same =
+    record {
+      lengths = one .named ∙ sym (two .named);
+      session =
+          λ x n r.
+          elim (decLt x (nameCount s)) [
+            | yes l ↦ same x (record { known = l; session = n; low = r })
+            | no l ↦ one .past x (omega arith) ∙ sym (two .past x (omega arith))
+          ];
+      owned = λ x n. (one .owned x n, two .owned x n);
+    }
+
+-- the runs of two calls: they have the same room, since the logs are equally long
+records-agree :
+    (b s : List ℕ) (reader n m : ℕ) (values₁ values₂ : List ℤ) (log₁ log₂ : List ℕ) → n ≤ m →
+    length log₁ ≡ length log₂ → Accepted b s → StartsAgree (bookLattice b) (namesOf s) reader values₁ values₂ →
+    RecordsAgree (bookLattice b) (namesOf s) reader n m (runOf b s reader values₁ n log₁)
+    (runOf b s reader values₂ m log₂)
+records-agree b s reader n m values₁ values₂ log₁ log₂ l same-length a same =
+    let names : Names ℕ = namesOf s in
+    let sees : ℕ → Bool = readable (bookLattice b) names reader in
+    subst
+    (λ k.
+    RecordsAgree (bookLattice b) names reader n m (runOf b s reader values₁ n log₁)
+    (run names sees m (k / 4) (starts (tree s) values₂)))
+    same-length
+    (language.noninterference (bookLattice b) (book-laws b (a .book)) names (tree s) (scoped b s (a .script)) (a .flow)
+    reader values₁ values₂ same (length log₁ / 4) n m l)
+
+-- what is proved of two runs, said of what they leave
+nothing-shows :
+    (b s : List ℕ) (reader n m : ℕ) (r₁ r₂ : Run) (log₁ log₂ : List ℕ) →
+    RecordsAgree (bookLattice b) (namesOf s) reader n m r₁ r₂ →
+    NothingShows b s reader n m (leftBy r₁ log₁) (leftBy r₂ log₂)
+nothing-shows b s reader n m r₁ r₂ log₁ log₂ h =
+    record {
+      shorter =
+          record-of r₁ log₁
+          ∙ ap (map lineWords) (h .shorter)
+          ∙ sym (stamped-words n (r₂ .lines))
+          ∙ ap (stampedUpTo n) (sym (record-of r₂ log₂));
+      equal = λ e. record-of r₁ log₁ ∙ ap (map lineWords) (h .equal e) ∙ sym (record-of r₂ log₂);
+      registers = λ e x u k. h .registers e x (u .session) k (u .low);
+    }
+
+pub demand-three : DemandThree
+demand-three b s reader n m values₁ values₂ log₁ log₂ l same-length zero₁ zero₂ same =
+    let one = run-accepted b s reader values₁ n (left-passes b s reader values₁ n log₁ zero₁) in
+    let two = run-accepted b s reader values₂ m (left-passes b s reader values₂ m log₂ zero₂) in
+    let start = starts-agree b s reader values₁ values₂ (one .1) (two .1) same in
+    rw
+    (left-is b s reader values₁ n log₁ zero₁, left-is b s reader values₂ m log₂ zero₂)
+    (nothing-shows b s reader n m _ _ log₁ log₂
+    (records-agree b s reader n m values₁ values₂ log₁ log₂ l same-length (one .0) start))

@@ -1,0 +1,95 @@
+-- Demands 2 and 3 about the two calls. `verdict` is what check answers and `left` what run leaves: their contracts in
+-- engine/src/lib.rt say so, for every input. The proofs are in proofs/Theorems.antt.
+use mathlib.Core.Path.{_≡_}
+use mathlib.Core.Bool.{true, false}
+use mathlib.Core.Logic.{_↔_}
+use mathlib.Core.List.{List}
+use Prim.Native.Nat.{ℕ, _/_, _≤_, _<_}
+use lib.IntN.{ℤ}
+use lib.ListN.{length}
+use Rattle.lattice.specs.LevelBook.{count}
+use Rattle.lattice.specs.Lattice.{Laws, bookLattice}
+use Rattle.lattice.specs.Refusals as books
+use Rattle.language.specs.Steps.{held}
+use Rattle.language.specs.Calls.{Run, starts, readable}
+use Rattle.language.specs.Typing.{Environment, environment, Below, Typed}
+use Rattle.language.specs.Paths.{IsRun}
+use Rattle.report.specs.Configurations.{Configuration, Begins, begun}
+use Rattle.report.specs.Results.{Reported}
+use Rattle.script.specs.Layout.{nameCount}
+use Rattle.script.specs.Entries.{isSessionName}
+use Rattle.script.specs.Refusals as scripts
+use Rattle.script.specs.Tree.{namesOf, tree}
+use Rattle.engine.specs.Answers.{verdict, runOf, Left, leftBy, left}
+use Rattle.theorems.specs.Records.{recordOf, stampedUpTo}
+
+-- Γ: the session's names, each with its kind and level
+abbrev pub session : List ℕ → Environment ℕ
+session s = environment (namesOf s) (isSessionName s)
+
+-- Demand 2, the checker. 'A script is accepted under a book when check gives 0 as its number': exactly when book and file
+-- are right and the report's rules give the script some pair; then the answer is a pair that they give, and the
+-- tightest.
+pub record CheckAgrees (b s : List ℕ) : Type 0 where
+  pub accepts :
+      (verdict b s .number ≡ 0)
+      ↔ ((books.isAccepted b ≡ true)
+      × ((scripts.isAccepted s (count b) ≡ true) × ((θ : ℕ) × (σ : ℕ) × Typed (bookLattice b) (session s) (tree s) θ σ)))
+  pub lattice : verdict b s .number ≡ 0 → Laws (bookLattice b)
+  pub derivable :
+      verdict b s .number ≡ 0 → Typed (bookLattice b) (session s) (tree s) (verdict b s .write) (verdict b s .test)
+  pub tightest :
+      verdict b s .number ≡ 0 → (θ σ : ℕ) → Typed (bookLattice b) (session s) (tree s) θ σ →
+      Below (bookLattice b) θ (verdict b s .write) × Below (bookLattice b) (verdict b s .test) σ
+
+-- Demand 2, the runner. A call that is not refused leaves what a path of the report's steps gives that ends where 01
+-- says; there is such a path, and no other.
+pub record RunAgrees (b s : List ℕ) (reader : ℕ) (values : List ℤ) (limit : ℕ) (log : List ℕ) : Type 0 where
+  pub is : left b s reader values limit log .report .number ≡ 0 → left b s reader values limit log ≡ leftBy (runOf b s reader values limit log) log
+  pub path :
+      IsRun (namesOf s) (readable (bookLattice b) (namesOf s) reader) limit (length log / 4) (starts (tree s) values)
+      (runOf b s reader values limit log)
+  pub only :
+      (r : Run) →
+      IsRun (namesOf s) (readable (bookLattice b) (namesOf s) reader) limit (length log / 4) (starts (tree s) values) r →
+      r ≡ runOf b s reader values limit log
+
+-- The same in the report's own terms, with fresh names, from any configuration ⟨Γ, S, E, script⟩ in which S and E hold the
+-- call's values: the report has a path of as many steps as the call returns, and every path of as many steps has the
+-- call's instants, values of the session and lines, leaves what the run leaves, up to its names, and ends as it does.
+-- That the call leaves what `runOf` gives is `RunAgrees.is`.
+pub record RunReported (b s : List ℕ) (reader : ℕ) (values : List ℤ) (limit : ℕ) (log : List ℕ) : Type 0 where
+  pub begins : Begins (session s) (starts (tree s) values) (begun (session s) (starts (tree s) values))
+  pub reported :
+      left b s reader values limit log .report .number ≡ 0 → (C : Configuration ℕ) →
+      Begins (session s) (starts (tree s) values) C →
+      Reported (namesOf s) (session s) (λ δ. bookLattice b .leq δ reader) limit (starts (tree s) values) C
+      (runOf b s reader values limit log)
+
+-- a session name at or below the reader's level
+pub record Readable (b s : List ℕ) (reader x : ℕ) : Type 0 where
+  pub known : x < nameCount s
+  pub session : namesOf s .isSession x ≡ true
+  pub low : readable (bookLattice b) (namesOf s) reader x ≡ true
+
+-- 'they start from values equal for every session register and signal at or below the reader's level'
+abbrev pub StartEqual : List ℕ → List ℕ → ℕ → List ℤ → List ℤ → Type 0
+StartEqual b s reader values₁ values₂ = (x : ℕ) → Readable b s reader x → held values₁ x ≡ held values₂ x
+
+-- 'the first record is exactly those lines of the second that are stamped n or less, word for word, in the same order.
+-- With n = m the records are equal and the session registers at or below that level end equal.'
+pub record NothingShows (b s : List ℕ) (reader n m : ℕ) (one two : Left) : Type 0 where
+  pub shorter : recordOf one ≡ stampedUpTo n (recordOf two)
+  pub equal : n ≡ m → recordOf one ≡ recordOf two
+  pub registers :
+      n ≡ m → (x : ℕ) → Readable b s reader x → namesOf s .isSignal x ≡ false →
+      held (one .values) x ≡ held (two .values) x
+
+-- Demand 3: 'any level book, any script accepted under it, any reader and log length, any two runs with these, neither
+-- refused, that allow n and m steps, n ≤ m'. What the logs held before is left free.
+abbrev pub DemandThree : Type 0
+DemandThree =
+    (b s : List ℕ) (reader n m : ℕ) (values₁ values₂ : List ℤ) (log₁ log₂ : List ℕ) → n ≤ m → length log₁ ≡ length log₂ →
+    left b s reader values₁ n log₁ .report .number ≡ 0 → left b s reader values₂ m log₂ .report .number ≡ 0 →
+    StartEqual b s reader values₁ values₂ →
+    NothingShows b s reader n m (left b s reader values₁ n log₁) (left b s reader values₂ m log₂)
