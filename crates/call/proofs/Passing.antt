@@ -13,12 +13,12 @@ use borrow.Author.Tests.{eqb-true, ltb-true, ltb-false, not-false}
 use Rattle.prelude.specs.Refusals.{refusedBy, notRefused, passes}
 use Rattle.prelude.proofs.Bools.{and-right, or-second}
 use Rattle.prelude.proofs.Searches.{first-within, first-at-end}
-use Rattle.lattice.specs.LevelBook.{count}
+use Rattle.book.specs.LevelBook.{count}
 use Rattle.arithmetic.specs.Values.{sameValue}
 use Rattle.arithmetic.proofs.Signed.{same-is}
 use Rattle.language.specs.Steps.{held}
-use Rattle.script.specs.Layout.{nameCount}
-use Rattle.script.specs.Tree.{namesOf}
+use Rattle.layout.specs.Layout.{nameCount}
+use Rattle.tree.specs.Tree.{namesOf}
 use Rattle.runner.specs.Contracts.{mostSteps}
 use Rattle.checker.specs.Refusals.{checkRefusal}
 use Rattle.checker.proofs.Rows.{found-passes, passes-test, passes-both}

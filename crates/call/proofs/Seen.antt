@@ -14,11 +14,11 @@ use Rattle.language.specs.Syntax.{Names, Proc, nil, assign, letIn, ifThenElse, 
 use Rattle.language.specs.Steps.{Output, silent, assigned, emitted, Outcome, suspended, move, step}
 use Rattle.language.specs.Calls.{Line, logFull, System, Run, starts, lineFor, calledFor, output, next, stops, withLine, logged, run}
 use Rattle.language.proofs.Safe.{Uses, step-uses}
-use Rattle.script.specs.Layout.{layoutOf, nameCount, nodeCount}
-use Rattle.script.specs.Checked.{Checked}
-use Rattle.script.specs.Tree.{namesOf, processOf, tree}
-use Rattle.script.proofs.Layouts.{few-bounds}
-use Rattle.script.proofs.Views.{NodeView, aNil, anAssign, aLet, anIf, aWhile, aSequence, anEmit, aLocal, aWatching, aWhen, aParallel, node-view}
+use Rattle.layout.specs.Layout.{layoutOf, nameCount, nodeCount}
+use Rattle.reach.specs.Checked.{Checked}
+use Rattle.tree.specs.Tree.{namesOf, processOf, tree}
+use Rattle.layout.proofs.Layouts.{few-bounds}
+use Rattle.tree.proofs.Views.{NodeView, aNil, anAssign, aLet, anIf, aWhile, aSequence, anEmit, aLocal, aWatching, aWhen, aParallel, node-view}
 
 abbrev AnyName : ℕ → Type 0
 AnyName x = Unit {0}

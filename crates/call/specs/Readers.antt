@@ -2,10 +2,10 @@
 use mathlib.Core.Path.{_≡_}
 use mathlib.Core.List.{List}
 use Prim.Native.Nat.{ℕ, _<_}
-use Rattle.lattice.specs.declared.book.Book.{Book}
-use Rattle.lattice.specs.LevelBook.{atOrBelow}
-use Rattle.script.specs.Layout.{nameCount}
-use Rattle.script.specs.Entries.{nameOf}
+use Rattle.book.specs.declared.Book.{Book}
+use Rattle.book.specs.LevelBook.{atOrBelow}
+use Rattle.layout.specs.Layout.{nameCount}
+use Rattle.layout.specs.Entries.{nameOf}
 use Rattle.runner.specs.Contracts.{seenIn}
 
 -- a table that has 1 for each name that the reader sees

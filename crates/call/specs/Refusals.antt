@@ -9,11 +9,11 @@ use lib.ListN.{length}
 use Rattle.prelude.specs.declared.Refusal.{Refusal}
 use Rattle.prelude.specs.Search.{first}
 use Rattle.prelude.specs.Refusals.{refusedBy, notRefused, passes}
-use Rattle.lattice.specs.LevelBook.{count}
+use Rattle.book.specs.LevelBook.{count}
 use Rattle.arithmetic.specs.Values.{sameValue}
 use Rattle.language.specs.Steps.{held}
-use Rattle.script.specs.Layout.{nameCount}
-use Rattle.script.specs.Tree.{namesOf}
+use Rattle.layout.specs.Layout.{nameCount}
+use Rattle.tree.specs.Tree.{namesOf}
 use Rattle.runner.specs.Contracts.{mostSteps}
 use Rattle.checker.specs.Refusals.{orElse, checkRefusal}
 

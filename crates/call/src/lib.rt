@@ -1,13 +1,13 @@
 // What is asked of a call besides a book and a script: refusals 12 to 14. And which names the reader sees.
-use lattice::book::Book;
+use book::Book;
 use prelude::Refusal;
-use script::layout::Script;
+use layout::Script;
 ghost use mathlib.Core.Path.{_≡_};
 ghost use Prim.Native.Nat.{_≤_, _<_};
 ghost use lib.ListN.{length};
-ghost use Rattle.lattice.specs.LevelBook.{mostLevels};
-ghost use Rattle.script.specs.Layout.{Laid};
-ghost use Rattle.script.specs.Checked.{Levelled};
+ghost use Rattle.book.specs.LevelBook.{mostLevels};
+ghost use Rattle.layout.specs.Layout.{Laid};
+ghost use Rattle.reach.specs.Checked.{Levelled};
 ghost use Rattle.call.specs.Refusals.{valueIsRight, valuesRefusal, callRefusal, firstWrong};
 ghost use Rattle.call.specs.Readers.{Sees};
 
@@ -20,8 +20,8 @@ fn value_is_right(s: &[u8], c: Script, values: &[i32], x: usize) -> bool
     if v == 0 {
         return true;
     }
-    let name = script::entries::name_at(s, c, x);
-    if name.owner != script::entries::SESSION {
+    let name = layout::entries::name_at(s, c, x);
+    if name.owner != layout::entries::SESSION {
         return false;
     }
     name.kind != 1 || v == 1
@@ -112,8 +112,8 @@ pub fn find_seen(s: &[u8], c: Script, b: Book, reader: usize) -> [u8; Script::MA
     let n = c.names;
     let mut x: usize = 0;
     while x < n {
-        let name = script::entries::name_at(s, c, x);
-        if lattice::book::at_or_below(b, name.level, reader) {
+        let name = layout::entries::name_at(s, c, x);
+        if book::at_or_below(b, name.level, reader) {
             seen[x] = 1;
         }
         x += 1;

@@ -6,14 +6,14 @@ use mathlib.Core.List.{List}
 use Prim.Native.Nat.{ℕ}
 use Rattle.prelude.specs.Refusals.{passes}
 use Rattle.prelude.proofs.Searches.{first-within}
-use Rattle.lattice.specs.LevelBook.{count}
+use Rattle.book.specs.LevelBook.{count}
 use Rattle.lattice.specs.Refusals as books
 use Rattle.lattice.specs.Lattice.{bookLattice}
 use Rattle.language.specs.Levels.{needs}
-use Rattle.script.specs.Layout.{nodeCount}
+use Rattle.layout.specs.Layout.{nodeCount}
 use Rattle.script.specs.Refusals as scripts
-use Rattle.script.specs.Checked.{Checked}
-use Rattle.script.specs.Tree.{namesOf, tree}
+use Rattle.reach.specs.Checked.{Checked}
+use Rattle.tree.specs.Tree.{namesOf, tree}
 use Rattle.script.proofs.Theorems.{accepted-exactly}
 use Rattle.flow.specs.Flow.{firstFailing}
 use Rattle.flow.proofs.Theorems.{needs-everywhere}

@@ -8,16 +8,16 @@ use lib.Dec.{ltb}
 use Rattle.prelude.specs.declared.Refusal.{Refusal}
 use Rattle.prelude.specs.Refusals.{refusedBy, notRefused, passes}
 use Rattle.prelude.proofs.Bools.{by-cases}
-use Rattle.lattice.specs.declared.book.Book.{Book}
-use Rattle.lattice.specs.LevelBook.{mostLevels, count}
-use Rattle.lattice.specs.Load.{bookOf}
+use Rattle.book.specs.declared.Book.{Book}
+use Rattle.book.specs.LevelBook.{mostLevels, count}
+use Rattle.book.specs.Load.{bookOf}
 use Rattle.lattice.specs.Refusals as books
 use Rattle.lattice.specs.Lattice.{Lattice, bookLattice}
 use Rattle.language.specs.Levels.{writeLevel, testLevel}
-use Rattle.script.specs.declared.layout.Script.{Script}
-use Rattle.script.specs.Layout.{nodeCount, layoutOf}
+use Rattle.layout.specs.declared.Script.{Script}
+use Rattle.layout.specs.Layout.{nodeCount, layoutOf}
 use Rattle.script.specs.Refusals as scripts
-use Rattle.script.specs.Tree.{namesOf, tree}
+use Rattle.tree.specs.Tree.{namesOf, tree}
 use Rattle.levels.specs.declared.Flow.{Flow}
 use Rattle.flow.specs.Flow.{firstFailing}
 use Rattle.checker.specs.declared.Prepared.{Prepared}

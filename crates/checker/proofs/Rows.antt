@@ -27,15 +27,3 @@ module _ (number place : ℕ) (refuses : passes (refusedBy number place) ≡ fal
   passes-test true rest h = (refl, h)
   passes-test false rest h = absurd (true≢false (sym h ∙ refuses))
 
--- two rows pass where each does
-module _ (r next : Refusal) where
-  pub passes-both : passes (orElse r next) ≡ true → (passes r ≡ true) × (passes next ≡ true)
-  passes-both =
-      by-cases
-      (λ z. passes z ≡ true → (passes r ≡ true) × (passes next ≡ true))
-      (passes r)
-      (λ t h. (t, h))
-      (λ f h. absurd (true≢false (sym h ∙ f)))
-
-  pub both-pass : passes r ≡ true → passes next ≡ true → passes (orElse r next) ≡ true
-  both-pass h k = rw h k

@@ -6,15 +6,15 @@ use Prim.Native.Nat.{ℕ, _≤_}
 use lib.Dec.{ltb}
 use Rattle.prelude.specs.declared.Refusal.{Refusal}
 use Rattle.prelude.specs.Refusals.{refusedBy, notRefused, passes}
-use Rattle.lattice.specs.declared.book.Book.{Book}
-use Rattle.lattice.specs.LevelBook.{mostLevels}
-use Rattle.lattice.specs.Load.{noBook}
+use Rattle.book.specs.declared.Book.{Book}
+use Rattle.book.specs.LevelBook.{mostLevels}
+use Rattle.book.specs.Load.{noBook}
 use Rattle.lattice.specs.Lattice.{Lattice}
 use Rattle.language.specs.Levels.{writeLevel, testLevel}
-use Rattle.script.specs.declared.layout.Script.{Script}
-use Rattle.script.specs.Layout.{layoutOf}
+use Rattle.layout.specs.declared.Script.{Script}
+use Rattle.layout.specs.Layout.{layoutOf}
 use Rattle.script.specs.Load.{noScript}
-use Rattle.script.specs.Tree.{namesOf, tree}
+use Rattle.tree.specs.Tree.{namesOf, tree}
 use Rattle.checker.specs.declared.Prepared.{Prepared}
 
 -- The refusal is R; and where it passes, beside it stand the book, the layout of the script, and W and T under the book's

@@ -6,16 +6,14 @@ use Prim.Native.Nat.{ℕ}
 use lib.Dec.{ltb}
 use Rattle.prelude.specs.declared.Refusal.{Refusal}
 use Rattle.prelude.specs.Refusals.{refusedBy, notRefused, passes}
-use Rattle.lattice.specs.LevelBook.{count}
+use Rattle.book.specs.LevelBook.{count}
 use Rattle.lattice.specs.Refusals as books
 use Rattle.lattice.specs.Lattice.{Lattice, bookLattice}
-use Rattle.script.specs.Layout.{nodeCount}
+use Rattle.layout.specs.Layout.{nodeCount}
 use Rattle.script.specs.Refusals as scripts
 use Rattle.flow.specs.Flow.{firstFailing}
 
--- the first refusal, if there is one
-abbrev pub orElse : Refusal → Refusal → Refusal
-orElse r next = cond (passes r) next r
+use Rattle.prelude.specs.Refusals.{orElse}
 
 -- row 11: 'a need above fails', 'first node'
 abbrev pub flowRefusal : Lattice ℕ → List ℕ → Refusal

@@ -1,13 +1,13 @@
 // A level book and a script file are checked: refusals 1 to 11.
-use lattice::book::Book;
-use lattice::book::PairTable;
+use book::Book;
+use pairs::PairTable;
 use prelude::Refusal;
-use script::layout::Script;
+use layout::Script;
 ghost use mathlib.Core.Path.{_≡_};
 ghost use Prim.Native.Nat.{_≤_};
-ghost use Rattle.lattice.specs.Load.{bookOf};
+ghost use Rattle.book.specs.Load.{bookOf};
 ghost use Rattle.lattice.specs.Lattice.{bookLattice};
-ghost use Rattle.script.specs.Layout.{mostNodes};
+ghost use Rattle.layout.specs.Layout.{mostNodes};
 ghost use Rattle.flow.specs.Flow.{levelsOf, lattice, Ordered, Joins, Meets};
 ghost use Rattle.checker.specs.Refusals.{scriptRefusal, checkRefusal};
 ghost use Rattle.checker.specs.Contracts.{refusedWith, withFlow, Prepares};

@@ -10,13 +10,13 @@ use lib.IntN.{ℤ}
 use lib.ListN.{length}
 use Rattle.prelude.specs.declared.Refusal.{Refusal}
 use Rattle.prelude.specs.Refusals.{passes}
-use Rattle.lattice.specs.LevelBook.{count}
+use Rattle.book.specs.LevelBook.{count}
 use Rattle.lattice.specs.Lattice.{bookLattice}
 use Rattle.language.specs.Calls.{starts, readable}
 use Rattle.language.proofs.Theorems.{runs-agree}
-use Rattle.script.specs.Layout.{nameCount}
-use Rattle.script.specs.Checked.{Checked}
-use Rattle.script.specs.Tree.{namesOf, tree}
+use Rattle.layout.specs.Layout.{nameCount}
+use Rattle.reach.specs.Checked.{Checked}
+use Rattle.tree.specs.Tree.{namesOf, tree}
 use Rattle.runner.specs.declared.Ran.{Ran}
 use Rattle.runner.specs.Outcome.{outcome, recorded}
 use Rattle.runner.specs.Contracts.{seenIn, starting, Gives}

@@ -9,7 +9,7 @@ use Rattle.prelude.specs.Refusals.{passes}
 use Rattle.lattice.specs.Lattice.{bookLattice}
 use Rattle.language.specs.Levels.{writeLevel, testLevel}
 use Rattle.language.specs.Calls.{Run, starts, readable, run}
-use Rattle.script.specs.Tree.{namesOf, tree}
+use Rattle.tree.specs.Tree.{namesOf, tree}
 use Rattle.runner.specs.Outcome.{words}
 use Rattle.runner.specs.Contracts.{endingNumber}
 use Rattle.answers.specs.declared.Verdict.{Verdict}

@@ -14,12 +14,12 @@ use Rattle.prelude.proofs.Bools.{by-cases}
 use Rattle.arithmetic.specs.Values.{negation}
 use Rattle.language.specs.Syntax.{Operator, add, subtract, multiply, divide, less, equal}
 use Rattle.language.specs.Steps.{held, apply, evaluate, value}
-use Rattle.script.specs.declared.entries.Part.{Part}
-use Rattle.script.specs.Layout.{nameCount, expressionCount}
-use Rattle.script.specs.Entries.{partOf}
-use Rattle.script.specs.Tree.{constantOf, expressionOf}
-use Rattle.script.specs.Checked.{Checked}
-use Rattle.script.proofs.Views.{code, ExpressionView, aConstant, aRegister, aBinary, aNegated, UsesExpression, expression-view}
+use Rattle.layout.specs.declared.entries.Part.{Part}
+use Rattle.layout.specs.Layout.{nameCount, expressionCount}
+use Rattle.layout.specs.Entries.{partOf}
+use Rattle.tree.specs.Tree.{constantOf, expressionOf}
+use Rattle.reach.specs.Checked.{Checked}
+use Rattle.tree.proofs.Views.{code, ExpressionView, aConstant, aRegister, aBinary, aNegated, UsesExpression, expression-view}
 use Rattle.plan.specs.Plan.{kindIn, operandIn, laterIn, Spelled, KeepsPlan}
 use Rattle.evaluation.specs.Evaluation.{operatorOf, applied, leafValue}
 

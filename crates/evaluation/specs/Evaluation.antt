@@ -10,9 +10,9 @@ use mir.Syntax.{w32}
 use mir.Val.{toZ}
 use Rattle.language.specs.Syntax.{Operator, add, subtract, multiply, divide, less, equal}
 use Rattle.language.specs.Steps.{held, value, apply}
-use Rattle.script.specs.Layout.{nameCount, expressionCount}
-use Rattle.script.specs.Tree.{expressionOf}
-use Rattle.script.specs.Checked.{Checked}
+use Rattle.layout.specs.Layout.{nameCount, expressionCount}
+use Rattle.tree.specs.Tree.{expressionOf}
+use Rattle.reach.specs.Checked.{Checked}
 use Rattle.plan.specs.Plan.{kindIn, constantIn, operandIn, KeepsPlan}
 
 -- the operators of expressions, by their kinds

@@ -1,14 +1,14 @@
 // What the names hold, and the values of expressions.
 use plan::words;
-use script::layout::Script;
+use layout::Script;
 ghost use mathlib.Core.Path.{_≡_};
 ghost use Prim.Native.Nat.{_<_};
 ghost use lib.ListN.{length};
 ghost use Rattle.language.specs.Steps.{present, test};
-ghost use Rattle.script.specs.Layout.{nameCount, expressionCount, nodeCount};
-ghost use Rattle.script.specs.Entries.{partOf, node};
-ghost use Rattle.script.specs.Tree.{expressionOf};
-ghost use Rattle.script.specs.Checked.{Checked};
+ghost use Rattle.layout.specs.Layout.{nameCount, expressionCount, nodeCount};
+ghost use Rattle.layout.specs.Entries.{partOf, node};
+ghost use Rattle.tree.specs.Tree.{expressionOf};
+ghost use Rattle.reach.specs.Checked.{Checked};
 ghost use Rattle.plan.specs.Plan.{kindIn, operandIn, KeepsPlan};
 ghost use Rattle.evaluation.specs.Evaluation.{applied, leafValue, Evaluable, IsValue};
 
@@ -38,7 +38,7 @@ fn leaf_value(values: &[i32], w: usize) -> i32
     ensures { λ r. ⌜ r ≡ leafValue (now (values .entry)) w ⌝ }
 {
     if words::kind_in(w) == 0 {
-        return language::words::value_of_word(words::constant_in(w) as u32);
+        return arithmetic::words::value_of_word(words::constant_in(w) as u32);
     }
     let x = words::operand_in(w);
     values[x]
@@ -49,21 +49,21 @@ fn operate(kind: usize, a: i32, b: i32) -> i32
     ensures { λ r. ⌜ r ≡ applied kind a b ⌝ }
 {
     if kind == 2 {
-        return language::arithmetic::add(a, b);
+        return arithmetic::add(a, b);
     }
     if kind == 3 {
-        return language::arithmetic::subtract(a, b);
+        return arithmetic::subtract(a, b);
     }
     if kind == 4 {
-        return language::arithmetic::multiply(a, b);
+        return arithmetic::multiply(a, b);
     }
     if kind == 5 {
-        return language::arithmetic::divide(a, b);
+        return arithmetic::divide(a, b);
     }
     if kind == 6 {
-        return language::arithmetic::less(a, b);
+        return arithmetic::less(a, b);
     }
-    language::arithmetic::equal(a, b)
+    arithmetic::equal(a, b)
 }
 
 // The value of expression e as an operand. Most operands are constants and registers: they need no further call.
@@ -90,7 +90,7 @@ pub fn value_of(plan: &[usize; Script::MAX_PARTS], values: &[i32], e: usize) -> 
     }
     let a = operand(plan, values, words::operand_in(w));
     if kind == 8 {
-        return language::arithmetic::not(a);
+        return arithmetic::not(a);
     }
     let b = operand(plan, values, words::later_in(w));
     operate(kind, a, b)

@@ -13,11 +13,12 @@ use Rattle.prelude.proofs.Bools.{and-intro, and-left, and-right, same-truth, fa
 use Rattle.prelude.proofs.Searches.{first-is, first-none, first-at-end}
 use Rattle.lattice.specs.Lattice.{Lattice}
 use Rattle.language.specs.Levels.{needs}
-use Rattle.script.specs.Layout.{layoutOf, nodeCount}
-use Rattle.script.specs.Entries.{partOf, node, firstChild, secondChild}
-use Rattle.script.specs.Tree.{namesOf, processOf, tree}
-use Rattle.script.specs.Checked.{Checked}
-use Rattle.script.proofs.Layouts.{few-bounds}
+use Rattle.layout.specs.Layout.{layoutOf, nodeCount}
+use Rattle.layout.specs.Entries.{partOf, node}
+use Rattle.fields.specs.Fields.{firstChild, secondChild}
+use Rattle.tree.specs.Tree.{namesOf, processOf, tree}
+use Rattle.reach.specs.Checked.{Checked}
+use Rattle.layout.proofs.Layouts.{few-bounds}
 use Rattle.levels.specs.Kinds.{childCount, childrenOf}
 use Rattle.flow.specs.Flow.{needAt, firstFailing, Under, itself, inFirst, inSecond, Smallest, FailsUnder}
 use Rattle.levels.proofs.ByKind.{needsOf, needs-by-kind}

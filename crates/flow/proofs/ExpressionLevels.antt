@@ -4,18 +4,18 @@ use mathlib.Core.Path.{_≡_, sym, ap, ap₂, _∙_, subst}
 use mathlib.Core.List.{List}
 use Prim.Native.Nat.{ℕ, _≤_, _<_}
 use native.Mathlib.Omega.{arith}
-use Rattle.lattice.specs.Bounds.{kept}
+use Rattle.pairs.specs.Bounds.{kept}
 use Rattle.lattice.specs.Lattice.{Lattice}
 use Rattle.language.specs.Syntax.{Operator, add, subtract, multiply, divide, less, equal}
 use Rattle.language.specs.Levels.{expLevel}
-use Rattle.script.specs.declared.layout.Script.{Script}
-use Rattle.script.specs.declared.entries.Name.{Name}
-use Rattle.script.specs.declared.entries.Part.{Part}
-use Rattle.script.specs.Layout.{nameCount}
-use Rattle.script.specs.Entries.{nameOf, partOf}
-use Rattle.script.specs.Tree.{namesOf, expressionOf}
-use Rattle.script.proofs.Layouts.{names-are, expressions-are}
-use Rattle.script.proofs.Views.{code, UsesExpression, ExpressionView, aConstant, aRegister, aBinary, aNegated, expression-view}
+use Rattle.layout.specs.declared.Script.{Script}
+use Rattle.layout.specs.declared.entries.Name.{Name}
+use Rattle.layout.specs.declared.entries.Part.{Part}
+use Rattle.layout.specs.Layout.{nameCount}
+use Rattle.layout.specs.Entries.{nameOf, partOf}
+use Rattle.tree.specs.Tree.{namesOf, expressionOf}
+use Rattle.layout.proofs.Layouts.{names-are, expressions-are}
+use Rattle.tree.proofs.Views.{code, UsesExpression, ExpressionView, aConstant, aRegister, aBinary, aNegated, expression-view}
 use Rattle.flow.specs.Flow.{Levels, lattice, Ready, Joins, LevelAt}
 use Rattle.flow.proofs.BookLevels.{bottom-is, bottom-inside, join-kept, join-inside}
 

@@ -9,15 +9,16 @@ use native.Mathlib.Omega.{arith}
 use lib.Dec.{eqb}
 use Rattle.prelude.specs.Search.{lesser}
 use Rattle.prelude.proofs.Bools.{by-cases}
-use Rattle.lattice.specs.LevelBook.{atOrBelow}
-use Rattle.lattice.specs.Bounds.{kept}
+use Rattle.book.specs.LevelBook.{atOrBelow}
+use Rattle.pairs.specs.Bounds.{kept}
 use Rattle.language.specs.Syntax.{Proc}
 use Rattle.language.specs.Levels.{writeLevel, testLevel}
-use Rattle.script.specs.declared.layout.Script.{Script}
-use Rattle.script.specs.Layout.{nodeCount}
-use Rattle.script.specs.Entries.{partOf, node, firstChild, secondChild}
-use Rattle.script.specs.Tree.{namesOf, processOf}
-use Rattle.script.proofs.Layouts.{nodes-are}
+use Rattle.layout.specs.declared.Script.{Script}
+use Rattle.layout.specs.Layout.{nodeCount}
+use Rattle.layout.specs.Entries.{partOf, node}
+use Rattle.fields.specs.Fields.{firstChild, secondChild}
+use Rattle.tree.specs.Tree.{namesOf, processOf}
+use Rattle.layout.proofs.Layouts.{nodes-are}
 use Rattle.levels.specs.declared.Flow.{Flow}
 use Rattle.levels.specs.declared.Own.{Own}
 use Rattle.levels.specs.Kinds as kind

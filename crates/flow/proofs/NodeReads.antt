@@ -5,12 +5,13 @@ use mathlib.Core.Bool.{Bool, true}
 use mathlib.Core.List.{List}
 use Prim.Native.Nat.{ℕ, _<_}
 use native.Mathlib.Omega.{arith}
-use Rattle.lattice.specs.LevelBook.{mostLevels, atOrBelow}
-use Rattle.lattice.specs.Bounds.{kept}
-use Rattle.script.specs.declared.layout.Script.{Script}
-use Rattle.script.specs.declared.entries.Part.{Part}
-use Rattle.script.specs.Entries.{partOf, node, firstChild, secondChild}
-use Rattle.script.proofs.Layouts.{nodes-are}
+use Rattle.book.specs.LevelBook.{mostLevels, atOrBelow}
+use Rattle.pairs.specs.Bounds.{kept}
+use Rattle.layout.specs.declared.Script.{Script}
+use Rattle.layout.specs.declared.entries.Part.{Part}
+use Rattle.layout.specs.Entries.{partOf, node}
+use Rattle.fields.specs.Fields.{firstChild, secondChild}
+use Rattle.layout.proofs.Layouts.{nodes-are}
 use Rattle.levels.specs.declared.Flow.{Flow}
 use Rattle.levels.specs.declared.Own.{Own}
 use Rattle.levels.specs.Kinds.{childCount}

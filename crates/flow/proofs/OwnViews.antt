@@ -6,14 +6,14 @@ use mathlib.Core.List.{List}
 use Prim.Native.Nat.{ℕ, _<_}
 use native.Mathlib.Omega.{arith}
 use Rattle.lattice.specs.Lattice.{Lattice}
-use Rattle.script.specs.declared.layout.Script.{Script}
-use Rattle.script.specs.declared.entries.Name.{Name}
-use Rattle.script.specs.declared.entries.Part.{Part}
-use Rattle.script.specs.Layout.{nameCount, expressionCount}
-use Rattle.script.specs.Entries.{nameOf, partOf, node}
-use Rattle.script.specs.Tree.{namesOf, processOf}
-use Rattle.script.proofs.Layouts.{names-are, expressions-are}
-use Rattle.script.proofs.Views.{NodeView, aNil, anAssign, aLet, anIf, aWhile, aSequence, anEmit, aLocal, aWatching, aWhen, aParallel, node-view}
+use Rattle.layout.specs.declared.Script.{Script}
+use Rattle.layout.specs.declared.entries.Name.{Name}
+use Rattle.layout.specs.declared.entries.Part.{Part}
+use Rattle.layout.specs.Layout.{nameCount, expressionCount}
+use Rattle.layout.specs.Entries.{nameOf, partOf, node}
+use Rattle.tree.specs.Tree.{namesOf, processOf}
+use Rattle.layout.proofs.Layouts.{names-are, expressions-are}
+use Rattle.tree.proofs.Views.{NodeView, aNil, anAssign, aLet, anIf, aWhile, aSequence, anEmit, aLocal, aWatching, aWhen, aParallel, node-view}
 use Rattle.levels.specs.Kinds.{hasValue, hasCondition, hasSignal}
 use Rattle.levels.specs.Nodes.{brings, ownOf}
 use Rattle.flow.specs.Flow.{Levels, lattice, Ready, LevelAt, IsNodeAt, IsNode, OwnOf}

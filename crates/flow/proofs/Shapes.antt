@@ -7,14 +7,15 @@ use Prim.Native.Nat.{ℕ, _<_}
 use native.Mathlib.Omega.{arith}
 use lib.Dec.{eqb}
 use borrow.Author.Tests.{le-ltb}
-use Rattle.script.specs.declared.entries.Part.{Part}
-use Rattle.script.specs.Layout.{expressionCount, nodeCount}
-use Rattle.script.specs.Roles.{nodeRows, roleIn, child, expressionKinds, nodeKinds}
-use Rattle.script.specs.Entries.{partOf, node, firstChild, secondChild}
-use Rattle.script.specs.Tree.{processOf}
-use Rattle.script.specs.Checked.{Checked}
-use Rattle.script.proofs.Holding.{right-kind}
-use Rattle.script.proofs.Views.{NodeView, aNil, anAssign, aLet, anIf, aWhile, aSequence, anEmit, aLocal, aWatching, aWhen, aParallel, node-view}
+use Rattle.layout.specs.declared.entries.Part.{Part}
+use Rattle.layout.specs.Layout.{expressionCount, nodeCount}
+use Rattle.fields.specs.Roles.{nodeRows, roleIn, child, expressionKinds, nodeKinds}
+use Rattle.layout.specs.Entries.{partOf, node}
+use Rattle.fields.specs.Fields.{firstChild, secondChild}
+use Rattle.tree.specs.Tree.{processOf}
+use Rattle.reach.specs.Checked.{Checked}
+use Rattle.faults.proofs.Holding.{right-kind}
+use Rattle.tree.proofs.Views.{NodeView, aNil, anAssign, aLet, anIf, aWhile, aSequence, anEmit, aLocal, aWatching, aWhen, aParallel, node-view}
 use Rattle.levels.specs.Kinds.{kindOf, childCount, childrenOf}
 
 module _ (s : List ℕ) (k : ℕ) where

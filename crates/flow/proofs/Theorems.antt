@@ -4,10 +4,11 @@ use mathlib.Core.Path.{_≡_, refl, sym, ap, _∙_, subst}
 use mathlib.Core.Bool.{true, cond}
 use mathlib.Core.List.{List}
 use Prim.Native.Nat.{ℕ}
-use Rattle.lattice.specs.declared.Loaded.{Loaded}
-use Rattle.lattice.specs.Order.{LevelLattice}
+use Rattle.book.specs.declared.Loaded.{Loaded}
+use Rattle.order.specs.Order.{LevelLattice}
 use Rattle.lattice.specs.Refusals.{isAccepted}
-use Rattle.lattice.specs.Load.{bookOf, noBook, loaded, Loads}
+use Rattle.book.specs.Load.{bookOf, noBook}
+use Rattle.lattice.specs.Load.{loaded, Loads}
 use Rattle.lattice.proofs.Theorems.{level-lattice, loads-few}
 use Rattle.flow.specs.Flow.{orderOf, lattice, levelsOf, Ordered, Joins, Meets}
 use Rattle.flow.specs.Results.{NeedsEverywhere, CallersReady}

@@ -4,19 +4,20 @@ use mathlib.Core.Bool.{Bool, false, not}
 use mathlib.Core.List.{List}
 use Prim.Native.Nat.{ℕ, _≤_, _<_}
 use Rattle.prelude.specs.Search.{first}
-use Rattle.lattice.specs.declared.book.Book.{Book}
-use Rattle.lattice.specs.Order as orders
-use Rattle.lattice.specs.Order.{Relation, leastUpper, greatestLower, LevelLattice}
-use Rattle.lattice.specs.LevelBook.{mostLevels, atOrBelow}
-use Rattle.lattice.specs.Bounds.{Keeps}
+use Rattle.book.specs.declared.Book.{Book}
+use Rattle.order.specs.Order as orders
+use Rattle.order.specs.Order.{Relation, leastUpper, greatestLower, LevelLattice}
+use Rattle.book.specs.LevelBook.{mostLevels, atOrBelow}
+use Rattle.pairs.specs.Bounds.{Keeps}
 use Rattle.lattice.specs.Lattice.{Lattice, latticeOf}
 use Rattle.language.specs.Levels.{expLevel, writeLevel, testLevel, need}
-use Rattle.script.specs.declared.layout.Script.{Script}
-use Rattle.script.specs.declared.entries.Part.{Part}
-use Rattle.script.specs.Layout.{nodeCount, Laid}
-use Rattle.script.specs.Entries.{partOf, node, firstChild, secondChild}
-use Rattle.script.specs.Tree.{namesOf, expressionOf, processOf, tree}
-use Rattle.script.specs.Checked.{Checked, Levelled}
+use Rattle.layout.specs.declared.Script.{Script}
+use Rattle.layout.specs.declared.entries.Part.{Part}
+use Rattle.layout.specs.Layout.{nodeCount, Laid}
+use Rattle.layout.specs.Entries.{partOf, node}
+use Rattle.fields.specs.Fields.{firstChild, secondChild}
+use Rattle.tree.specs.Tree.{namesOf, expressionOf, processOf, tree}
+use Rattle.reach.specs.Checked.{Checked, Levelled}
 use Rattle.levels.specs.declared.Flow.{Flow}
 use Rattle.levels.specs.declared.Own.{Own}
 use Rattle.levels.specs.Kinds.{childCount}

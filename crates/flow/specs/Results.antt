@@ -4,14 +4,14 @@ use mathlib.Core.Bool.{true}
 use mathlib.Core.List.{List}
 use Prim.Native.Nat.{ℕ, _<_}
 use lib.Dec.{eqb}
-use Rattle.lattice.specs.declared.Loaded.{Loaded}
+use Rattle.book.specs.declared.Loaded.{Loaded}
 use Rattle.lattice.specs.Refusals.{isAccepted}
 use Rattle.lattice.specs.Load.{Loads}
 use Rattle.lattice.specs.Lattice.{Lattice, bookLattice}
 use Rattle.language.specs.Levels.{needs}
-use Rattle.script.specs.Layout.{nodeCount}
-use Rattle.script.specs.Tree.{namesOf, tree}
-use Rattle.script.specs.Checked.{Checked}
+use Rattle.layout.specs.Layout.{nodeCount}
+use Rattle.tree.specs.Tree.{namesOf, tree}
+use Rattle.reach.specs.Checked.{Checked}
 use Rattle.flow.specs.Flow.{needAt, firstFailing, lattice, levelsOf, Ordered, Joins, Meets}
 
 -- The needs of a checked script hold exactly when every node of the file has its own, so exactly when no node is the

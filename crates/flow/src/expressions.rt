@@ -1,10 +1,10 @@
 // The level of an expression.
 use crate::kinds;
-use lattice::book::PairTable;
-use lattice::book::level_at;
-use script::entries::name_at;
-use script::entries::part_at;
-use script::layout::Script;
+use pairs::PairTable;
+use pairs::level_at;
+use layout::entries::name_at;
+use layout::entries::part_at;
+use layout::Script;
 ghost use Prim.Native.Nat.{_<_};
 ghost use Rattle.flow.specs.Flow.{Levels, Reads, LevelAt};
 

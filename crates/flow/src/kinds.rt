@@ -1,7 +1,7 @@
 // The kinds of expressions, by 01's numbers, and the number of children of each kind of node.
 ghost use mathlib.Core.Path.{_≡_};
 ghost use Prim.Native.Nat.{_<_};
-ghost use Rattle.script.specs.Roles.{nodeKinds};
+ghost use Rattle.fields.specs.Roles.{nodeKinds};
 ghost use Rattle.levels.specs.Kinds.{childCount};
 
 // Those of the kinds between have two operands.

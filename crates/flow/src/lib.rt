@@ -4,10 +4,10 @@ mod expressions; // expressions.rt: the level of an expression
 mod own; // own.rt: what a node brings itself
 mod walk; // walk.rt: the walk over the nodes
 
-use lattice::book::Book;
-use lattice::book::PairTable;
+use book::Book;
+use pairs::PairTable;
 use levels::Flow;
-use script::layout::Script;
+use layout::Script;
 ghost use Rattle.flow.specs.Flow.{levelsOf, Ready, Joins, Meets, FlowOf};
 
 // The write level and the test level of a checked script, and the smallest node whose need fails, or the number of

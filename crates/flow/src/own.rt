@@ -1,12 +1,12 @@
 // What a node brings itself.
 use crate::expressions::level_of;
-use lattice::book::PairTable;
+use pairs::PairTable;
 use levels::Own;
 use levels::kinds;
 use levels::kinds::is_either;
-use script::entries::Part;
-use script::entries::name_at;
-use script::layout::Script;
+use layout::entries::Part;
+use layout::entries::name_at;
+use layout::Script;
 ghost use Rattle.flow.specs.Flow.{Levels, Reads, IsNode, OwnOf};
 
 // What the node of part p brings itself.

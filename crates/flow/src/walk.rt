@@ -1,12 +1,12 @@
 // The walk over the nodes.
 use crate::kinds;
 use crate::own;
-use lattice::book::Book;
-use lattice::book::PairTable;
+use book::Book;
+use pairs::PairTable;
 use levels::Flow;
-use script::children::children_of;
-use script::entries::part_at;
-use script::layout::Script;
+use fields::children::children_of;
+use layout::entries::part_at;
+use layout::Script;
 ghost use Prim.Native.Nat.{_<_};
 ghost use Rattle.flow.specs.Flow.{Levels, Walks, FlowAt};
 

@@ -20,7 +20,7 @@ use Rattle.prelude.proofs.Bools.{and-left, and-right, by-cases}
 use Rattle.prelude.proofs.Searches.{all-elim}
 use Rattle.language.specs.Syntax.{parallel}
 use Rattle.language.specs.Steps.{present, change}
-use Rattle.script.specs.Entries.{partOf, node}
+use Rattle.layout.specs.Entries.{partOf, node}
 use Rattle.plan.specs.declared.forms.Front.{Front}
 use Rattle.residual.specs.Residual.{own}
 use Rattle.plan.specs.Forms.{gone, mover, watched, guarded, beside, formRows, formOf, fromSecond, frontOf, partIn}

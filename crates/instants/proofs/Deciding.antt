@@ -12,9 +12,9 @@ use lib.ListN.{length, set, length-set}
 use lib.Seq.{set-getD}
 use Rattle.language.specs.Syntax.{Proc, parallel}
 use Rattle.language.specs.Steps.{present, suspended, change}
-use Rattle.script.specs.Layout.{nameCount}
-use Rattle.script.specs.Entries.{partOf, node}
-use Rattle.script.proofs.Views.{NodeView, aNil, anAssign, aLet, anIf, aWhile, aSequence, anEmit, aLocal, aWatching, aWhen, aParallel, node-view}
+use Rattle.layout.specs.Layout.{nameCount}
+use Rattle.layout.specs.Entries.{partOf, node}
+use Rattle.tree.proofs.Views.{NodeView, aNil, anAssign, aLet, anIf, aWhile, aSequence, anEmit, aLocal, aWatching, aWhen, aParallel, node-view}
 use Rattle.plan.specs.declared.forms.Front.{Front}
 use Rattle.residual.specs.Residual.{own, residual}
 use Rattle.plan.specs.Forms.{mover, first, second, before, watched, guarded, beside, turned, frontOf, partIn}

@@ -5,16 +5,16 @@ use plan::forms;
 use plan::forms::Front;
 use plan::forms::find_front;
 use plan::forms::find_rear;
-use script::layout::Script;
+use layout::Script;
 ghost use mathlib.Core.Path.{_≡_};
 ghost use mathlib.Core.Bool.{true, false};
 ghost use Prim.Native.Nat.{_<_};
 ghost use lib.ListN.{length};
 ghost use Rattle.language.specs.Steps.{present, change, instantStart};
 ghost use Rattle.language.specs.Calls.{givenBack};
-ghost use Rattle.script.specs.Layout.{Laid};
-ghost use Rattle.script.specs.Entries.{partOf, node};
-ghost use Rattle.script.specs.Tree.{namesOf};
+ghost use Rattle.layout.specs.Layout.{Laid};
+ghost use Rattle.layout.specs.Entries.{partOf, node};
+ghost use Rattle.tree.specs.Tree.{namesOf};
 ghost use Rattle.plan.specs.Forms.{mover, watched, guarded, frontOf};
 ghost use Rattle.plan.specs.Plan.{KeepsPlan};
 ghost use Rattle.residual.specs.Residual.{own};
@@ -78,7 +78,7 @@ fn is_present_signal(s: &[u8], c: Script, values: &[i32], x: usize) -> bool
     requires { ⌜ Laid (now s) c × (Valued (now s) (now values) × (x < length (now values))) ⌝ }
     ensures { λ r. ⌜ r ≡ isPresentSignal (namesOf (now (s .entry))) (now (values .entry)) x ⌝ }
 {
-    let name = script::entries::name_at(s, c, x);
+    let name = layout::entries::name_at(s, c, x);
     if name.kind != 1 {
         return false;
     }
@@ -108,7 +108,7 @@ fn clear_signals(s: &[u8], c: Script, values: &mut [i32])
     let n = c.names;
     let mut x: usize = 0;
     while x < n {
-        let name = script::entries::name_at(s, c, x);
+        let name = layout::entries::name_at(s, c, x);
         if name.kind == 1 {
             values[x] = 0;
         }
@@ -140,8 +140,8 @@ pub fn clear_owned(s: &[u8], c: Script, values: &mut [i32])
     let n = c.names;
     let mut x: usize = 0;
     while x < n {
-        let name = script::entries::name_at(s, c, x);
-        if name.owner != script::entries::SESSION {
+        let name = layout::entries::name_at(s, c, x);
+        if name.owner != layout::entries::SESSION {
             values[x] = 0;
         }
         x += 1;

@@ -6,7 +6,7 @@ use Prim.Native.Nat.{ℕ, _<_}
 use lib.Dec.{eqb}
 use Rattle.prelude.specs.Search.{lesser}
 use Rattle.lattice.specs.Lattice.{Lattice}
-use Rattle.lattice.specs.Order.{Relation}
+use Rattle.order.specs.Order.{Relation}
 use Rattle.language.specs.Syntax.{Names, Proc, nil, assign, letIn, ifThenElse, while, sequence, emit, local, watching, when, parallel}
 use Rattle.language.specs.Levels.{expLevel}
 use Rattle.levels.specs.declared.Flow.{Flow}

@@ -14,12 +14,12 @@ use lib.Seq.{length-take-le, drop-set-lt}
 use Rattle.language.specs.Syntax.{Proc, assign, letIn, ifThenElse, while, emit, local, isNil}
 use Rattle.language.specs.Steps.{value, test, suspended, move}
 use Rattle.language.specs.Calls.{calledFor}
-use Rattle.script.specs.Layout.{nameCount, expressionCount, nodeCount, layoutOf}
-use Rattle.script.specs.Entries.{nameOf, partOf, node}
-use Rattle.script.specs.Checked.{Checked}
-use Rattle.script.specs.Tree.{expressionOf, processOf, size}
-use Rattle.script.proofs.Layouts.{few-bounds}
-use Rattle.script.proofs.Views.{UsesExpression, NodeView, aNil, anAssign, aLet, anIf, aWhile, aSequence, anEmit, aLocal, aWatching, aWhen, aParallel, node-view}
+use Rattle.layout.specs.Layout.{nameCount, expressionCount, nodeCount, layoutOf}
+use Rattle.layout.specs.Entries.{nameOf, partOf, node}
+use Rattle.reach.specs.Checked.{Checked}
+use Rattle.tree.specs.Tree.{expressionOf, processOf, size}
+use Rattle.layout.proofs.Layouts.{few-bounds}
+use Rattle.tree.proofs.Views.{UsesExpression, NodeView, aNil, anAssign, aLet, anIf, aWhile, aSequence, anEmit, aLocal, aWatching, aWhen, aParallel, node-view}
 use Rattle.plan.specs.declared.forms.Front.{Front}
 use Rattle.plan.specs.Forms.{mover}
 use Rattle.residual.specs.Residual.{own, firstOf, secondOf, residual}

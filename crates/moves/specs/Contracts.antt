@@ -11,7 +11,7 @@ use lib.ListN.{getD, set, length}
 use Rattle.language.specs.Syntax.{Proc, nil}
 use Rattle.language.specs.Steps.{move}
 use Rattle.language.specs.Calls.{Line, System, lineFor, calledFor}
-use Rattle.script.specs.Entries.{partOf, node}
+use Rattle.layout.specs.Entries.{partOf, node}
 use Rattle.residual.specs.Residual.{own}
 use Rattle.residual.specs.Nodes.{left}
 use Rattle.moves.specs.declared.log.Noted.{Noted}

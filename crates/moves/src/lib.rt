@@ -2,12 +2,12 @@
 mod log; // log.rt: the lines of the log
 
 use plan::forms;
-use script::layout::Script;
+use layout::Script;
 ghost use mathlib.Core.Path.{_≡_};
 ghost use Prim.Native.Nat.{_/_, _≤_, _<_};
 ghost use lib.ListN.{length, replicate};
-ghost use Rattle.script.specs.Layout.{nodeCount};
-ghost use Rattle.script.specs.Entries.{partOf, node};
+ghost use Rattle.layout.specs.Layout.{nodeCount};
+ghost use Rattle.layout.specs.Entries.{partOf, node};
 ghost use Rattle.residual.specs.Residual.{own};
 ghost use Rattle.plan.specs.Forms.{mover, frontOf};
 ghost use Rattle.plan.specs.Plan.{KeepsPlan};

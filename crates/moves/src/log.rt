@@ -1,5 +1,5 @@
 // The log: four words make a line.
-use script::layout::Script;
+use layout::Script;
 ghost use mathlib.Core.Path.{_≡_};
 ghost use Prim.Native.Nat.{_*_, _/_, _+_, _≤_, _<_};
 ghost use lib.ListN.{length};

@@ -14,11 +14,12 @@ use Rattle.prelude.specs.Search.{all, any, firstFrom}
 use Rattle.prelude.specs.Search as search-for
 use Rattle.prelude.proofs.Bools.{and-left, and-right, or-second, by-cases}
 use Rattle.prelude.proofs.Searches.{all-elim, none-of-any}
-use Rattle.script.specs.Layout.{nodeCount}
-use Rattle.script.specs.Entries.{partOf, node, firstChild, secondChild}
-use Rattle.script.specs.Tree.{processOf, size}
-use Rattle.script.specs.Checked.{Checked}
-use Rattle.script.proofs.Views.{NodeView, aNil, anAssign, aLet, anIf, aWhile, aSequence, anEmit, aLocal, aWatching, aWhen, aParallel, node-view}
+use Rattle.layout.specs.Layout.{nodeCount}
+use Rattle.layout.specs.Entries.{partOf, node}
+use Rattle.fields.specs.Fields.{firstChild, secondChild}
+use Rattle.tree.specs.Tree.{processOf, size}
+use Rattle.reach.specs.Checked.{Checked}
+use Rattle.tree.proofs.Views.{NodeView, aNil, anAssign, aLet, anIf, aWhile, aSequence, anEmit, aLocal, aWatching, aWhen, aParallel, node-view}
 use Rattle.plan.specs.declared.forms.Front.{Front}
 use Rattle.plan.specs.Forms.{gone, mover, beside, turned, formRows, formOf, fromSecond, frontOf}
 

@@ -12,10 +12,11 @@ use borrow.Author.Tests.{eqb-true, ltb-true}
 use Rattle.prelude.specs.Search.{all, any, firstFrom}
 use Rattle.prelude.specs.Search as search-for
 use Rattle.prelude.proofs.Searches.{all-elim}
-use Rattle.script.specs.declared.entries.Part.{Part}
-use Rattle.script.specs.Layout.{mostExpressions}
-use Rattle.script.specs.Entries.{partOf, node, firstChild, secondChild}
-use Rattle.script.specs.Tree.{processOf, size}
+use Rattle.layout.specs.declared.entries.Part.{Part}
+use Rattle.layout.specs.Layout.{mostExpressions}
+use Rattle.layout.specs.Entries.{partOf, node}
+use Rattle.fields.specs.Fields.{firstChild, secondChild}
+use Rattle.tree.specs.Tree.{processOf, size}
 use Rattle.plan.specs.Forms.{formOf}
 use Rattle.plan.specs.Plan.{formIn, aIn, bIn, firstIn, secondIn, sizeIn, nodeKindIn, packedFields, packed, formsOf, spelled, Spelled, Planned, KeepsExpressions, KeepsNodes}
 

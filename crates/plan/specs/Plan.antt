@@ -3,9 +3,10 @@ use mathlib.Core.Path.{_≡_}
 use mathlib.Core.List.{List}
 use Prim.Native.Nat.{ℕ, _+_, _*_, _/_, _%_, _^_, _<_}
 use lib.ListN.{getD}
-use Rattle.script.specs.Layout.{mostExpressions, expressionCount, nodeCount}
-use Rattle.script.specs.Entries.{partOf, node, firstChild, secondChild}
-use Rattle.script.specs.Tree.{processOf, size}
+use Rattle.layout.specs.Layout.{mostExpressions, expressionCount, nodeCount}
+use Rattle.layout.specs.Entries.{partOf, node}
+use Rattle.fields.specs.Fields.{firstChild, secondChild}
+use Rattle.tree.specs.Tree.{processOf, size}
 use Rattle.plan.specs.Forms.{formOf}
 
 -- what the word of an expression tells: its kind; a constant's word; its name or first operand; its second operand

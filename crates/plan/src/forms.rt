@@ -1,10 +1,10 @@
 // The form that a node has come to: what is in front, and what stands around it.
 use crate::words;
-use script::layout::Script;
+use layout::Script;
 ghost use mathlib.Core.Path.{_≡_};
 ghost use Prim.Native.Nat.{_-_, _≤_, _<_};
-ghost use Rattle.script.specs.Layout.{nodeCount};
-ghost use Rattle.script.specs.Checked.{Checked};
+ghost use Rattle.layout.specs.Layout.{nodeCount};
+ghost use Rattle.reach.specs.Checked.{Checked};
 ghost use Rattle.plan.specs.Forms.{beside, formOf, frontOf};
 ghost use Rattle.plan.specs.Plan.{KeepsPlan};
 

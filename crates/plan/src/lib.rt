@@ -2,13 +2,13 @@
 pub mod words; // words.rt: what the words tell, and how they are made
 pub mod forms; // forms.rt: the form that a node has come to
 
-use script::layout::Script;
+use layout::Script;
 ghost use mathlib.Core.Path.{_≡_};
 ghost use Prim.Native.Nat.{_<_};
-ghost use Rattle.script.specs.Layout.{expressionCount, nodeCount, Laid};
-ghost use Rattle.script.specs.Entries.{partOf, node};
-ghost use Rattle.script.specs.Tree.{KeepsSizes};
-ghost use Rattle.script.specs.Checked.{Checked};
+ghost use Rattle.layout.specs.Layout.{expressionCount, nodeCount, Laid};
+ghost use Rattle.layout.specs.Entries.{partOf, node};
+ghost use Rattle.tree.specs.Tree.{KeepsSizes};
+ghost use Rattle.reach.specs.Checked.{Checked};
 ghost use Rattle.plan.specs.Plan.{formsOf, Spelled, Planned, KeepsExpressions, KeepsPlan};
 
 // The forms of a kind of node.
@@ -34,8 +34,8 @@ fn node_word(s: &[u8], c: Script, sizes: &[u16; Script::MAX_NODES], k: usize) ->
     requires { ⌜ Laid (now s) c × (Checked (now s) × (KeepsSizes (now s) (c .nodes) (now sizes) × (k < c .nodes))) ⌝ }
     ensures { λ r. ⌜ Planned (now (s .entry)) k r ⌝ }
 {
-    let p = script::entries::part_at(s, c, c.expressions + k);
-    let parts = script::children::children_of(p);
+    let p = layout::entries::part_at(s, c, c.expressions + k);
+    let parts = fields::children::children_of(p);
     let first = parts.first % 256;
     let fields = words::pack_fields(p.a, p.b, first, parts.second, wide(sizes[first]));
     words::pack(forms_of(p.kind), fields, p.kind)
@@ -46,7 +46,7 @@ fn expression_word(s: &[u8], c: Script, e: usize) -> usize
     requires { ⌜ Laid (now s) c × (e < c .expressions) ⌝ }
     ensures { λ r. ⌜ Spelled (now (s .entry)) e r ⌝ }
 {
-    let p = script::entries::part_at(s, c, e);
+    let p = layout::entries::part_at(s, c, e);
     if p.kind == 0 {
         return words::spell(0, p.b, p.c);
     }
@@ -72,7 +72,7 @@ pub fn find_plan(s: &[u8], c: Script) -> [usize; Script::MAX_PARTS]
     requires { ⌜ Laid (now s) c × Checked (now s) ⌝ }
     ensures { λ r. ⌜ KeepsPlan (now (s .entry)) r ⌝ }
 {
-    let sizes = script::sizes::find_sizes(s, c);
+    let sizes = tree::sizes::find_sizes(s, c);
     let mut plan = find_expressions(s, c);
     let n = c.nodes;
     let mut k: usize = 0;

@@ -12,7 +12,7 @@ use lib.ListN.{getD, set, length, take, drop, replicate}
 use lib.Seq.{getD-set-same}
 use Rattle.prelude.proofs.Bools.{and-intro, and-left, and-right}
 use Rattle.language.specs.Syntax.{Proc, nil, assign, letIn, ifThenElse, while, sequence, emit, local, watching, when, parallel}
-use Rattle.script.specs.Tree.{processOf, size}
+use Rattle.tree.specs.Tree.{processOf, size}
 use Rattle.residual.specs.Residual.{own, firstOf, secondOf, residual}
 use Rattle.residual.specs.Frames.{leavesAlone}
 use Rattle.residual.specs.Nodes.{At}

@@ -9,15 +9,17 @@ use native.Mathlib.Omega.{arith}
 use lib.Dec.{eqb}
 use borrow.Author.Tests.{ne-eqb}
 use Rattle.prelude.proofs.Bools.{and-intro, or-second}
-use Rattle.script.specs.Layout.{layoutOf, nameCount, nodeCount}
-use Rattle.script.specs.Entries.{nameOf, session, isSession, node, fieldCount}
-use Rattle.script.specs.Uses.{used}
-use Rattle.script.specs.Reach.{inReach}
-use Rattle.script.specs.Checked.{Checked}
-use Rattle.script.specs.Tree.{processOf}
-use Rattle.script.proofs.Layouts.{few-bounds}
-use Rattle.script.proofs.Reaching.{owned, within-below, body-of, child-used}
-use Rattle.script.proofs.Views.{UsesName, NewName, NodeView, aNil, anAssign, aLet, anIf, aWhile, aSequence, anEmit, aLocal, aWatching, aWhen, aParallel, node-view}
+use Rattle.layout.specs.Layout.{layoutOf, nameCount, nodeCount}
+use Rattle.layout.specs.Entries.{nameOf, session, isSession, node}
+use Rattle.fields.specs.Fields.{fieldCount}
+use Rattle.uses.specs.Uses.{used}
+use Rattle.reach.specs.Reach.{inReach}
+use Rattle.reach.specs.Checked.{Checked}
+use Rattle.tree.specs.Tree.{processOf}
+use Rattle.layout.proofs.Layouts.{few-bounds}
+use Rattle.faults.proofs.Naming.{owned}
+use Rattle.reach.proofs.Reaching.{within-below, body-of, child-used}
+use Rattle.tree.proofs.Views.{UsesName, NewName, NodeView, aNil, anAssign, aLet, anIf, aWhile, aSequence, anEmit, aLocal, aWatching, aWhen, aParallel, node-view}
 use Rattle.residual.specs.Frames.{leavesAlone}
 
 module _ (s : List ℕ) (ok : Checked s) where

@@ -10,11 +10,12 @@ use borrow.Rule.Slice.PartMut.{putMid, same-len-mid, mid-len, take-put, drop-put
 use lib.ListN.{length, take, drop, set, length-set, length-drop, List·getD-append, drop-of-length-le}
 use lib.Seq.{length-take-le, getD-take, getD-set-same, set-getD, drop-set-lt, take-nil, take-all, take-at, drop-at}
 use Rattle.language.specs.Syntax.{Exp, Proc, nil, assign, letIn, ifThenElse, while, sequence, emit, local, watching, when, parallel}
-use Rattle.script.specs.Layout.{nameCount, nodeCount}
-use Rattle.script.specs.Entries.{partOf, node, firstChild, secondChild}
-use Rattle.script.specs.Checked.{Checked}
-use Rattle.script.specs.Tree.{processOf, size}
-use Rattle.script.proofs.Views.{NodeView, aNil, anAssign, aLet, anIf, aWhile, aSequence, anEmit, aLocal, aWatching, aWhen, aParallel, node-view}
+use Rattle.layout.specs.Layout.{nameCount, nodeCount}
+use Rattle.layout.specs.Entries.{partOf, node}
+use Rattle.fields.specs.Fields.{firstChild, secondChild}
+use Rattle.reach.specs.Checked.{Checked}
+use Rattle.tree.specs.Tree.{processOf, size}
+use Rattle.tree.proofs.Views.{NodeView, aNil, anAssign, aLet, anIf, aWhile, aSequence, anEmit, aLocal, aWatching, aWhen, aParallel, node-view}
 use Rattle.plan.specs.declared.forms.Front.{Front}
 use Rattle.residual.specs.Residual.{own, firstOf, secondOf, residual}
 use Rattle.plan.specs.Forms.{gone, mover, first, second, before, watched, guarded, beside, turned, frontOf, partIn}

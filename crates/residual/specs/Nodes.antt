@@ -5,9 +5,9 @@ use Prim.Native.Nat.{ℕ, _<_}
 use lib.IntN.{ℤ}
 use lib.ListN.{length}
 use Rattle.language.specs.Syntax.{Proc}
-use Rattle.script.specs.Layout.{nameCount, nodeCount}
-use Rattle.script.specs.Tree.{processOf, size}
-use Rattle.script.specs.Checked.{Checked}
+use Rattle.layout.specs.Layout.{nameCount, nodeCount}
+use Rattle.tree.specs.Tree.{processOf, size}
+use Rattle.reach.specs.Checked.{Checked}
 use Rattle.residual.specs.Residual.{residual}
 
 -- a checked script, with a value for each name

@@ -13,7 +13,7 @@ use lib.Seq.{getD-take, getD-drop}
 use borrow.Author.Tests.{eqb-true, ne-eqb}
 use Rattle.prelude.proofs.Bools.{and-left, and-right}
 use Rattle.language.specs.Syntax.{isNil}
-use Rattle.script.specs.Entries.{partOf, node}
+use Rattle.layout.specs.Entries.{partOf, node}
 use Rattle.plan.specs.declared.forms.Front.{Front}
 use Rattle.plan.specs.Forms.{gone, mover, formOf, frontOf, partIn}
 use Rattle.plan.proofs.Fronts.{front-form}

@@ -14,7 +14,7 @@ use lib.ListN.{length}
 use lib.Seq.{take-length, drop-length}
 use borrow.Author.Tests.{eq-eqb, eqb-true}
 use Rattle.prelude.proofs.Bools.{by-cases}
-use Rattle.script.specs.Entries.{partOf, node}
+use Rattle.layout.specs.Entries.{partOf, node}
 use Rattle.plan.specs.declared.forms.Front.{Front}
 use Rattle.plan.specs.Forms.{mover, frontOf, partIn}
 use Rattle.residual.specs.Residual.{own}

@@ -11,10 +11,10 @@ use Rattle.language.specs.Syntax.{Names, Proc}
 use Rattle.language.specs.Steps.{suspended, change, instantStart}
 use Rattle.language.specs.Calls.{Ending, finished, logFull, givenBack}
 use Rattle.language.specs.Calls as calls
-use Rattle.script.specs.Layout.{nodeCount}
-use Rattle.script.specs.Checked.{Checked}
-use Rattle.script.specs.Tree.{tree}
-use Rattle.script.proofs.NodeSizes.{whole-size}
+use Rattle.layout.specs.Layout.{nodeCount}
+use Rattle.reach.specs.Checked.{Checked}
+use Rattle.tree.specs.Tree.{tree}
+use Rattle.tree.proofs.NodeSizes.{whole-size}
 use Rattle.runner.specs.declared.Ran.{Ran}
 use Rattle.moves.specs.Moves.{Running, isSuspended, Ends, gone, waits, spent, full}
 use Rattle.runner.specs.Outcome.{outcome, stopped}

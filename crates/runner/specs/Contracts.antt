@@ -10,8 +10,8 @@ use lib.ListN.{length}
 use Rattle.language.specs.Syntax.{Proc, isNil}
 use Rattle.language.specs.Steps.{present, suspended}
 use Rattle.language.specs.Calls.{Ending, finished, spent, logFull}
-use Rattle.script.specs.Entries.{partOf, node}
-use Rattle.script.specs.Tree.{tree}
+use Rattle.layout.specs.Entries.{partOf, node}
+use Rattle.tree.specs.Tree.{tree}
 use Rattle.plan.specs.declared.forms.Front.{Front}
 use Rattle.plan.specs.Forms.{mover, before, watched, guarded, frontOf, partIn}
 use Rattle.residual.specs.Residual.{own}

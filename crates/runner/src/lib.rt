@@ -3,13 +3,13 @@ mod advance; // advance.rt: a node is run as far as it goes within the instant
 
 use moves::Counts;
 use moves::Limits;
-use script::layout::Script;
+use layout::Script;
 ghost use mathlib.Core.Path.{_≡_};
 ghost use Prim.Native.Nat.{_/_, _≤_};
 ghost use lib.ListN.{length, replicate};
 ghost use Rattle.language.specs.Calls.{givenBack};
-ghost use Rattle.script.specs.Layout.{nodeCount, Laid};
-ghost use Rattle.script.specs.Tree.{namesOf};
+ghost use Rattle.layout.specs.Layout.{nodeCount, Laid};
+ghost use Rattle.tree.specs.Tree.{namesOf};
 ghost use Rattle.runner.specs.Outcome.{outcome};
 ghost use Rattle.plan.specs.Plan.{KeepsPlan};
 ghost use Rattle.moves.specs.Contracts.{mostSteps, seenIn};

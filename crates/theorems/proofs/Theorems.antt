@@ -12,7 +12,7 @@ use lib.Dec.{ltb}
 use borrow.Author.Tests.{eq-eqb, eqb-true, ltb-true}
 use Rattle.prelude.specs.Refusals.{passes}
 use Rattle.prelude.proofs.Bools.{by-cases, and-left, and-right}
-use Rattle.lattice.specs.LevelBook.{count}
+use Rattle.book.specs.LevelBook.{count}
 use Rattle.lattice.specs.Refusals as books
 use Rattle.lattice.specs.Lattice.{Lattice, bookLattice}
 use Rattle.lattice.proofs.Theorems.{book-laws}
@@ -26,12 +26,12 @@ use Rattle.language.proofs.Theorems as language
 use Rattle.report.specs.Scope.{Script}
 use Rattle.report.proofs.Starts.{begun-begins}
 use Rattle.report.proofs.Theorems as report
-use Rattle.script.specs.Layout.{nameCount}
-use Rattle.script.specs.Entries.{isSessionName}
-use Rattle.script.specs.Checked.{Checked}
+use Rattle.layout.specs.Layout.{nameCount}
+use Rattle.layout.specs.Entries.{isSessionName}
+use Rattle.reach.specs.Checked.{Checked}
 use Rattle.script.specs.Refusals as scripts
-use Rattle.script.specs.Tree.{namesOf, tree}
-use Rattle.script.proofs.Theorems.{tree-scoped, tree-named}
+use Rattle.tree.specs.Tree.{namesOf, tree}
+use Rattle.tree.proofs.Theorems.{tree-scoped, tree-named}
 use Rattle.runner.specs.Outcome.{lineWords}
 use Rattle.answers.specs.declared.Verdict.{Verdict}
 use Rattle.checker.specs.Refusals.{checkRefusal}

@@ -4,17 +4,20 @@ use mathlib.Core.Path.{refl}
 use Rattle.prelude.specs.Search.{firstFrom, first, any, all, count}
 use Rattle.prelude.specs.Course.{course, entry}
 use Rattle.prelude.specs.Table.{table}
-use Rattle.lattice.specs.Order.{leastUpper, top}
+use Rattle.order.specs.Order.{leastUpper, top}
+use Rattle.order.specs.Refusals as orders
+use Rattle.pairs.specs.Refusals as pairs
 use Rattle.lattice.specs.Refusals as books
 use Rattle.arithmetic.specs.Values.{clamped, quotient}
 use Rattle.language.specs.Syntax.{isNil}
 use Rattle.language.specs.Levels.{expLevel, writeLevel, testLevel, need}
 use Rattle.language.specs.Steps.{evaluate, value, suspended, move, change, instantStart, step}
 use Rattle.language.specs.Calls.{calledFor, givenBack, logged, run}
-use Rattle.script.specs.Uses.{used, timesUsed}
-use Rattle.script.specs.Reach.{isOutOfReach}
+use Rattle.faults.specs.Faults.{holds, faultRefusal}
+use Rattle.uses.specs.Uses.{used, timesUsed, useRefusal}
+use Rattle.reach.specs.Reach.{isOutOfReach, reachRefusal}
 use Rattle.script.specs.Refusals as scripts
-use Rattle.script.specs.Tree.{expressionOf, processOf}
+use Rattle.tree.specs.Tree.{expressionOf, processOf}
 use Rattle.runner.specs.Outcome.{words}
 use Rattle.checker.specs.Refusals.{checkRefusal}
 use Rattle.call.specs.Refusals.{valuesRefusal, callRefusal, runRefusal}
@@ -22,5 +25,5 @@ use Rattle.engine.specs.Answers.{verdict, left}
 use Rattle.theorems.specs.Examples.{PegsHold}
 
 pub pegs-hold : PegsHold
-unfolding firstFrom first any all count course entry table leastUpper top books.isFaulty books.firstFaulty books.firstLacking books.refusal clamped quotient isNil expLevel writeLevel testLevel need evaluate value suspended move change instantStart step calledFor givenBack logged run used timesUsed isOutOfReach scripts.holds scripts.joinRefusal scripts.refusal expressionOf processOf words checkRefusal valuesRefusal callRefusal runRefusal verdict left
+unfolding firstFrom first any all count course entry table leastUpper top orders.isFaulty orders.firstFaulty orders.refusal pairs.firstLacking books.refusal clamped quotient isNil expLevel writeLevel testLevel need evaluate value suspended move change instantStart step calledFor givenBack logged run used timesUsed isOutOfReach holds faultRefusal useRefusal reachRefusal scripts.entryRefusal scripts.refusal expressionOf processOf words checkRefusal valuesRefusal callRefusal runRefusal verdict left
 pegs-hold = refl

@@ -5,8 +5,8 @@ use mathlib.Core.List.{List, [], _∷_, _++_, map}
 use Prim.Native.Nat.{ℕ, _-_, _/_, _%_}
 use lib.IntN.{ℤ, pos, negsuc}
 use lib.ListN.{length, replicate}
-use Rattle.script.specs.Entries.{session}
-use Rattle.script.specs.Examples.{name, part, all, file}
+use Rattle.layout.specs.Entries.{session}
+use Rattle.layout.specs.Files.{name, part, all, file}
 use Rattle.levels.specs.Kinds.{nil, assign, ifThenElse, while, sequence, emit, watching, when, parallel}
 use Rattle.answers.specs.declared.Verdict.{Verdict}
 use Rattle.answers.specs.declared.Report.{Report}

@@ -7,7 +7,7 @@ use mathlib.Core.List.{List}
 use Prim.Native.Nat.{ℕ, _/_, _≤_, _<_}
 use lib.IntN.{ℤ}
 use lib.ListN.{length}
-use Rattle.lattice.specs.LevelBook.{count}
+use Rattle.book.specs.LevelBook.{count}
 use Rattle.lattice.specs.Lattice.{Laws, bookLattice}
 use Rattle.lattice.specs.Refusals as books
 use Rattle.language.specs.Steps.{held}
@@ -16,10 +16,10 @@ use Rattle.language.specs.Typing.{Environment, environment, Below, Typed}
 use Rattle.language.specs.Paths.{IsRun}
 use Rattle.report.specs.Configurations.{Configuration, Begins, begun}
 use Rattle.report.specs.Results.{Reported}
-use Rattle.script.specs.Layout.{nameCount}
-use Rattle.script.specs.Entries.{isSessionName}
+use Rattle.layout.specs.Layout.{nameCount}
+use Rattle.layout.specs.Entries.{isSessionName}
 use Rattle.script.specs.Refusals as scripts
-use Rattle.script.specs.Tree.{namesOf, tree}
+use Rattle.tree.specs.Tree.{namesOf, tree}
 use Rattle.engine.specs.Answers.{verdict, runOf, Left, leftBy, left}
 use Rattle.theorems.specs.Records.{recordOf, stampedUpTo}
 

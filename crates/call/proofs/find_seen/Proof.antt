@@ -5,10 +5,10 @@ use mathlib.Core.Bool.{Bool}
 use mathlib.Core.List.{List}
 use Prim.Native.Nat.{ℕ, _-_, _≤_, _<_}
 use native.Mathlib.Omega.{arith}
-use Rattle.lattice.specs.LevelBook.{atOrBelow}
-use Rattle.script.specs.Layout.{mostNames, nameCount}
-use Rattle.script.specs.Entries.{nameOf}
-use Rattle.script.proofs.Layouts.{few-bounds, names-are}
+use Rattle.book.specs.LevelBook.{atOrBelow}
+use Rattle.layout.specs.Layout.{mostNames, nameCount}
+use Rattle.layout.specs.Entries.{nameOf}
+use Rattle.layout.proofs.Layouts.{few-bounds, names-are}
 use Rattle.call.proofs.Marking.{Marked, marked-none, marked-set, marked-left}
 use borrow.Author.Needs.{needs}
 use Rattle.call.proofs.find_seen.Statement.{statement}

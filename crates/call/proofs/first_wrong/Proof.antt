@@ -5,7 +5,7 @@ use Prim.Native.Nat.{_-_, _≤_}
 use native.Mathlib.Omega.{arith}
 use borrow.Author.Count.{below-none, below-more}
 use Rattle.prelude.proofs.Searches.{NoneBelow, past, first-is, first-none}
-use Rattle.script.proofs.Layouts.{names-are}
+use Rattle.layout.proofs.Layouts.{names-are}
 use Rattle.call.specs.Refusals.{valueIsRight}
 use borrow.Author.Needs.{needs}
 use Rattle.call.proofs.first_wrong.Statement.{statement}

@@ -15,9 +15,9 @@ use Rattle.prelude.proofs.Bools.{and-intro, or-first, or-true}
 use Rattle.arithmetic.specs.Values.{sameValue}
 use Rattle.language.specs.Steps.{held}
 use Rattle.arithmetic.proofs.Signed.{same-by-bits, other-by-bits}
-use Rattle.script.specs.declared.entries.Name.{Name}
-use Rattle.script.specs.Entries.{nameOf, session, isSession}
-use Rattle.script.specs.Tree.{namesOf}
+use Rattle.layout.specs.declared.entries.Name.{Name}
+use Rattle.layout.specs.Entries.{nameOf, session, isSession}
+use Rattle.tree.specs.Tree.{namesOf}
 use Rattle.call.specs.Refusals.{valueIsRight}
 use borrow.Author.Needs.{needs}
 use Rattle.call.proofs.value_is_right.Statement.{statement}

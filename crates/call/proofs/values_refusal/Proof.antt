@@ -9,9 +9,9 @@ use lib.IntN.{ℤ}
 use lib.ListN.{length}
 use borrow.Author.Tests.{lt-ltb, le-ltb, eq-eqb, ne-eqb}
 use Rattle.prelude.specs.Refusals.{refusedBy, notRefused}
-use Rattle.script.specs.declared.layout.Script.{Script}
-use Rattle.script.specs.Layout.{nameCount, Laid}
-use Rattle.script.proofs.Layouts.{few-bounds, names-are}
+use Rattle.layout.specs.declared.Script.{Script}
+use Rattle.layout.specs.Layout.{nameCount, Laid}
+use Rattle.layout.proofs.Layouts.{few-bounds, names-are}
 use Rattle.call.specs.Refusals.{firstWrong, valuesRefusal}
 use borrow.Author.Needs.{needs, fits-under}
 use Rattle.call.proofs.values_refusal.Statement.{statement}

@@ -4,10 +4,11 @@ use mathlib.Core.Bool.{true, cond}
 use borrow.Author.Tests.{eq-eqb, ne-eqb}
 use denote.Ref.{now}
 use Rattle.prelude.specs.Refusals.{passes}
-use Rattle.lattice.specs.declared.Loaded.{Loaded}
+use Rattle.book.specs.declared.Loaded.{Loaded}
 use Rattle.lattice.specs.Refusals as books
-use Rattle.lattice.specs.Load.{noBook, bookOf, loaded}
-use Rattle.lattice.proofs.Loads.{new-square}
+use Rattle.book.specs.Load.{noBook, bookOf}
+use Rattle.lattice.specs.Load.{loaded}
+use Rattle.pairs.proofs.Stores.{new-square}
 use Rattle.flow.proofs.Theorems.{callers-ready}
 use Rattle.checker.specs.Contracts.{Prepares}
 use Rattle.checker.proofs.Preparing.{refused-by, by-book, book-prepares}

@@ -6,11 +6,11 @@ use borrow.Author.Tests.{eq-eqb, ne-eqb}
 use denote.Ref.{now}
 use Rattle.prelude.specs.Refusals.{passes}
 use Rattle.script.specs.declared.Loaded.{Loaded}
-use Rattle.script.specs.Layout.{Laid}
+use Rattle.layout.specs.Layout.{Laid}
 use Rattle.script.specs.Refusals as files
 use Rattle.script.specs.Load.{loaded}
-use Rattle.script.specs.Checked.{Checked, Levelled}
-use Rattle.script.proofs.Layouts.{few-bounds, nodes-are}
+use Rattle.reach.specs.Checked.{Checked, Levelled}
+use Rattle.layout.proofs.Layouts.{few-bounds, nodes-are}
 use Rattle.script.proofs.Theorems.{loaded-checked}
 use Rattle.flow.specs.Flow.{lattice, levelsOf}
 use Rattle.checker.specs.Contracts.{Prepares}

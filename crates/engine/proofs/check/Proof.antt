@@ -6,7 +6,7 @@ use Prim.Native.Nat.{ℕ}
 use native.Mathlib.Omega.{arith}
 use Rattle.prelude.specs.Refusals.{passes}
 use Rattle.lattice.specs.Lattice.{bookLattice}
-use Rattle.lattice.specs.Load.{bookOf}
+use Rattle.book.specs.Load.{bookOf}
 use Rattle.checker.specs.declared.Prepared.{Prepared}
 use Rattle.checker.specs.Refusals.{checkRefusal}
 use Rattle.checker.specs.Contracts.{Prepares}

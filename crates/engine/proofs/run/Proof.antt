@@ -6,18 +6,18 @@ use native.Mathlib.Omega.{arith}
 use denote.Ref.{now}
 use borrow.Author.Tests.{eq-eqb, ne-eqb}
 use Rattle.prelude.specs.Refusals.{passes}
-use Rattle.lattice.specs.declared.book.Book.{Book}
-use Rattle.lattice.specs.LevelBook.{count, atOrBelow}
-use Rattle.lattice.specs.Load.{bookOf}
+use Rattle.book.specs.declared.Book.{Book}
+use Rattle.book.specs.LevelBook.{count, atOrBelow}
+use Rattle.book.specs.Load.{bookOf}
 use Rattle.lattice.specs.Lattice.{bookLattice}
 use Rattle.lattice.proofs.Passing.{passing}
-use Rattle.lattice.proofs.Sizes.{few-read}
+use Rattle.book.proofs.Sizes.{few-read}
 use Rattle.lattice.proofs.Theorems.{order-at}
 use Rattle.language.specs.Calls.{readable}
-use Rattle.script.specs.Layout.{nameCount, Laid}
-use Rattle.script.specs.Entries.{nameOf}
-use Rattle.script.specs.Checked.{Checked, Levelled}
-use Rattle.script.specs.Tree.{namesOf}
+use Rattle.layout.specs.Layout.{nameCount, Laid}
+use Rattle.layout.specs.Entries.{nameOf}
+use Rattle.reach.specs.Checked.{Checked, Levelled}
+use Rattle.tree.specs.Tree.{namesOf}
 use Rattle.script.proofs.Theorems.{accepted-exactly}
 use Rattle.runner.specs.Contracts.{seenIn}
 use Rattle.checker.specs.Refusals.{checkRefusal}

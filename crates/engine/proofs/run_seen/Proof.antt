@@ -4,7 +4,7 @@ use Prim.Native.Nat.{ℕ, _-_, _≤_, zero-le}
 use native.Mathlib.Omega.{arith}
 use native.Mathlib.Nat.{sub-zero}
 use lib.ListN.{length, take, replicate}
-use Rattle.script.proofs.Layouts.{few-bounds, names-are, nodes-are}
+use Rattle.layout.proofs.Layouts.{few-bounds, names-are, nodes-are}
 use Rattle.runner.proofs.Residuals.{take-zeros}
 use borrow.Author.Needs.{needs}
 use Rattle.engine.proofs.run_seen.Statement.{statement}

@@ -5,13 +5,13 @@ use Prim.Native.Nat.{ℕ, _+_, _*_, _<_}
 use native.Mathlib.Omega.{arith}
 use lib.IntN.{ℤ}
 use lib.ListN.{getD}
-use Rattle.language.specs.Values.{negation}
+use Rattle.arithmetic.specs.Values.{negation}
 use Rattle.language.specs.Steps.{value}
-use Rattle.language.proofs.Bits.{given-back}
-use Rattle.script.specs.Layout.{layoutOf, expressionCount}
-use Rattle.script.specs.Tree.{expressionOf}
-use Rattle.script.specs.Checked.{Checked}
-use Rattle.script.proofs.Layouts.{few-bounds, expressions-are}
+use Rattle.arithmetic.proofs.Bits.{given-back}
+use Rattle.layout.specs.Layout.{layoutOf, expressionCount}
+use Rattle.tree.specs.Tree.{expressionOf}
+use Rattle.reach.specs.Checked.{Checked}
+use Rattle.layout.proofs.Layouts.{few-bounds, expressions-are}
 use Rattle.plan.specs.Plan.{kindIn, operandIn, laterIn, KeepsPlan}
 use Rattle.evaluation.specs.Evaluation.{applied, Evaluable}
 use Rattle.evaluation.proofs.Evaluating.{Tells, word-tells}
@@ -24,7 +24,7 @@ use Rattle.evaluation.proofs.+operand+value_of.Lts-operand as operand-l
 use Rattle.evaluation.proofs.value_of.Reads as value-of
 use Rattle.evaluation.proofs.value_of.Kinds as value-of-kinds
 use Rattle.evaluation.proofs.+operand+value_of.Lts-value_of as value-of-lts
-use Rattle.language.proofs.arithmetic.not.Reads as not-reads
+use Rattle.arithmetic.proofs.not.Reads as not-reads
 use Rattle.evaluation.proofs.leaf_value.Reads as leaf-value-reads
 use Rattle.evaluation.proofs.operate.Reads as operate-reads
 use Rattle.plan.proofs.words.kind_in.Reads as kind-in-reads

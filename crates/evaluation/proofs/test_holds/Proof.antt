@@ -1,7 +1,7 @@
 -- `test_holds`: a value is 0 where its bits are.
 use mathlib.Core.Path.{ap, _∙_}
-use Rattle.language.specs.Values.{holds}
-use Rattle.language.proofs.Bits.{test-by-bits}
+use Rattle.arithmetic.specs.Values.{holds}
+use Rattle.arithmetic.proofs.Bits.{test-by-bits}
 use Rattle.evaluation.proofs.test_holds.Statement.{statement}
 use Rattle.evaluation.proofs.test_holds.Tie as tie
 

@@ -3,9 +3,9 @@ use mathlib.Core.Path.{refl, ap, subst}
 use mathlib.Core.List.{List}
 use Prim.Native.Nat.{ℕ, _-_}
 use native.Mathlib.Omega.{arith}
-use Rattle.script.specs.Layout.{nodeCount}
-use Rattle.script.specs.Checked.{Checked}
-use Rattle.script.proofs.Layouts.{few-bounds, nodes-are}
+use Rattle.layout.specs.Layout.{nodeCount}
+use Rattle.reach.specs.Checked.{Checked}
+use Rattle.layout.proofs.Layouts.{few-bounds, nodes-are}
 use Rattle.levels.specs.declared.Flow.{Flow}
 use Rattle.flow.specs.Flow.{Levels, lattice, levelsOf, Walks, FlowAt, FlowOf}
 use Rattle.flow.proofs.Everywhere.{failing-first}

@@ -10,8 +10,8 @@ use lib.ListN.{length}
 use borrow.Author.Tests.{eq-eqb, ne-eqb}
 use Rattle.language.specs.Steps.{held}
 use Rattle.language.specs.Calls.{givenBack}
-use Rattle.script.specs.Entries.{session, isSession}
-use Rattle.script.proofs.Layouts.{names-are}
+use Rattle.layout.specs.Entries.{session, isSession}
+use Rattle.layout.proofs.Layouts.{names-are}
 use Rattle.instants.proofs.Clearing.{Renewed, renewed-none, renewed-set, renewed-kept, renewed-all}
 use borrow.Author.Needs.{needs}
 use Rattle.instants.proofs.clear_owned.Statement.{statement}

@@ -9,8 +9,8 @@ use lib.IntN.{pos}
 use lib.ListN.{length}
 use borrow.Author.Tests.{eq-eqb, ne-eqb}
 use Rattle.language.specs.Steps.{held, instantStart}
-use Rattle.script.specs.Entries.{nameOf}
-use Rattle.script.proofs.Layouts.{names-are}
+use Rattle.layout.specs.Entries.{nameOf}
+use Rattle.layout.proofs.Layouts.{names-are}
 use Rattle.instants.proofs.Clearing.{Renewed, renewed-none, renewed-set, renewed-kept, renewed-all}
 use borrow.Author.Needs.{needs}
 use Rattle.instants.proofs.clear_signals.Statement.{statement}

@@ -5,8 +5,8 @@ use native.Mathlib.Omega.{arith}
 use borrow.Author.Count.{below-none, below-more}
 use lib.ListN.{length}
 use Rattle.prelude.proofs.Searches.{NoneBelow, past, any-some, any-none}
-use Rattle.script.specs.Tree.{namesOf}
-use Rattle.script.proofs.Layouts.{names-are}
+use Rattle.tree.specs.Tree.{namesOf}
+use Rattle.layout.proofs.Layouts.{names-are}
 use Rattle.instants.specs.Contracts.{isPresentSignal}
 use borrow.Author.Needs.{needs}
 use Rattle.instants.proofs.some_signal_present.Statement.{statement}

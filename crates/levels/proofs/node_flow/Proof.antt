@@ -6,8 +6,8 @@ use mathlib.Core.Logic.{_⊎_, inl, inr, ⊎-elim}
 use Prim.Native.Nat.{ℕ, _<_}
 use Rattle.prelude.specs.Search.{lesser}
 use Rattle.prelude.proofs.Bools.{by-cases, and-intro, and-second}
-use Rattle.lattice.specs.LevelBook.{mostLevels, atOrBelow}
-use Rattle.lattice.specs.Bounds.{kept}
+use Rattle.book.specs.LevelBook.{mostLevels, atOrBelow}
+use Rattle.pairs.specs.Bounds.{kept}
 use Rattle.levels.specs.declared.Flow.{Flow}
 use Rattle.levels.specs.declared.Own.{Own}
 use Rattle.levels.specs.Kinds.{hasWrite}

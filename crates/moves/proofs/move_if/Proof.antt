@@ -2,8 +2,8 @@
 use mathlib.Core.Path.{_≡_, sym, ap, _∙_}
 use native.Mathlib.Omega.{arith}
 use Rattle.language.specs.Steps.{test}
-use Rattle.script.specs.Entries.{partOf, node}
-use Rattle.script.specs.Tree.{expressionOf}
+use Rattle.layout.specs.Entries.{partOf, node}
+use Rattle.tree.specs.Tree.{expressionOf}
 use Rattle.residual.proofs.Residuals.{some-bytes}
 use Rattle.moves.proofs.Movers.{known, few-expressions, then-moves, else-moves}
 use borrow.Author.Needs.{needs}

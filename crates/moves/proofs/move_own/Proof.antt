@@ -9,8 +9,8 @@ use mir.Syntax.{w32}
 use mir.Facts.{toZ-ofZ}
 use lib.ListN.{length}
 use borrow.Author.Tests.{eqb-true, eqb-false}
-use Rattle.script.specs.Layout.{nameCount}
-use Rattle.script.specs.Entries.{partOf, node}
+use Rattle.layout.specs.Layout.{nameCount}
+use Rattle.layout.specs.Entries.{partOf, node}
 use Rattle.residual.specs.Residual.{own}
 use Rattle.residual.proofs.Residuals.{some-bytes}
 use Rattle.residual.proofs.Sights.{Mover, sight}

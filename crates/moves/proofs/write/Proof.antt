@@ -8,7 +8,7 @@ use lib.ListN.{length}
 use denote.Ref.{now}
 use borrow.Author.Tests.{not-true, not-false}
 use mir.Facts.{toZ-ofZ}
-use Rattle.script.specs.Tree.{processOf}
+use Rattle.tree.specs.Tree.{processOf}
 use Rattle.moves.specs.Contracts.{seenIn, lineOf, runningAt, Notes, Advances}
 use Rattle.moves.specs.Moves.{isFull}
 use Rattle.residual.proofs.Residuals.{nil-at-four, some-bytes, own-set-at}

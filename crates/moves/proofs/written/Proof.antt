@@ -4,7 +4,7 @@ use mathlib.Core.Logic.{⊎-elim}
 use native.Mathlib.Omega.{arith}
 use mir.Syntax.{w32}
 use mir.Facts.{toZ-ofZ}
-use Rattle.script.specs.Entries.{partOf, node}
+use Rattle.layout.specs.Entries.{partOf, node}
 use Rattle.moves.proofs.Movers.{known, few-expressions, assign-writes, emit-writes}
 use Rattle.moves.proofs.written.Statement.{statement}
 use Rattle.moves.proofs.written.Tie as tie

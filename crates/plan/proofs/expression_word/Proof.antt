@@ -2,8 +2,8 @@
 use mathlib.Core.Path.{ap}
 use Prim.Native.Nat.{_+_, _<_}
 use native.Mathlib.Omega.{arith}
-use Rattle.script.specs.Entries.{partAt}
-use Rattle.script.proofs.Values.{word-fits}
+use Rattle.layout.specs.Entries.{partAt}
+use Rattle.layout.proofs.Values.{word-fits}
 use Rattle.plan.proofs.Plans.{spells-constant, spells}
 use borrow.Author.Needs.{needs}
 use Rattle.plan.proofs.expression_word.Statement.{statement}

@@ -4,8 +4,8 @@ use Prim.Native.Nat.{_-_, _≤_, _<_}
 use native.Mathlib.Omega.{arith}
 use lib.ListN.{length, length-set}
 use borrow.Author.Count.{below-none}
-use Rattle.script.specs.Layout.{mostParts}
-use Rattle.script.proofs.Layouts.{few-bounds, expressions-are}
+use Rattle.layout.specs.Layout.{mostParts}
+use Rattle.layout.proofs.Layouts.{few-bounds, expressions-are}
 use Rattle.plan.specs.Plan.{KeepsExpressions}
 use Rattle.plan.proofs.Plans.{expressions-more}
 use borrow.Author.Needs.{needs, fits-under}

@@ -4,8 +4,8 @@ use Prim.Native.Nat.{_+_, _-_, _≤_, _<_}
 use native.Mathlib.Omega.{arith}
 use lib.ListN.{length, length-set}
 use borrow.Author.Count.{below-none}
-use Rattle.script.specs.Layout.{mostExpressions, mostParts, expressionCount}
-use Rattle.script.proofs.Layouts.{few-bounds, expressions-are, nodes-are}
+use Rattle.layout.specs.Layout.{mostExpressions, mostParts, expressionCount}
+use Rattle.layout.proofs.Layouts.{few-bounds, expressions-are, nodes-are}
 use Rattle.plan.specs.Plan.{KeepsExpressions, KeepsNodes}
 use Rattle.plan.proofs.Plans.{nodes-more, expressions-kept}
 use borrow.Author.Needs.{needs, fits-under}

@@ -2,11 +2,12 @@
 use mathlib.Core.Path.{_≡_, sym, ap, _∙_, subst}
 use Prim.Native.Nat.{_+_, _<_}
 use native.Mathlib.Omega.{arith}
-use Rattle.script.specs.declared.entries.Part.{Part}
-use Rattle.script.specs.Entries.{partOf, node, firstChild, secondChild}
-use Rattle.script.specs.Tree.{processOf, size}
-use Rattle.script.proofs.Layouts.{few-bounds, nodes-are}
-use Rattle.script.proofs.NodeSizes.{size-within}
+use Rattle.layout.specs.declared.entries.Part.{Part}
+use Rattle.layout.specs.Entries.{partOf, node}
+use Rattle.fields.specs.Fields.{firstChild, secondChild}
+use Rattle.tree.specs.Tree.{processOf, size}
+use Rattle.layout.proofs.Layouts.{few-bounds, nodes-are}
+use Rattle.tree.proofs.NodeSizes.{size-within}
 use Rattle.plan.proofs.Reading.{node-read}
 use Rattle.plan.proofs.Fronts.{kind-known}
 use Rattle.plan.proofs.Plans.{forms-fit, planned}

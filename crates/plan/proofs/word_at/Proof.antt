@@ -1,8 +1,8 @@
 -- `word_at`: the plan keeps it.
 use Prim.Native.Nat.{_<_}
 use native.Mathlib.Omega.{arith}
-use Rattle.script.specs.Layout.{layoutOf}
-use Rattle.script.proofs.Layouts.{few-bounds, nodes-are}
+use Rattle.layout.specs.Layout.{layoutOf}
+use Rattle.layout.proofs.Layouts.{few-bounds, nodes-are}
 use Rattle.plan.proofs.word_at.Statement.{statement}
 use Rattle.plan.proofs.word_at.Tie as tie
 

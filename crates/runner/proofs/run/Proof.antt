@@ -11,12 +11,12 @@ use denote.Ref.{now}
 use lib.ListN.{length, length-replicate}
 use Rattle.language.specs.Syntax.{Proc}
 use Rattle.language.specs.Scope.{Scoped}
-use Rattle.script.specs.Layout.{nodeCount}
-use Rattle.script.specs.Entries.{isSession}
-use Rattle.script.specs.Tree.{namesOf, processOf, size}
-use Rattle.script.proofs.Layouts.{few-bounds, nodes-are}
-use Rattle.script.proofs.NodeSizes.{whole-size}
-use Rattle.script.proofs.Scoping.{tree-scoped}
+use Rattle.layout.specs.Layout.{nodeCount}
+use Rattle.layout.specs.Entries.{isSession}
+use Rattle.tree.specs.Tree.{namesOf, processOf, size}
+use Rattle.layout.proofs.Layouts.{few-bounds, nodes-are}
+use Rattle.tree.proofs.NodeSizes.{whole-size}
+use Rattle.tree.proofs.Scoping.{tree-scoped}
 use Rattle.moves.specs.Moves.{waits}
 use Rattle.runner.specs.Outcome.{outcome}
 use Rattle.residual.specs.Nodes.{At}

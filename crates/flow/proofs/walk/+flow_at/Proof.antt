@@ -2,12 +2,12 @@
 use mathlib.Core.Path.{sym, ap, _∙_, subst}
 use native.Mathlib.Omega.{arith}
 use borrow.Author.Needs.{fits-under}
-use Rattle.lattice.specs.LevelBook.{atOrBelow}
-use Rattle.lattice.specs.Bounds.{kept}
-use Rattle.script.specs.Roles.{nodeKinds}
-use Rattle.script.specs.Layout.{Laid}
-use Rattle.script.specs.Entries.{partOf}
-use Rattle.script.proofs.Layouts.{few-bounds, expressions-are, nodes-are}
+use Rattle.book.specs.LevelBook.{atOrBelow}
+use Rattle.pairs.specs.Bounds.{kept}
+use Rattle.fields.specs.Roles.{nodeKinds}
+use Rattle.layout.specs.Layout.{Laid}
+use Rattle.layout.specs.Entries.{partOf}
+use Rattle.layout.proofs.Layouts.{few-bounds, expressions-are, nodes-are}
 use Rattle.levels.specs.Nodes.{bothFrom, pairNeed}
 use Rattle.flow.specs.Flow.{Levels, Walks, IsNodeAt}
 use Rattle.flow.proofs.BookLevels.{flow-index}
@@ -24,8 +24,8 @@ use Rattle.flow.proofs.kinds.child_count.Reads as child-count-reads
 use Rattle.levels.proofs.node_flow.Reads as node-flow-reads
 use Rattle.flow.proofs.own.own_levels.Reads as own-levels-reads
 use Rattle.levels.proofs.pair_flow.Reads as pair-flow-reads
-use Rattle.script.proofs.children.children_of.Reads as children-of-reads
-use Rattle.script.proofs.entries.part_at.Reads as part-at-reads
+use Rattle.fields.proofs.children.children_of.Reads as children-of-reads
+use Rattle.layout.proofs.entries.part_at.Reads as part-at-reads
 use Rattle.flow.proofs.walk.+flow_at.{statement}
 use Rattle.flow.proofs.walk.+flow_at.Tie.{close}
 

@@ -7,11 +7,12 @@ use lib.Dec.{eqb}
 use lib.ListN.{getD}
 use borrow.Author.Tests.{eq-eqb, ne-eqb}
 use Rattle.prelude.proofs.Bools.{or-first, or-true}
-use Rattle.script.specs.Layout.{mostExpressions, layoutOf}
-use Rattle.script.specs.Entries.{partOf, node, firstChild}
-use Rattle.script.specs.Tree.{processOf, size}
-use Rattle.script.proofs.Layouts.{few-bounds, nodes-are}
-use Rattle.script.proofs.NodeSizes.{size-within}
+use Rattle.layout.specs.Layout.{mostExpressions, layoutOf}
+use Rattle.layout.specs.Entries.{partOf, node}
+use Rattle.fields.specs.Fields.{firstChild}
+use Rattle.tree.specs.Tree.{processOf, size}
+use Rattle.layout.proofs.Layouts.{few-bounds, nodes-are}
+use Rattle.tree.proofs.NodeSizes.{size-within}
 use Rattle.plan.specs.Forms.{mover, second, turned, formOf}
 use Rattle.plan.specs.Plan.{formIn, Planned}
 use Rattle.plan.proofs.Fronts.{form-past, kind-known, child-known, second-known, front-none, front-second, front-first}

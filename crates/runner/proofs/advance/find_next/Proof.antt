@@ -7,7 +7,7 @@ use native.Mathlib.Omega.{arith}
 use lib.ListN.{getD}
 use borrow.Author.Tests.{not-true, not-false}
 use Rattle.language.specs.Steps.{present}
-use Rattle.script.specs.Entries.{partOf, node}
+use Rattle.layout.specs.Entries.{partOf, node}
 use Rattle.plan.specs.declared.forms.Front.{Front}
 use Rattle.plan.specs.Forms.{mover, guarded}
 use Rattle.residual.proofs.Residuals.{some-bytes}
