@@ -10,7 +10,7 @@ use lib.Dec.{eqb}
 use lib.ListN.{length, set, length-set, replicate, length-replicate, getD-replicate}
 use lib.Seq.{getD-set-same, getD-set-other}
 use borrow.Author.Count.{below-none, below-more}
-use Rattle.runner.specs.Contracts.{seenIn}
+use Rattle.moves.specs.Contracts.{seenIn}
 
 -- a table of length n
 pub record Marked (f : ℕ → Bool) (n x : ℕ) (seen : List ℕ) : Type 0 where

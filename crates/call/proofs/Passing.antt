@@ -19,7 +19,7 @@ use Rattle.arithmetic.proofs.Signed.{same-is}
 use Rattle.language.specs.Steps.{held}
 use Rattle.layout.specs.Layout.{nameCount}
 use Rattle.tree.specs.Tree.{namesOf}
-use Rattle.runner.specs.Contracts.{mostSteps}
+use Rattle.moves.specs.Contracts.{mostSteps}
 use Rattle.checker.specs.Refusals.{checkRefusal}
 use Rattle.checker.proofs.Rows.{found-passes, passes-test, passes-both}
 use Rattle.checker.proofs.Passing.{Accepted, accepted}

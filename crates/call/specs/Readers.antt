@@ -6,7 +6,7 @@ use Rattle.book.specs.declared.Book.{Book}
 use Rattle.book.specs.LevelBook.{atOrBelow}
 use Rattle.layout.specs.Layout.{nameCount}
 use Rattle.layout.specs.Entries.{nameOf}
-use Rattle.runner.specs.Contracts.{seenIn}
+use Rattle.moves.specs.Contracts.{seenIn}
 
 -- a table that has 1 for each name that the reader sees
 abbrev pub Sees : Book → List ℕ → ℕ → List ℕ → Type 0

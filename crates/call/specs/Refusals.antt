@@ -14,7 +14,7 @@ use Rattle.arithmetic.specs.Values.{sameValue}
 use Rattle.language.specs.Steps.{held}
 use Rattle.layout.specs.Layout.{nameCount}
 use Rattle.tree.specs.Tree.{namesOf}
-use Rattle.runner.specs.Contracts.{mostSteps}
+use Rattle.moves.specs.Contracts.{mostSteps}
 use Rattle.checker.specs.Refusals.{orElse, checkRefusal}
 
 -- 'values (one signed 32-bit number per name: signals 0 or 1, owned names 0)'

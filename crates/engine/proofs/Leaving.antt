@@ -19,7 +19,8 @@ use Rattle.reach.specs.Checked.{Checked}
 use Rattle.tree.specs.Tree.{namesOf, tree}
 use Rattle.runner.specs.declared.Ran.{Ran}
 use Rattle.runner.specs.Outcome.{outcome, recorded}
-use Rattle.runner.specs.Contracts.{seenIn, starting, Gives}
+use Rattle.moves.specs.Contracts.{seenIn}
+use Rattle.runner.specs.Contracts.{starting, Gives}
 use Rattle.runner.proofs.Outcomes.{written-is}
 use Rattle.checker.specs.Refusals.{checkRefusal}
 use Rattle.call.specs.Refusals.{callRefusal, runRefusal}

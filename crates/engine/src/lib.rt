@@ -12,7 +12,9 @@ ghost use Prim.Native.Nat.{_/_, _≤_};
 ghost use lib.ListN.{length};
 ghost use Rattle.tree.specs.Tree.{namesOf};
 ghost use Rattle.runner.specs.Outcome.{outcome};
-ghost use Rattle.runner.specs.Contracts.{mostSteps, Valued, seenIn, starting, Gives};
+ghost use Rattle.moves.specs.Contracts.{mostSteps, seenIn};
+ghost use Rattle.residual.specs.Nodes.{Valued};
+ghost use Rattle.runner.specs.Contracts.{starting, Gives};
 ghost use Rattle.engine.specs.Answers.{verdict, left};
 
 // Checks a script under a book.
@@ -40,7 +42,7 @@ fn run_seen(
     requires { ⌜ Valued (now s) c (now values) × (limit ≤ mostSteps) ⌝ }
     ensures { λ r. ⌜ Gives (outcome (namesOf (now (s .entry))) (seenIn seen) limit (length (now (log .entry)) / 4) (starting (now (s .entry)) (now (values .entry)) (now (log .entry)))) r (now (values .exit)) (now (log .exit)) ⌝ }
 {
-    let plan = runner::plan::find_plan(s, c);
+    let plan = plan::find_plan(s, c);
     let mut state = [0u8; Script::MAX_NODES];
     let n = c.nodes;
     runner::run(s, c, &plan, &seen, values, &mut state[0..n], log, limit)

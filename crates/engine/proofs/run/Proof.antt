@@ -19,7 +19,7 @@ use Rattle.layout.specs.Entries.{nameOf}
 use Rattle.reach.specs.Checked.{Checked, Levelled}
 use Rattle.tree.specs.Tree.{namesOf}
 use Rattle.script.proofs.Theorems.{accepted-exactly}
-use Rattle.runner.specs.Contracts.{seenIn}
+use Rattle.moves.specs.Contracts.{seenIn}
 use Rattle.checker.specs.Refusals.{checkRefusal}
 use Rattle.checker.proofs.Passing.{Accepted, accepted}
 use Rattle.call.specs.Refusals.{callRefusal, runRefusal}

@@ -5,7 +5,7 @@ use native.Mathlib.Omega.{arith}
 use native.Mathlib.Nat.{sub-zero}
 use lib.ListN.{length, take, replicate}
 use Rattle.layout.proofs.Layouts.{few-bounds, names-are, nodes-are}
-use Rattle.runner.proofs.Residuals.{take-zeros}
+use Rattle.residual.proofs.Residuals.{take-zeros}
 use borrow.Author.Needs.{needs}
 use Rattle.engine.proofs.run_seen.Statement.{statement}
 use Rattle.engine.proofs.run_seen.Tie as tie
