@@ -21,7 +21,8 @@ use Rattle.layout.specs.Layout.{nameCount}
 use Rattle.tree.specs.Tree.{namesOf}
 use Rattle.moves.specs.Contracts.{mostSteps}
 use Rattle.checker.specs.Refusals.{checkRefusal}
-use Rattle.checker.proofs.Rows.{found-passes, passes-test, passes-both}
+use Rattle.prelude.proofs.Refusing.{passes-test, passes-both}
+use Rattle.checker.proofs.Rows.{found-passes}
 use Rattle.checker.proofs.Passing.{Accepted, accepted}
 use Rattle.call.specs.Refusals.{valueIsRight, firstWrong, valuesRefusal, callRefusal, runRefusal}
 
@@ -44,7 +45,7 @@ module _ (s : List ℕ) (values : List ℤ) where
   started h =
       let n : ℕ = nameCount s in
       let w : ℕ = firstWrong s values in
-      let t = passes-test 13 0 refl (eqb (length values) n) _ h in
+      let t = passes-test (eqb (length values) n) (refusedBy 13 0) _ refl h in
       let named : length values ≡ n = eqb-true _ _ (t .0) in
       let none : w ≡ n = eqb-true w n (sym (found-passes 13 w refl w n (first-within _ n)) ∙ t .1) in
       let past : (x : ℕ) → n ≤ x → held values x ≡ pos 0 =
@@ -66,7 +67,7 @@ pub run-accepted :
 unfolding runRefusal callRefusal
 run-accepted b s reader values limit h =
     let one = passes-both (checkRefusal b s) (callRefusal (count b) s reader values limit) h in
-    let two = passes-test 12 0 refl (ltb reader (count b)) _ (one .1) in
+    let two = passes-test (ltb reader (count b)) (refusedBy 12 0) _ refl (one .1) in
     (accepted b s (one .0), started s values (passes-both (valuesRefusal s values) _ (two .1) .0))
 
 -- rows 12 and 14
@@ -76,7 +77,7 @@ pub run-bounds :
 unfolding runRefusal callRefusal
 run-bounds b s reader values limit h =
     let one = passes-both (checkRefusal b s) (callRefusal (count b) s reader values limit) h in
-    let two = passes-test 12 0 refl (ltb reader (count b)) _ (one .1) in
+    let two = passes-test (ltb reader (count b)) (refusedBy 12 0) _ refl (one .1) in
     let last = passes-both (valuesRefusal s values) _ (two .1) .1 in
     (ltb-true reader (count b) (two .0), in-limit (ltb mostSteps limit) refl last)
   where

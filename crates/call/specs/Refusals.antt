@@ -8,14 +8,14 @@ use lib.IntN.{ℤ, pos}
 use lib.ListN.{length}
 use Rattle.prelude.specs.declared.Refusal.{Refusal}
 use Rattle.prelude.specs.Search.{first}
-use Rattle.prelude.specs.Refusals.{refusedBy, notRefused, passes}
+use Rattle.prelude.specs.Refusals.{refusedBy, notRefused, passes, orElse}
 use Rattle.book.specs.LevelBook.{count}
 use Rattle.arithmetic.specs.Values.{sameValue}
 use Rattle.language.specs.Steps.{held}
 use Rattle.layout.specs.Layout.{nameCount}
 use Rattle.tree.specs.Tree.{namesOf}
 use Rattle.moves.specs.Contracts.{mostSteps}
-use Rattle.checker.specs.Refusals.{orElse, checkRefusal}
+use Rattle.checker.specs.Refusals.{checkRefusal}
 
 -- 'values (one signed 32-bit number per name: signals 0 or 1, owned names 0)'
 abbrev pub valueIsRight : List ℕ → List ℤ → ℕ → Bool

@@ -4,7 +4,8 @@ use mathlib.Core.Path.{_≡_, refl, sym, _∙_}
 use mathlib.Core.Bool.{true}
 use mathlib.Core.List.{List}
 use Prim.Native.Nat.{ℕ}
-use Rattle.prelude.specs.Refusals.{passes}
+use Rattle.prelude.specs.Refusals.{passes, orElse}
+use Rattle.prelude.proofs.Refusing.{passes-both, both-pass}
 use Rattle.prelude.proofs.Searches.{first-within}
 use Rattle.book.specs.LevelBook.{count}
 use Rattle.lattice.specs.Refusals as books
@@ -17,8 +18,8 @@ use Rattle.tree.specs.Tree.{namesOf, tree}
 use Rattle.script.proofs.Theorems.{accepted-exactly}
 use Rattle.flow.specs.Flow.{firstFailing}
 use Rattle.flow.proofs.Theorems.{needs-everywhere}
-use Rattle.checker.specs.Refusals.{orElse, flowRefusal, checkRefusal}
-use Rattle.checker.proofs.Rows.{found-passes, passes-both, both-pass}
+use Rattle.checker.specs.Refusals.{flowRefusal, checkRefusal}
+use Rattle.checker.proofs.Rows.{found-passes}
 
 module _ (b s : List ℕ) where
   -- what rows 1 to 11 leave

@@ -10,6 +10,7 @@ use layout::Script;
 ghost use mathlib.Core.Path.{_≡_};
 ghost use Prim.Native.Nat.{_/_, _≤_};
 ghost use lib.ListN.{length};
+ghost use Rattle.layout.specs.Layout.{Laid};
 ghost use Rattle.tree.specs.Tree.{namesOf};
 ghost use Rattle.runner.specs.Outcome.{outcome};
 ghost use Rattle.moves.specs.Contracts.{mostSteps, seenIn};
@@ -39,7 +40,7 @@ fn run_seen(
     limit: u32,
     log: &mut [u32],
 ) -> Ran
-    requires { ⌜ Valued (now s) c (now values) × (limit ≤ mostSteps) ⌝ }
+    requires { ⌜ Laid (now s) c × (Valued (now s) (now values) × (limit ≤ mostSteps)) ⌝ }
     ensures { λ r. ⌜ Gives (outcome (namesOf (now (s .entry))) (seenIn seen) limit (length (now (log .entry)) / 4) (starting (now (s .entry)) (now (values .entry)) (now (log .entry)))) r (now (values .exit)) (now (log .exit)) ⌝ }
 {
     let plan = plan::find_plan(s, c);

@@ -133,8 +133,8 @@ run-seen-requires c κs =
     let a = c .before .before .before .before .before .before .before .before .before .before .before .before .before .args in
     let p = passed ((c .before .before .before)) in
     let started = run-accepted (now (a .book)) (now (a .script)) (a .reader) (now (a .values)) (a .limit) p .1 in (
-      record { laid = laid ((c .before .before .before .before .before .before .before)); checked = file ((c .before .before .before .before .before .before .before)) .0; named = started .named },
-      run-bounds (now (a .book)) (now (a .script)) (a .reader) (now (a .values)) (a .limit) p .1,
+      laid ((c .before .before .before .before .before .before .before)),
+      (record { checked = file ((c .before .before .before .before .before .before .before)) .0; named = started .named }, run-bounds (now (a .book)) (now (a .script)) (a .reader) (now (a .values)) (a .limit) p .1),
     )
 
 report-of-requires : tie.Need-report-of-requires

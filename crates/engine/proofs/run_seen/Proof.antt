@@ -1,10 +1,10 @@
 -- `run_seen`: the plan of the script, and a clear state.
-use mathlib.Core.Path.{_≡_, sym, ap, _∙_}
+use mathlib.Core.Path.{_≡_, ap, _∙_}
 use Prim.Native.Nat.{ℕ, _-_, _≤_, zero-le}
 use native.Mathlib.Omega.{arith}
 use native.Mathlib.Nat.{sub-zero}
-use lib.ListN.{length, take, replicate}
-use Rattle.layout.proofs.Layouts.{few-bounds, names-are, nodes-are}
+use lib.ListN.{take, replicate}
+use Rattle.layout.proofs.Layouts.{few-bounds, nodes-are}
 use Rattle.residual.proofs.Residuals.{take-zeros}
 use borrow.Author.Needs.{needs}
 use Rattle.engine.proofs.run_seen.Statement.{statement}
@@ -15,10 +15,7 @@ cleared : (n m : ℕ) → n ≤ 256 → n ≡ m → take {A = ℕ} (n - 0) (repl
 cleared n m h e = rw sub-zero (take-zeros n 256 h ∙ ap (λ k. replicate k 0) e)
 
 find-plan-requires : tie.Need-find-plan-requires
-find-plan-requires c κs = (c .before .before .pre .0 .laid, c .before .before .pre .0 .checked)
-
-slice-aggregate-run : tie.Need-slice-aggregate-run
-slice-aggregate-run c = search needs
+find-plan-requires c κs = let start = c .before .before in (start .pre .0, start .pre .1 .0 .checked)
 
 sub-run : tie.Need-sub-run
 sub-run c = zero-le
@@ -27,27 +24,13 @@ part-state-start : tie.Need-part-state-start
 part-state-start c = zero-le
 
 part-state-end : tie.Need-part-state-end
-part-state-end c = omega (arith, few-bounds (c .before .before .before .before .before .before .args .c) (c .before .before .before .before .before .before .pre .0 .laid .few))
-
--- the table of what the reader sees has an entry for each name
-long-enough : (c : tie.After-seen) → length (c .before .before .before .before .before .args .values .now) ≤ length (c .before .before .before .before .before .args .t3)
-long-enough c =
-    let laid = c .before .before .before .before .before .pre .0 .laid in
-    let long : length (c .before .before .before .before .before .args .t3) ≡ 64 = sym (slice-aggregate-run c) in
-    omega (arith, c .before .before .before .before .before .pre .0 .named, long, names-are laid, few-bounds (c .before .before .before .before .before .args .c) (laid .few))
+part-state-end c = let start = c .before .before .before .before .before .before in omega (arith, few-bounds (start .args .c) (start .pre .0 .few))
 
 run-requires : tie.Need-run-requires
 run-requires c κs =
-    let laid = c .before .before .before .before .before .before .before .before .pre .0 .laid in (
-      c .before .before .before .before .before .before .before .before .pre .0,
-      (
-        c .before .before .before .before .before .find-plan .ensures,
-        (
-          cleared (c .before .before .before .before .before .before .before .before .args .c .nodes) _ (few-bounds (c .before .before .before .before .before .before .before .before .args .c) (laid .few) .1 .1 .1) (nodes-are laid),
-          (long-enough ((c .before .before .before)), c .before .before .before .before .before .before .before .before .pre .1),
-        ),
-      ),
-    )
+    let start = c .before .before .before .before .before .before .before .before in
+    let laid = start .pre .0 in
+    (laid, (start .pre .1 .0, (c .before .before .before .before .before .find-plan .ensures, (cleared (start .args .c .nodes) _ (few-bounds (start .args .c) (laid .few) .1 .1 .1) (nodes-are laid), start .pre .1 .1))))
 
 same-length : tie.Need-same-length
 same-length c = c .before .before .before .before .run .kept .1 .1 .1 .1 .0
@@ -63,7 +46,6 @@ run-seen-spec =
     tie.close
     (tie.spec
     find-plan-requires
-    slice-aggregate-run
     sub-run
     part-state-start
     part-state-end
