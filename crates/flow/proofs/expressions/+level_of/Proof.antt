@@ -84,7 +84,9 @@ level-of-level-at-requires t c κs =
     let l = c .before .before .before .before .before .before .before .before .before .before .pre .1 .0 .0 in
     let h = c .before .before .before .before .before .before .before .before .before .before .pre .1 .0 .1 in
     let few = h .ready .ordered .few in
-    (omega (arith, few, c .before .before .before .level-of .ensures l h .inside), omega (arith, few, c .level-of2 .ensures l h .inside))
+    let left = c .before .before .before .level-of .ensures l h .inside in
+    let right = c .level-of2 .ensures l h .inside in
+    (omega (arith, few, left, right), omega (arith, few, left, right))
 
 level-of-returns-4 : (t : ℕ) → level-of-lts.Need-returns-4 (R t) (level-of-at t) level-of.Post
 level-of-returns-4 t c l h =
