@@ -1,89 +1,80 @@
-// Prints what comes of a script, in the form that 01 gives the program.
+// What the programs have in common: they print what the calls answer, in the form that 01 gives, and read bytes that are
+// written down in hexadecimal.
+pub mod hex; // hex.rt: lines of hexadecimal digits
+
+use answers::Report;
+use answers::Verdict;
 use libc::STDOUT_FILENO;
-use prelude::Refusal;
-ghost use Prim.Native.Nat.{_+_, _*_, _≤_};
-ghost use lib.ListN.{length};
 
-pub fn say(word: &[u8], n: usize) {
-    io::write_all(STDOUT_FILENO, word);
-    io::print_decimal(STDOUT_FILENO, n as u64);
+pub fn say(text: &[u8]) {
+    io::write_all(STDOUT_FILENO, text);
 }
 
-fn say_word(word: &[u8], n: u32) {
-    say(word, n as usize);
+pub fn say_byte(byte: u8) {
+    let text = [byte];
+    say(&text);
 }
 
-// The number whose two's complement is w.
-fn say_signed(word: &[u8], w: u32) {
-    io::write_all(STDOUT_FILENO, word);
-    if w < 2147483648 {
-        io::print_decimal(STDOUT_FILENO, w as u64);
+// A number, and the byte that ends it.
+fn say_number(n: u64, end: u8) {
+    io::print_decimal(STDOUT_FILENO, n);
+    say_byte(end);
+}
+
+// A line of a word and two numbers.
+fn say_pair(word: &[u8], a: u32, b: u32) {
+    say(word);
+    say_number(a as u64, b' ');
+    say_number(b as u64, b'\n');
+}
+
+// The word at index i of a log: of a line's four words the last is a signed value, in two's complement.
+fn say_word(i: usize, w: u32) {
+    if i % 4 != 3 {
+        say_number(w as u64, b' ');
+    } else if w < 2147483648 {
+        say_number(w as u64, b'\n');
+    } else {
+        say_byte(b'-');
+        say_number(4294967296 - (w as u64), b'\n');
+    }
+}
+
+// The first lines of a log that has so many.
+fn say_lines(log: &[u32], lines: u32) {
+    let n = 4 * (lines as usize);
+    if log.len() < n {
         return;
     }
-    io::write_all(STDOUT_FILENO, b"-");
-    io::print_decimal(STDOUT_FILENO, 4294967296 - (w as u64));
-}
-
-pub fn end_line() {
-    io::write_all(STDOUT_FILENO, b"\n");
-}
-
-pub fn say_refusal(r: Refusal) {
-    say_word(b"refused ", r.number);
-    say_word(b" ", r.place);
-    end_line();
-}
-
-// The four words of a line from index `at` on.
-fn say_line(log: &[u32], at: usize)
-    requires { ⌜ at + 4 ≤ length (now log) ⌝ }
-{
-    say_word(b"", log[at]);
-    say_word(b" ", log[at + 1]);
-    say_word(b" ", log[at + 2]);
-    say_signed(b" ", log[at + 3]);
-    end_line();
-}
-
-fn say_lines(log: &[u32], lines: usize)
-    requires { ⌜ 4 * lines ≤ length (now log) ⌝ }
-{
     let mut i: usize = 0;
-    while i < lines {
-        say_line(log, 4 * i);
+    while i < n {
+        say_word(i, log[i]);
         i += 1;
     }
 }
 
-fn say_ending(ending: u32) {
+fn say_ending(ending: u32, steps: u32, instants: u32) {
     if ending == 0 {
-        io::write_all(STDOUT_FILENO, b"finished");
+        say_pair(b"finished ", steps, instants);
     } else if ending == 1 {
-        io::write_all(STDOUT_FILENO, b"spent");
+        say_pair(b"spent ", steps, instants);
     } else {
-        io::write_all(STDOUT_FILENO, b"log full");
+        say_pair(b"log full ", steps, instants);
     }
 }
 
-// Runs a script for the reader 0, with a log of 256 lines. A refusal is all that is printed of a refused call; else W and T,
+pub fn say_refusal(number: u32, place: u32) {
+    say_pair(b"refused ", number, place);
+}
+
+// Prints what the two calls answered of a script. A refusal is all that is printed of a refused call of run; else W and T,
 // the lines, the ending, steps and instants.
-pub fn show(book: &[u8], script: &[u8], values: &mut [i32], limit: u32) {
-    let mut log = [0u32; 1024];
-    let v = engine::check(book, script);
-    let r = engine::run(book, script, 0, values, limit, &mut log);
+pub fn say_answers(v: Verdict, r: Report, log: &[u32]) {
     if r.number != 0 {
-        say_refusal(Refusal {
-            number: r.number,
-            place: r.place,
-        });
+        say_refusal(r.number, r.place);
         return;
     }
-    say_word(b"accepted ", v.write);
-    say_word(b" ", v.test);
-    end_line();
-    say_lines(&log, r.lines as usize);
-    say_ending(r.ending);
-    say_word(b" ", r.steps);
-    say_word(b" ", r.instants);
-    end_line();
+    say_pair(b"accepted ", v.write, v.test);
+    say_lines(log, r.lines);
+    say_ending(r.ending, r.steps, r.instants);
 }

@@ -1,21 +1,31 @@
-// Script files, for a book of two levels.
-use display::end_line;
-use display::say;
-use display::say_refusal;
+// Script files, for a book of two levels: the names, expressions and nodes, and the size of the process.
+use crate::say;
+use layout::Script;
+ghost use Rattle.layout.specs.Layout.{Laid};
+ghost use Rattle.reach.specs.Checked.{Checked};
 
-pub fn show(s: &[u8]) {
-    let loaded = script::load(s, 2);
-    if 0 < loaded.refusal.number {
-        say_refusal(loaded.refusal);
-        return;
-    }
-    let c = loaded.script;
+fn size_of(file: &[u8], c: Script) -> usize
+    requires { ⌜ Laid (now file) c × Checked (now file) ⌝ }
+{
+    let sizes = tree::sizes::find_sizes(file, c);
     let n = c.nodes;
-    let sizes = tree::sizes::find_sizes(s, c);
-    let size = sizes[n - 1] as usize;
+    sizes[n - 1] as usize
+}
+
+fn say_counts(c: Script, size: usize) {
     say(b"names ", c.names);
     say(b" expressions ", c.expressions);
-    say(b" nodes ", n);
+    say(b" nodes ", c.nodes);
     say(b" size ", size);
-    end_line();
+    display::say_byte(b'\n');
+}
+
+pub fn show(file: &[u8]) {
+    let loaded = script::load(file, 2);
+    if 0 < loaded.refusal.number {
+        display::say_refusal(loaded.refusal.number, loaded.refusal.place);
+    } else {
+        let c = loaded.script;
+        say_counts(c, size_of(file, c));
+    }
 }

@@ -1,14 +1,87 @@
-// Runs the examples of 01 that are not proved, and those of the report. For each it prints a title and what comes of the
-// script, for the reader 0. What it prints is held to the file stdout, which was worked out from the two papers alone.
-mod draft; // draft.rt: script files, put together entry by entry
-mod flows; // flows.rt: the report's examples of flows
-mod moves; // moves.rt: the report's examples of moves and instants
-mod pegs; // pegs.rt: 01's examples
-mod scopes; // scopes.rt: the report's examples of tests and declarations
+// Runs the examples of 01 that are not proved, and those of the report, as the file stdin has them. For each it prints a title
+// and what comes of the script, for the reader 0. What it prints is held to the file stdout, which was worked out from the two
+// papers alone.
+use display::hex;
+use libc::STDIN_FILENO;
+ghost use Prim.Native.Nat.{_≤_, _<_};
+ghost use lib.ListN.{length};
+
+const SCRIPT: usize = 512;
+
+// The bytes of a call: five for the book, two for the limit, and one for each value.
+const CALL: usize = 72;
+
+fn signed(byte: u8) -> i32 {
+    byte as i32
+}
+
+fn numbers_of(bytes: &[u8]) -> [i32; CALL]
+    requires { ⌜ length (now bytes) ≤ 72 ⌝ }
+{
+    let mut numbers = [0i32; CALL];
+    let mut i: usize = 0;
+    while i < bytes.len() {
+        numbers[i] = signed(bytes[i]);
+        i += 1;
+    }
+    numbers
+}
+
+// With a log of 256 lines.
+fn show(book: &[u8], script: &[u8], values: &mut [i32], limit: u32) {
+    let mut log = [0u32; 1024];
+    let v = engine::check(book, script);
+    let r = engine::run(book, script, 0, values, limit, &mut log);
+    display::say_answers(v, r, &log);
+}
+
+fn call(script: &[u8], bytes: &[u8])
+    requires { ⌜ (7 ≤ length (now bytes)) × (length (now bytes) ≤ 72) ⌝ }
+{
+    let mut numbers = numbers_of(bytes);
+    let limit = prelude::word_of(bytes[5], bytes[6]);
+    let n = bytes.len();
+    show(&bytes[0..5], script, &mut numbers[7..n], limit as u32);
+}
+
+fn run(line: &[u8], script: &[u8]) {
+    let mut bytes = [0u8; CALL];
+    let n = hex::read(line, &mut bytes, 0);
+    if 7 <= n {
+        call(script, &bytes[0..n]);
+    }
+    display::say_byte(b'\n');
+}
+
+// A line's first byte says what it is: a title, the start of a script, a part of it, or a run. Answers how many bytes of the
+// script there are.
+fn take_line(line: &[u8], script: &mut [u8], end: usize) -> usize
+    requires { ⌜ (0 < length (now line)) × (end ≤ length (now script)) ⌝ }
+    ensures { λ r. ⌜ r ≤ length (now (script .entry)) ⌝ }
+{
+    match line[0] {
+        b'>' => display::say(&line[1..]),
+        b'n' => return 0,
+        b's' => return hex::read(line, script, end),
+        b'r' => run(line, &script[0..end]),
+        _ => {}
+    }
+    end
+}
+
+fn show_examples(text: &[u8]) {
+    let mut script = [0u8; SCRIPT];
+    let mut end: usize = 0;
+    let mut at: usize = 0;
+    while at < text.len() {
+        let next = hex::line_end(text, at);
+        end = take_line(&text[at..next], &mut script, end);
+        at = next;
+    }
+}
 
 fn main() {
-    pegs::show();
-    moves::show();
-    flows::show();
-    scopes::show();
+    let mut text = io::large_buffer();
+    let n = io::read_full(STDIN_FILENO, &mut text);
+    show_examples(&text[..n]);
 }

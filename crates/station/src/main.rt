@@ -2,12 +2,14 @@
 mod values; // values.rt: the values that a file holds
 
 use layout::Script;
-ghost use Prim.Native.Nat.{_≤_};
-ghost use lib.ListN.{length};
+ghost use Rattle.io.specs.Counts.{Counts};
+
+// The most bytes that are read of a file.
+const SIZE: usize = 65536;
 
 // The first bytes of a file, as many as there is room for; none of a file that cannot be opened.
-fn load(path: &[u8], buffer: &mut [u8]) -> usize
-    ensures { λ r. ⌜ r ≤ length (now (buffer .exit)) ⌝ }
+fn load(path: &[u8; 10], buffer: &mut [u8; SIZE]) -> usize
+    ensures { λ r. ⌜ Counts r (now (buffer .exit)) ⌝ }
 {
     let fd = os::open_read(path);
     if fd < 0 {
@@ -18,18 +20,26 @@ fn load(path: &[u8], buffer: &mut [u8]) -> usize
     n
 }
 
+// Checks and runs a script for the reader 0, with 1000 steps and a log of 256 lines.
+fn run(book: &[u8], script: &[u8], values: &mut [i32]) {
+    let mut log = [0u32; 1024];
+    let v = engine::check(book, script);
+    let r = engine::run(book, script, 0, values, 1000, &mut log);
+    display::say_answers(v, r, &log);
+}
+
 fn show(book: &[u8], script: &[u8], bytes: &[u8]) {
     let mut values = [0i32; Script::MAX_NAMES + 1];
     let n = values::read_values(bytes, &mut values);
-    display::show(book, script, &mut values[0..n], 1000);
+    run(book, script, &mut values[0..n]);
 }
 
 fn main() {
-    let mut book = [0u8; 65536];
-    let mut script = [0u8; 65536];
-    let mut bytes = [0u8; 65536];
+    let mut book = [0u8; SIZE];
+    let mut script = [0u8; SIZE];
+    let mut values = [0u8; SIZE];
     let b = load(b"levels.lvl", &mut book);
     let s = load(b"script.scr", &mut script);
-    let v = load(b"values.val", &mut bytes);
-    show(&book[0..b], &script[0..s], &bytes[0..v]);
+    let v = load(b"values.val", &mut values);
+    show(&book[..b], &script[..s], &values[..v]);
 }

@@ -1,8 +1,8 @@
 -- `say_table`: i stays at most n.
-use borrow.Author.Needs.{needs}
 use Prim.Native.Nat.{_-_, _≤_}
-use Rattle.examples.proofs.say_table.Statement.{statement}
-use Rattle.examples.proofs.say_table.Tie as tie
+use borrow.Author.Needs.{needs}
+use Rattle.examples.proofs.books.say_table.Statement.{statement}
+use Rattle.examples.proofs.books.say_table.Tie as tie
 
 abbrev Inv-loop : tie.InvT-loop
 Inv-loop title t n i₀ i = i ≤ n
@@ -10,8 +10,8 @@ Inv-loop title t n i₀ i = i ≤ n
 abbrev μ-loop : tie.MeasureT-loop
 μ-loop title t n i₀ i = n - i
 
-write-all-requires : tie.Need-write-all-requires Inv-loop μ-loop
-write-all-requires c κs = search needs
+say-requires : tie.Need-say-requires Inv-loop μ-loop
+say-requires c κs = search needs
 
 loop-holds : tie.Need-loop-holds Inv-loop μ-loop
 loop-holds c = search needs
@@ -37,7 +37,7 @@ say-table-spec =
     (tie.spec
     Inv-loop
     μ-loop
-    write-all-requires
+    say-requires
     loop-holds
     say-row-requires
     add-i

@@ -1,8 +1,8 @@
 -- `say_row`: j stays at most n.
-use borrow.Author.Needs.{needs}
 use Prim.Native.Nat.{_-_, _≤_}
-use Rattle.examples.proofs.say_row.Statement.{statement}
-use Rattle.examples.proofs.say_row.Tie as tie
+use borrow.Author.Needs.{needs}
+use Rattle.examples.proofs.books.say_row.Statement.{statement}
+use Rattle.examples.proofs.books.say_row.Tie as tie
 
 abbrev Inv-loop : tie.InvT-loop
 Inv-loop t n i j₀ t5 j = j ≤ n
@@ -31,8 +31,8 @@ loop-less c = search needs
 loop-again : tie.Need-loop-again Inv-loop μ-loop
 loop-again c = search needs
 
-end-line-requires : tie.Need-end-line-requires Inv-loop μ-loop
-end-line-requires c κs = search needs
+say-byte-requires : tie.Need-say-byte-requires Inv-loop μ-loop
+say-byte-requires c κs = search needs
 
 returns : tie.Need-returns Inv-loop μ-loop
 returns c = search needs
@@ -50,5 +50,5 @@ say-row-spec =
     add-j
     loop-less
     loop-again
-    end-line-requires
+    say-byte-requires
     returns)

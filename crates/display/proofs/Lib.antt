@@ -1,2 +1,0 @@
--- A law that the proof of `show` uses.
-pub mod Lines

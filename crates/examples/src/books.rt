@@ -1,0 +1,57 @@
+// Level books: the levels, the bottom and the top, the tables of joins and meets.
+use crate::say;
+use book::Book;
+use pairs::PairTable;
+ghost use Prim.Native.Nat.{_<_, _≤_};
+ghost use Rattle.book.specs.LevelBook.{mostLevels};
+
+// The levels that a table keeps for level i and each level.
+fn say_row(t: &PairTable, n: usize, i: usize)
+    requires { ⌜ (i < n) × (n ≤ mostLevels) ⌝ }
+{
+    let mut j: usize = 0;
+    while j < n {
+        say(b" ", pairs::level_at(t, i, j));
+        j += 1;
+    }
+    display::say_byte(b'\n');
+}
+
+fn say_table(title: &[u8], t: &PairTable, n: usize)
+    requires { ⌜ n ≤ mostLevels ⌝ }
+{
+    display::say(title);
+    let mut i: usize = 0;
+    while i < n {
+        say_row(t, n, i);
+        i += 1;
+    }
+}
+
+fn say_bounds(b: Book)
+    requires { ⌜ b .count ≤ mostLevels ⌝ }
+{
+    say(b"levels ", b.count);
+    say(b" bottom ", lattice::bottom_of(b));
+    say(b" top ", lattice::top_of(b));
+    display::say_byte(b'\n');
+}
+
+fn say_book(b: Book, join: &PairTable, meet: &PairTable)
+    requires { ⌜ b .count ≤ mostLevels ⌝ }
+{
+    say_bounds(b);
+    say_table(b"joins\n", join, b.count);
+    say_table(b"meets\n", meet, b.count);
+}
+
+pub fn show(file: &[u8]) {
+    let mut join = [[0u8; Book::MAX_LEVELS]; Book::MAX_LEVELS];
+    let mut meet = [[0u8; Book::MAX_LEVELS]; Book::MAX_LEVELS];
+    let loaded = lattice::load(file, &mut join, &mut meet);
+    if 0 < loaded.refusal.number {
+        display::say_refusal(loaded.refusal.number, loaded.refusal.place);
+    } else {
+        say_book(loaded.book, &join, &meet);
+    }
+}
