@@ -1,7 +1,7 @@
 // What is asked of a call besides a book and a script: refusals 12 to 14. And which names the reader sees.
 use book::Book;
-use prelude::Refusal;
 use layout::Script;
+use prelude::Refusal;
 ghost use mathlib.Core.Path.{_≡_};
 ghost use Prim.Native.Nat.{_≤_, _<_};
 ghost use lib.ListN.{length};

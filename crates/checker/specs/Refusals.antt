@@ -12,7 +12,6 @@ use Rattle.lattice.specs.Lattice.{Lattice, bookLattice}
 use Rattle.layout.specs.Layout.{nodeCount}
 use Rattle.script.specs.Refusals as scripts
 use Rattle.flow.specs.Flow.{firstFailing}
-
 use Rattle.prelude.specs.Refusals.{orElse}
 
 -- row 11: 'a need above fails', 'first node'

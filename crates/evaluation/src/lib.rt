@@ -1,6 +1,6 @@
 // What the names hold, and the values of expressions.
-use plan::words;
 use layout::Script;
+use plan::words;
 ghost use mathlib.Core.Path.{_≡_};
 ghost use Prim.Native.Nat.{_<_};
 ghost use lib.ListN.{length};

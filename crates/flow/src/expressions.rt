@@ -1,10 +1,10 @@
 // The level of an expression.
 use crate::kinds;
-use pairs::PairTable;
-use pairs::level_at;
+use layout::Script;
 use layout::entries::name_at;
 use layout::entries::part_at;
-use layout::Script;
+use pairs::PairTable;
+use pairs::level_at;
 ghost use Prim.Native.Nat.{_<_};
 ghost use Rattle.flow.specs.Flow.{Levels, Reads, LevelAt};
 

@@ -1,12 +1,12 @@
 // What a node brings itself.
 use crate::expressions::level_of;
-use pairs::PairTable;
+use layout::Script;
+use layout::entries::Part;
+use layout::entries::name_at;
 use levels::Own;
 use levels::kinds;
 use levels::kinds::is_either;
-use layout::entries::Part;
-use layout::entries::name_at;
-use layout::Script;
+use pairs::PairTable;
 ghost use Rattle.flow.specs.Flow.{Levels, Reads, IsNode, OwnOf};
 
 // What the node of part p brings itself.

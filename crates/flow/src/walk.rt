@@ -2,11 +2,11 @@
 use crate::kinds;
 use crate::own;
 use book::Book;
-use pairs::PairTable;
-use levels::Flow;
 use fields::children::children_of;
-use layout::entries::part_at;
 use layout::Script;
+use layout::entries::part_at;
+use levels::Flow;
+use pairs::PairTable;
 ghost use Prim.Native.Nat.{_<_};
 ghost use Rattle.flow.specs.Flow.{Levels, Walks, FlowAt};
 

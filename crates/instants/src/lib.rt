@@ -1,11 +1,11 @@
 // Instant changes, and what an instant begins with.
 pub mod suspension; // suspension.rt: whether what is left of a node is suspended
 
+use layout::Script;
 use plan::forms;
 use plan::forms::Front;
 use plan::forms::find_front;
 use plan::forms::find_rear;
-use layout::Script;
 ghost use mathlib.Core.Path.{_≡_};
 ghost use mathlib.Core.Bool.{true, false};
 ghost use Prim.Native.Nat.{_<_};

@@ -1,9 +1,9 @@
 // Whether what is left of a node is suspended.
+use layout::Script;
 use plan::forms;
 use plan::forms::Front;
 use plan::forms::find_front;
 use plan::forms::find_rear;
-use layout::Script;
 ghost use mathlib.Core.Path.{_≡_};
 ghost use mathlib.Core.Bool.{true};
 ghost use Prim.Native.Nat.{_<_};

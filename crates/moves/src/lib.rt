@@ -1,8 +1,8 @@
 // A node's own moves: assign, let, if, while, emit, local.
 mod log; // log.rt: the lines of the log
 
-use plan::forms;
 use layout::Script;
+use plan::forms;
 ghost use mathlib.Core.Path.{_≡_};
 ghost use Prim.Native.Nat.{_/_, _≤_, _<_};
 ghost use lib.ListN.{length, replicate};
@@ -88,13 +88,7 @@ fn move_local(
 }
 
 // An if leaves a branch.
-fn move_if(
-    s: &&[u8],
-    plan: &[usize; Script::MAX_PARTS],
-    values: &[i32],
-    state: &mut [u8],
-    k: usize,
-)
+fn move_if(s: &&[u8], plan: &[usize; Script::MAX_PARTS], values: &[i32], state: &mut [u8], k: usize)
     requires { ⌜ Valued (now (now s)) (now values) × (KeepsPlan (now (now s)) (now plan) × (At (now (now s)) k (now state) × ((partOf (now (now s)) (node (now (now s)) k) .kind ≡ 3) × (own (now state) ≡ 0)))) ⌝ }
     ensures { λ _. ⌜ Silent (left (now (now (s .entry))) k (now (state .entry))) (now (values .entry)) (left (now (now (s .entry))) k (now (state .exit))) (now (values .entry)) ⌝ }
 {

@@ -5,8 +5,8 @@ ghost use mathlib.Core.Path.{_≡_};
 ghost use Prim.Native.Nat.{_-_, _≤_, _<_};
 ghost use Rattle.layout.specs.Layout.{nodeCount};
 ghost use Rattle.reach.specs.Checked.{Checked};
-ghost use Rattle.plan.specs.Forms.{beside, formOf, frontOf};
-ghost use Rattle.plan.specs.Plan.{KeepsPlan};
+ghost use Rattle.plan.specs.Forms.{beside, frontOf};
+ghost use Rattle.plan.specs.Plan.{formsOf, KeepsPlan};
 
 // Nil.
 pub const GONE: u8 = 0;
@@ -27,20 +27,32 @@ pub const BESIDE: u8 = 7;
 
 pub const TURNED: u8 = 8;
 
-// The forms of each kind of node, by the node's own byte of state. Past them a node is nil.
-const FORM_ROWS: [[u8; 4]; 11] = [
-    [GONE, GONE, GONE, GONE],
-    [MOVER, GONE, GONE, GONE],
-    [MOVER, FIRST, GONE, GONE],
-    [MOVER, FIRST, SECOND, GONE],
-    [MOVER, BEFORE, GONE, GONE],
-    [BEFORE, SECOND, GONE, GONE],
-    [MOVER, GONE, GONE, GONE],
-    [MOVER, FIRST, GONE, GONE],
-    [WATCHED, GONE, GONE, GONE],
-    [GUARDED, GONE, GONE, GONE],
-    [BESIDE, TURNED, FIRST, SECOND],
-];
+// The forms of each kind of node, by the node's own byte of state: four bits for each byte, from the lowest on. Past them a
+// node is nil. (A table that is looked up by a variable would be built at each call.)
+const ONE: usize = 16;
+
+const TWO: usize = 256;
+
+const THREE: usize = 4096;
+
+const WRITER: usize = MOVER as usize;
+
+const DECLARATION: usize = (MOVER as usize) + ONE * (FIRST as usize);
+
+const CHOICE: usize = (MOVER as usize) + ONE * (FIRST as usize) + TWO * (SECOND as usize);
+
+const LOOP: usize = (MOVER as usize) + ONE * (BEFORE as usize);
+
+const SEQUENCE: usize = (BEFORE as usize) + ONE * (SECOND as usize);
+
+const WATCHING: usize = WATCHED as usize;
+
+const WHEN: usize = GUARDED as usize;
+
+const PARALLEL: usize = (BESIDE as usize)
+    + ONE * (TURNED as usize)
+    + TWO * (FIRST as usize)
+    + THREE * (SECOND as usize);
 
 // A byte past all forms: the node is nil.
 pub const NIL: u8 = 4;
@@ -53,15 +65,24 @@ pub struct Front {
     pub to: usize,
 }
 
-pub fn form_of(kind: usize, tag: u8) -> u8
+pub fn forms_of(kind: usize) -> usize
     requires { ⌜ kind < 11 ⌝ }
-    ensures { λ r. ⌜ r ≡ formOf kind tag ⌝ }
+    ensures { λ r. ⌜ r ≡ formsOf kind ⌝ }
 {
-    if NIL <= tag {
-        return GONE;
+    match kind {
+        0 => 0,
+        1 => WRITER,
+        2 => DECLARATION,
+        3 => CHOICE,
+        4 => LOOP,
+        5 => SEQUENCE,
+        6 => WRITER,
+        7 => DECLARATION,
+        8 => WATCHING,
+        9 => WHEN,
+        10 => PARALLEL,
+        _ => 0,
     }
-    let t = prelude::wide(tag);
-    FORM_ROWS[kind][t]
 }
 
 // The form of node k whose own byte is `tag` and which has so many bytes.

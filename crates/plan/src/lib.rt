@@ -9,19 +9,7 @@ ghost use Rattle.layout.specs.Layout.{expressionCount, nodeCount, Laid};
 ghost use Rattle.layout.specs.Entries.{partOf, node};
 ghost use Rattle.tree.specs.Tree.{KeepsSizes};
 ghost use Rattle.reach.specs.Checked.{Checked};
-ghost use Rattle.plan.specs.Plan.{formsOf, Spelled, Planned, KeepsExpressions, KeepsPlan};
-
-// The forms of a kind of node.
-fn forms_of(kind: usize) -> usize
-    requires { ⌜ kind < 11 ⌝ }
-    ensures { λ r. ⌜ r ≡ formsOf kind ⌝ }
-{
-    let a = prelude::wide(forms::form_of(kind, 0));
-    let b = prelude::wide(forms::form_of(kind, 1));
-    let c = prelude::wide(forms::form_of(kind, 2));
-    let d = prelude::wide(forms::form_of(kind, 3));
-    a + 16 * b + 256 * c + 4096 * d
-}
+ghost use Rattle.plan.specs.Plan.{Spelled, Planned, KeepsExpressions, KeepsPlan};
 
 fn wide(x: u16) -> usize
     ensures { λ r. ⌜ r ≡ x ⌝ }
@@ -38,7 +26,7 @@ fn node_word(s: &[u8], c: Script, sizes: &[u16; Script::MAX_NODES], k: usize) ->
     let parts = fields::children::children_of(p);
     let first = parts.first % 256;
     let fields = words::pack_fields(p.a, p.b, first, parts.second, wide(sizes[first]));
-    words::pack(forms_of(p.kind), fields, p.kind)
+    words::pack(forms::forms_of(p.kind), fields, p.kind)
 }
 
 // The word of expression e.

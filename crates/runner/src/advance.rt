@@ -1,12 +1,12 @@
 // A node is run as far as it goes within the instant: what comes next is found, the node or its part in front is advanced,
 // and the node is left, or it goes on.
 use instants::suspension;
+use layout::Script;
 use moves::Counts;
 use moves::Done;
 use moves::Limits;
 use plan::forms;
 use plan::forms::Front;
-use layout::Script;
 ghost use mathlib.Core.Path.{_≡_};
 ghost use mathlib.Core.Bool.{true, _&&_};
 ghost use lib.Dec.{eqb};
@@ -179,7 +179,18 @@ pub fn advance(
         let to = f.to;
         let part = &mut state[from..to];
         let moving = next.why == MOVING;
-        let r = advance_front(s, plan, seen, values, part, log, limits, now, f.child, moving);
+        let r = advance_front(
+            s,
+            plan,
+            seen,
+            values,
+            part,
+            log,
+            limits,
+            now,
+            f.child,
+            moving,
+        );
         if moves::SPENT <= r.why {
             return r;
         }

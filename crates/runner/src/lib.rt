@@ -1,9 +1,9 @@
 // Runs a checked script, as far as the step limit and the log let it.
 mod advance; // advance.rt: a node is run as far as it goes within the instant
 
+use layout::Script;
 use moves::Counts;
 use moves::Limits;
-use layout::Script;
 ghost use mathlib.Core.Path.{_≡_};
 ghost use Prim.Native.Nat.{_/_, _≤_};
 ghost use lib.ListN.{length, replicate};

@@ -111,8 +111,7 @@ change-instant-returns-3 t c =
 
 change-instant-change-parts-requires : (t : ℕ) → change-instant-lts.Need-change-parts-requires (R t) (change-instant-at t) change-instant.Post
 change-instant-change-parts-requires t c κs =
-    let start = c .before .before .before .before .before .before .before .before .before .before in
-    (
+    let start = c .before .before .before .before .before .before .before .before .before .before in (
       omega (arith, start .pre .0),
       (
         start .pre .1,

@@ -47,15 +47,15 @@ name-known c =
     (λ e. known (start .args .s .now .now) (start .pre .0 .checked) (start .args .k) (start .pre .1 .1 .0 .known) {n = 6} (sym (c .before .kind-at .ensures) ∙ e) .1)
     (writer c)
 
-
 returns : tie.Need-returns
 returns c =
-    let start = c .before .before .before .before .before in
-    (ended (start .pre .1 .1 .1 .0 .time) (lines-within start) (λ e. absurd (omega (arith, e)))
-    (spent refl (mover-live (start .args .s .now .now) (start .pre .0 .checked) (start .args .k) (start .pre .1 .1 .0 .known)
-    (start .args .state .now) (some-bytes (start .pre .1 .1 .0)) (moves-itself start .0) (start .args .values .now) (moves-itself start .1))
-    (le-antisymm (start .pre .1 .1 .1 .0 .time) (c .if1 .taken))),
-    λ _. omega arith)
+    let start = c .before .before .before .before .before in (
+      ended (start .pre .1 .1 .1 .0 .time) (lines-within start) (λ e. absurd (omega (arith, e)))
+          (spent refl (mover-live (start .args .s .now .now) (start .pre .0 .checked) (start .args .k) (start .pre .1 .1 .0 .known)
+          (start .args .state .now) (some-bytes (start .pre .1 .1 .0)) (moves-itself start .0) (start .args .values .now) (moves-itself start .1))
+          (le-antisymm (start .pre .1 .1 .1 .0 .time) (c .if1 .taken))),
+      λ _. omega arith,
+    )
 
 kind-at-requires : tie.Need-kind-at-requires
 kind-at-requires c κs = search needs
@@ -112,9 +112,10 @@ same-length-5 c = search needs
 returns-3 : tie.Need-returns-3
 returns-3 c =
     let start = c .before .before .before .before .before .before .before .before .before .before .before .before .before .before .before in
-    let at = runningAt (start .args .s .now .now) (start .args .k) (start .args .state .now) (start .args .values .now) (start .args .log .now) (start .args .at .steps) (start .args .limits .instant) (start .args .at .lines) in
-    (rw (add-one (start .args .at .steps)) (again at (c .before .before .before .before .before .before .before .before .before .before .if1 .left) (lines-within start) (c .before .before .before .before .move-silently .ensures)),
-    ⊎-elim (λ e. absurd (c .before .before .before .before .before .before .before .before .if2 .left (c .before .before .before .before .before .before .before .before .before .kind-at .ensures ∙ e))) (λ e. absurd (eqb-false _ _ (c .before .before .before .before .before .before .before .if3 .left) (c .before .before .before .before .before .before .before .before .before .kind-at .ensures ∙ e))))
+    let at = runningAt (start .args .s .now .now) (start .args .k) (start .args .state .now) (start .args .values .now) (start .args .log .now) (start .args .at .steps) (start .args .limits .instant) (start .args .at .lines) in (
+      rw (add-one (start .args .at .steps)) (again at (c .before .before .before .before .before .before .before .before .before .before .if1 .left) (lines-within start) (c .before .before .before .before .move-silently .ensures)),
+      ⊎-elim (λ e. absurd (c .before .before .before .before .before .before .before .before .if2 .left (c .before .before .before .before .before .before .before .before .before .kind-at .ensures ∙ e))) (λ e. absurd (eqb-false _ _ (c .before .before .before .before .before .before .before .if3 .left) (c .before .before .before .before .before .before .before .before .before .kind-at .ensures ∙ e))),
+    )
 
 pub move-own-spec : {M : Type 1} → statement M
 move-own-spec =

@@ -55,12 +55,13 @@ same-length c = search needs
 returns : tie.Need-returns
 returns c =
     let start = c .before .before .before .before .before .before .before .before in
-    let at = runningAt (now (now (start .args .s))) (start .args .k) (now (start .args .state)) (now (start .args .values)) (now (start .args .log)) (start .args .at .steps) (start .args .limits .instant) (start .args .at .lines) in
-    (subst
-    (λ log. Advances (seenIn (now (start .args .seen))) (start .args .limits .steps) (length (now (start .args .log)) / 4) at (logged at log) isFull)
-    (sym (noted (c .before .before .before .before) .full (not-true _ (c .if1 .taken))))
-    (no-room at (start .pre .1 .0) (start .pre .1 .1 .1 .0) (lines-within start) (sym (noted (c .before .before .before .before) .fits) ∙ not-true _ (c .if1 .taken))),
-    omega arith)
+    let at = runningAt (now (now (start .args .s))) (start .args .k) (now (start .args .state)) (now (start .args .values)) (now (start .args .log)) (start .args .at .steps) (start .args .limits .instant) (start .args .at .lines) in (
+      subst
+          (λ log. Advances (seenIn (now (start .args .seen))) (start .args .limits .steps) (length (now (start .args .log)) / 4) at (logged at log) isFull)
+          (sym (noted (c .before .before .before .before) .full (not-true _ (c .if1 .taken))))
+          (no-room at (start .pre .1 .0) (start .pre .1 .1 .1 .0) (lines-within start) (sym (noted (c .before .before .before .before) .fits) ∙ not-true _ (c .if1 .taken))),
+      omega arith,
+    )
 
 mul-value : tie.Need-mul-value
 mul-value c = search needs
@@ -87,14 +88,15 @@ returns-2 : tie.Need-returns-2
 returns-2 c =
     let start = c .before .before .before .before .before .before .before .before .before in
     let at = runningAt (now (now (start .args .s))) (start .args .k) (now (start .args .state)) (now (start .args .values)) (now (start .args .log)) (start .args .at .steps) (start .args .limits .instant) (start .args .at .lines) in
-    let fits = noted (c .before .before .before .before .before) .fits in
-    (rw (toZ-ofZ (start .fits .value))
-    (writes-line at (start .pre .1 .0) (start .pre .1 .1 .1 .0) (lines-within start) (sym fits ∙ not-false _ (c .before .if1 .left))
-    (nil-at-four (processOf (now (now (start .args .s))) (start .args .k)) _ (own-set-at (now (start .args .state)) (some-bytes (start .pre .0)) 4))
-    (noted (c .before .before .before .before .before) .written (not-false _ (c .before .if1 .left)))
-    (add-one (start .args .at .steps))
-    (noted (c .before .before .before .before .before) .lines (not-false _ (c .before .if1 .left)))),
-    omega arith)
+    let fits = noted (c .before .before .before .before .before) .fits in (
+      rw (toZ-ofZ (start .fits .value))
+          (writes-line at (start .pre .1 .0) (start .pre .1 .1 .1 .0) (lines-within start) (sym fits ∙ not-false _ (c .before .if1 .left))
+          (nil-at-four (processOf (now (now (start .args .s))) (start .args .k)) _ (own-set-at (now (start .args .state)) (some-bytes (start .pre .0)) 4))
+          (noted (c .before .before .before .before .before) .written (not-false _ (c .before .if1 .left)))
+          (add-one (start .args .at .steps))
+          (noted (c .before .before .before .before .before) .lines (not-false _ (c .before .if1 .left)))),
+      omega arith,
+    )
 
 pub write-spec : {M : Type 1} → statement M
 write-spec =

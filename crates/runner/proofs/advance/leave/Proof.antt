@@ -68,17 +68,19 @@ returns-2 : tie.Need-returns-2
 returns-2 c =
     let start = c .before .before .before .before .before .before in
     let h : mover < start .args .f .form = omega (arith, c .before .before .before .before .if1 .left) in
-    let r = start .pre .1 h .1 in
-    (λ l. absurd (omega (arith, l, h)),
-    λ _. restsOn refl refl refl refl (λ e. absurd (omega (arith, e, c .before .before .before .if2 .taken)))
-    (λ e. sym (waiting-front (found start h) (r .part) (r .shown) (r .waits e) (subst (RearWaits (now (now (start .args .s))) (start .args .k) (now (start .args .state)) (now (start .args .values)) (start .args .f .form)) (c .if3 .taken) (c .before .rear-waits .ensures)))))
+    let r = start .pre .1 h .1 in (
+      λ l. absurd (omega (arith, l, h)),
+      λ _. restsOn refl refl refl refl (λ e. absurd (omega (arith, e, c .before .before .before .if2 .taken)))
+          (λ e. sym (waiting-front (found start h) (r .part) (r .shown) (r .waits e) (subst (RearWaits (now (now (start .args .s))) (start .args .k) (now (start .args .state)) (now (start .args .values)) (start .args .f .form)) (c .if3 .taken) (c .before .rear-waits .ensures)))),
+    )
 
 returns-3 : tie.Need-returns-3
 returns-3 c =
     let start = c .before .before .before .before .before .before in
-    let h : mover < start .args .f .form = omega (arith, c .before .before .before .before .if1 .left) in
-    (λ l. absurd (omega (arith, l, h)),
-    λ _. atLimit refl refl refl refl (moves-on (c .before .before .before) .0) (le-antisymm (start .pre .0 .1 .1 .1 .0) (c .if4 .taken)))
+    let h : mover < start .args .f .form = omega (arith, c .before .before .before .before .if1 .left) in (
+      λ l. absurd (omega (arith, l, h)),
+      λ _. atLimit refl refl refl refl (moves-on (c .before .before .before) .0) (le-antisymm (start .pre .0 .1 .1 .1 .0) (c .if4 .taken)),
+    )
 
 slice-read-byte-after : tie.Need-slice-read-byte-after
 slice-read-byte-after c =
@@ -104,9 +106,10 @@ same-length-2 c = search needs
 returns-4 : tie.Need-returns-4
 returns-4 c =
     let start = c .before .before .before .before .before .before .before .before .before in
-    let h : mover < start .args .f .form = omega (arith, c .before .before .before .before .before .before .before .if1 .left) in
-    (λ l. absurd (omega (arith, l, h)),
-    λ _. makesMove refl (add-one (start .args .at .steps)) refl (c .before .before .before .if4 .left) (rw (c .before .byte-after .ensures) (moves-on (c .before .before .before .before .before .before))))
+    let h : mover < start .args .f .form = omega (arith, c .before .before .before .before .before .before .before .if1 .left) in (
+      λ l. absurd (omega (arith, l, h)),
+      λ _. makesMove refl (add-one (start .args .at .steps)) refl (c .before .before .before .if4 .left) (rw (c .before .byte-after .ensures) (moves-on (c .before .before .before .before .before .before))),
+    )
 
 pub leave-spec : {M : Type 1} → statement M
 leave-spec =
