@@ -28,20 +28,13 @@ fn say_table(title: &[u8], t: &PairTable, n: usize)
     }
 }
 
-fn say_bounds(b: Book)
+fn say_book(b: Book, join: &PairTable, meet: &PairTable)
     requires { ⌜ b .count ≤ mostLevels ⌝ }
 {
     say(b"levels ", b.count);
     say(b" bottom ", lattice::bottom_of(b));
     say(b" top ", lattice::top_of(b));
-    display::say_byte(b'\n');
-}
-
-fn say_book(b: Book, join: &PairTable, meet: &PairTable)
-    requires { ⌜ b .count ≤ mostLevels ⌝ }
-{
-    say_bounds(b);
-    say_table(b"joins\n", join, b.count);
+    say_table(b"\njoins\n", join, b.count);
     say_table(b"meets\n", meet, b.count);
 }
 

@@ -15,21 +15,18 @@ fn say(word: &[u8], n: usize) {
     io::print_decimal(STDOUT_FILENO, n as u64);
 }
 
-fn show(first: u8, file: &[u8]) {
-    match first {
-        b'b' => books::show(file),
-        b's' => scripts::show(file),
-        _ => {}
-    }
-}
-
 // A line's first byte says what it is.
 fn take_line(line: &[u8])
     requires { ⌜ 0 < length (now line) ⌝ }
 {
-    let mut file = [0u8; 64];
-    let n = hex::read(line, &mut file, 0);
-    show(line[0], &file[0..n]);
+    let mut bytes = [0u8; 64];
+    let n = hex::read(line, &mut bytes, 0);
+    let file = &bytes[0..n];
+    match line[0] {
+        b'b' => books::show(file),
+        b's' => scripts::show(file),
+        _ => {}
+    }
 }
 
 fn show_files(text: &[u8]) {

@@ -27,21 +27,18 @@ fn numbers_of(bytes: &[u8]) -> [i32; CALL]
     numbers
 }
 
-// With a log of 256 lines.
-fn show(book: &[u8], script: &[u8], values: &mut [i32], limit: u32) {
-    let mut log = [0u32; 1024];
-    let v = engine::check(book, script);
-    let r = engine::run(book, script, 0, values, limit, &mut log);
-    display::say_answers(v, r, &log);
-}
-
+// Runs a script by the bytes of a call, with a log of 256 lines.
 fn call(script: &[u8], bytes: &[u8])
     requires { ⌜ (7 ≤ length (now bytes)) × (length (now bytes) ≤ 72) ⌝ }
 {
+    let mut log = [0u32; 1024];
     let mut numbers = numbers_of(bytes);
-    let limit = prelude::word_of(bytes[5], bytes[6]);
     let n = bytes.len();
-    show(&bytes[0..5], script, &mut numbers[7..n], limit as u32);
+    let limit = prelude::word_of(bytes[5], bytes[6]) as u32;
+    let book = &bytes[0..5];
+    let v = engine::check(book, script);
+    let r = engine::run(book, script, 0, &mut numbers[7..n], limit, &mut log);
+    display::say_answers(v, r, &log);
 }
 
 fn run(line: &[u8], script: &[u8]) {

@@ -11,12 +11,9 @@ load-requires c κs = search needs
 say-refusal-requires : tie.Need-say-refusal-requires
 say-refusal-requires c κs = search needs
 
-size-of-requires : tie.Need-size-of-requires
-size-of-requires c κs =
-    let ok = loaded-checked _ 2 _ (c .before .before .before .load .ensures) (omega arith) in (ok .0, ok .1 .0)
-
-say-counts-requires : tie.Need-say-counts-requires
-say-counts-requires c κs = search needs
+say-script-requires : tie.Need-say-script-requires
+say-script-requires c κs =
+    let ok = loaded-checked _ 2 _ (c .before .before .load .ensures) (omega arith) in (ok .0, ok .1 .0)
 
 returns : tie.Need-returns
 returns c = search needs
@@ -26,11 +23,4 @@ returns-2 c = search needs
 
 pub show-spec : {M : Type 1} → statement M
 show-spec =
-    tie.close
-    (tie.spec
-    load-requires
-    say-refusal-requires
-    size-of-requires
-    say-counts-requires
-    returns
-    returns-2)
+    tie.close (tie.spec load-requires say-refusal-requires say-script-requires returns returns-2)
