@@ -3,26 +3,20 @@ pub mod suspension; // suspension.rt: whether what is left of a node is suspende
 
 use layout::Script;
 use plan::forms;
-use plan::forms::Front;
 use plan::forms::find_front;
 use plan::forms::find_rear;
 ghost use mathlib.Core.Path.{_≡_};
-ghost use mathlib.Core.Bool.{true, false};
 ghost use Prim.Native.Nat.{_<_};
 ghost use lib.ListN.{length};
-ghost use Rattle.language.specs.Steps.{present, change, instantStart};
+ghost use Rattle.language.specs.Steps.{change, instantStart};
 ghost use Rattle.language.specs.Calls.{givenBack};
 ghost use Rattle.layout.specs.Layout.{Laid};
-ghost use Rattle.layout.specs.Entries.{partOf, node};
 ghost use Rattle.tree.specs.Tree.{namesOf};
-ghost use Rattle.plan.specs.Forms.{mover, watched, guarded, frontOf};
 ghost use Rattle.plan.specs.Plan.{KeepsPlan};
-ghost use Rattle.residual.specs.Residual.{own};
 ghost use Rattle.residual.specs.Nodes.{Valued, At, left};
 ghost use Rattle.instants.specs.Contracts.{isPresentSignal, someSignalPresent};
 
-// The instant change of node k, which goes into what is in front and reads the signals of the instant that ends. A node
-// that it leaves as it is, or ends, needs no further call.
+// The instant change of node k, which goes into what is in front and reads the signals of the instant that ends.
 fn change_instant(
     s: &&[u8],
     plan: &[usize; Script::MAX_PARTS],
@@ -33,7 +27,9 @@ fn change_instant(
     requires { ⌜ Valued (now (now s)) (now values) × (KeepsPlan (now (now s)) (now plan) × At (now (now s)) k (now state)) ⌝ }
     ensures { λ _. ⌜ left (now (now (s .entry))) k (now (state .exit)) ≡ change (left (now (now (s .entry))) k (now (state .entry))) (now (values .entry)) ⌝ }
 {
-    let f = find_front(s, plan, k, state[0], state.len());
+    let tag = state[0];
+    let len = state.len();
+    let f = find_front(s, plan, k, tag, len);
     if f.form <= forms::MOVER {
         return;
     }
@@ -44,24 +40,6 @@ fn change_instant(
     if f.form == forms::GUARDED && !evaluation::signal_is_present(s, plan, values, k) {
         return;
     }
-    change_parts(s, plan, values, state, k, f);
-}
-
-// Node k has a part in front, no signal ends it, and no when around it is shut: its parts change.
-fn change_parts(
-    s: &&[u8],
-    plan: &[usize; Script::MAX_PARTS],
-    values: &[i32],
-    state: &mut [u8],
-    k: usize,
-    f: Front,
-)
-    requires { ⌜ Valued (now (now s)) (now values) × (KeepsPlan (now (now s)) (now plan) × At (now (now s)) k (now state)) ⌝ }
-    requires { ⌜ (f ≡ frontOf (now (now s)) k (own (now state)) (length (now state))) × ((mover < f .form) × ((f .form ≡ watched → present (now values) (partOf (now (now s)) (node (now (now s)) k) .a) ≡ false) × (f .form ≡ guarded → present (now values) (partOf (now (now s)) (node (now (now s)) k) .a) ≡ true))) ⌝ }
-    ensures { λ _. ⌜ left (now (now (s .entry))) k (now (state .exit)) ≡ change (left (now (now (s .entry))) k (now (state .entry))) (now (values .entry)) ⌝ }
-{
-    let tag = state[0];
-    let len = state.len();
     let from = f.from;
     let to = f.to;
     change_instant(s, plan, values, &mut state[from..to], f.child);

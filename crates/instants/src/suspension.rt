@@ -1,22 +1,18 @@
 // Whether what is left of a node is suspended.
 use layout::Script;
 use plan::forms;
-use plan::forms::Front;
 use plan::forms::find_front;
 use plan::forms::find_rear;
 ghost use mathlib.Core.Path.{_≡_};
-ghost use mathlib.Core.Bool.{true};
-ghost use Prim.Native.Nat.{_<_};
 ghost use lib.ListN.{length};
-ghost use Rattle.language.specs.Steps.{present, suspended};
-ghost use Rattle.layout.specs.Entries.{partOf, node};
+ghost use Rattle.language.specs.Steps.{suspended};
 ghost use Rattle.residual.specs.Residual.{own};
-ghost use Rattle.plan.specs.Forms.{mover, guarded, frontOf};
+ghost use Rattle.plan.specs.Forms.{frontOf};
 ghost use Rattle.plan.specs.Plan.{KeepsPlan};
 ghost use Rattle.residual.specs.Nodes.{Valued, At, left};
 ghost use Rattle.instants.specs.Contracts.{RearWaits};
 
-// A node without a part in front, or under a when that is shut, needs no further call.
+// Of a parallel both parts are asked, first the one behind: after a move it is the one more often awake.
 pub fn is_suspended(
     s: &&[u8],
     plan: &[usize; Script::MAX_PARTS],
@@ -27,30 +23,14 @@ pub fn is_suspended(
     requires { ⌜ Valued (now (now s)) (now values) × (KeepsPlan (now (now s)) (now plan) × At (now (now s)) k (now state)) ⌝ }
     ensures { λ r. ⌜ r ≡ suspended (left (now (now (s .entry))) k (now (state .entry))) (now (values .entry)) ⌝ }
 {
-    let f = find_front(s, plan, k, state[0], state.len());
+    let tag = state[0];
+    let f = find_front(s, plan, k, tag, state.len());
     if f.form <= forms::MOVER {
         return false;
     }
     if f.form == forms::GUARDED && !evaluation::signal_is_present(s, plan, values, k) {
         return true;
     }
-    parts_wait(s, plan, values, state, k, f)
-}
-
-// Node k has a part in front, and no when around it is shut. Of a parallel both parts are asked, first the one behind:
-// after a move it is the one more often awake.
-fn parts_wait(
-    s: &&[u8],
-    plan: &[usize; Script::MAX_PARTS],
-    values: &[i32],
-    state: &[u8],
-    k: usize,
-    f: Front,
-) -> bool
-    requires { ⌜ Valued (now (now s)) (now values) × (KeepsPlan (now (now s)) (now plan) × At (now (now s)) k (now state)) ⌝ }
-    requires { ⌜ (f ≡ frontOf (now (now s)) k (own (now state)) (length (now state))) × ((mover < f .form) × (f .form ≡ guarded → present (now values) (partOf (now (now s)) (node (now (now s)) k) .a) ≡ true)) ⌝ }
-    ensures { λ r. ⌜ r ≡ suspended (left (now (now (s .entry))) k (now (state .entry))) (now (values .entry)) ⌝ }
-{
     if !rear_waits(s, plan, values, state, k, f.form) {
         return false;
     }

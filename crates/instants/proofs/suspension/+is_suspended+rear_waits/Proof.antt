@@ -1,0 +1,267 @@
+-- `is_suspended` and `rear_waits`: by the form of the node, its part in front decides, or the part behind it.
+use mathlib.Core.Path.{_≡_, refl, sym, ap, _∙_, subst}
+use mathlib.Core.Bool.{true}
+use mathlib.Core.Logic.{⊎-elim}
+use native.Mathlib.Omega.{arith}
+use lib.ListN.{length}
+use borrow.Author.Tests.{not-true, not-false}
+use Rattle.language.specs.Steps.{present, suspended}
+use Rattle.residual.specs.Residual.{own}
+use Rattle.plan.specs.Forms.{guarded, frontOf, partIn}
+use Rattle.residual.specs.Nodes.{left}
+use Rattle.instants.specs.Contracts.{RearWaits}
+use Rattle.residual.proofs.Sights.{signalAt}
+use Rattle.residual.proofs.Residuals.{some-bytes}
+use Rattle.instants.proofs.Deciding.{Found, Part, Rear, front-part, rear-part, stays, signal-known, shuts, awake-rear, waiting-rear}
+use Prim.Native.Nat.{ℕ, _+_, _*_, _<_}
+use borrow.Fn.Kinds.{In}
+use borrow.Fn.PlainCycle.{Measures, is, falls, and}
+use Rattle.instants.proofs.suspension.is_suspended.Reads as is-suspended
+use Rattle.instants.proofs.suspension.is_suspended.Kinds as is-suspended-kinds
+use Rattle.instants.proofs.suspension.+is_suspended+rear_waits.Lts-is_suspended as is-suspended-lts
+use Rattle.instants.proofs.suspension.rear_waits.Reads as rear-waits
+use Rattle.instants.proofs.suspension.rear_waits.Kinds as rear-waits-kinds
+use Rattle.instants.proofs.suspension.+is_suspended+rear_waits.Lts-rear_waits as rear-waits-lts
+use Rattle.plan.proofs.forms.find_front.Reads as find-front-reads
+use Rattle.plan.proofs.forms.find_rear.Reads as find-rear-reads
+use Rattle.evaluation.proofs.signal_is_present.Reads as signal-is-present-reads
+use Rattle.instants.proofs.suspension.+is_suspended+rear_waits.{statement}
+use Rattle.instants.proofs.suspension.+is_suspended+rear_waits.Tie.{close}
+
+abbrev μ-is-suspended : Measures 5 is-suspended-kinds.ps ℕ
+μ-is-suspended κs a = 2 * a .1 .1 .1 .1 .0 + 1
+
+abbrev μ-rear-waits : Measures 5 rear-waits-kinds.ps ℕ
+μ-rear-waits κs a = 2 * a .1 .1 .1 .1 .0
+
+abbrev is-suspended-at : ℕ → In 5 is-suspended-kinds.ps
+is-suspended-at t =
+    and 5 is-suspended-kinds.ps (is 5 is-suspended-kinds.ps μ-is-suspended t) is-suspended.Pre
+
+abbrev is-suspended-below : ℕ → In 5 is-suspended-kinds.ps
+is-suspended-below t =
+    and
+    5
+    is-suspended-kinds.ps
+    (falls 5 is-suspended-kinds.ps _<_ μ-is-suspended t)
+    is-suspended.Pre
+
+abbrev rear-waits-at : ℕ → In 5 rear-waits-kinds.ps
+rear-waits-at t =
+    and 5 rear-waits-kinds.ps (is 5 rear-waits-kinds.ps μ-rear-waits t) rear-waits.Pre
+
+abbrev rear-waits-below : ℕ → In 5 rear-waits-kinds.ps
+rear-waits-below t =
+    and 5 rear-waits-kinds.ps (falls 5 rear-waits-kinds.ps _<_ μ-rear-waits t) rear-waits.Pre
+
+abbrev R : ℕ → is-suspended-lts.Claims
+R t = (
+  find-front-reads.Asked,
+  find-front-reads.Learnt,
+  signal-is-present-reads.Asked,
+  signal-is-present-reads.Learnt,
+  rear-waits-below t,
+  rear-waits.Post,
+  is-suspended-below t,
+  is-suspended.Post,
+)
+
+abbrev Q : ℕ → rear-waits-lts.Claims
+Q t = (find-rear-reads.Asked, find-rear-reads.Learnt, is-suspended-below t, is-suspended.Post)
+
+-- the node and its front
+found :
+    (t : ℕ) (c : is-suspended-lts.After-find-front (R t) (is-suspended-at t) is-suspended.Post) →
+    let args = c .before .before .before .args in
+    Found (args .s .now .now) (args .values .now) (args .k) (args .state .now) (c .find-front .result)
+found t c =
+    let pre = c .before .before .before .pre .1 in
+    record { valued = pre .0; at = pre .1 .1; front = c .find-front .ensures }
+
+-- a when around its part is open
+shown :
+    (t : ℕ) (c : is-suspended-lts.Joined2 (R t) (is-suspended-at t) is-suspended.Post) →
+    let front = c .before .before .before .before in
+    let args = front .before .before .before .args in
+    front .find-front .result .form ≡ guarded →
+    present (args .values .now) (signalAt (args .s .now .now) (args .k)) ≡ true
+shown t c =
+    ⊎-elim (λ w e. sym (w .1 .ensures) ∙ not-false _ (w .2 .left)) (λ w e. absurd (w .left e)) (c .if2 .came)
+
+part :
+    (t : ℕ) (c : is-suspended-lts.Joined2 (R t) (is-suspended-at t) is-suspended.Post) →
+    let front = c .before .before .before .before in
+    let args = front .before .before .before .args in
+    Part (args .s .now .now) (args .k) (args .state .now) (front .find-front .result)
+part t c =
+    let ahead = c .before .before in
+    front-part (found t (ahead .before .before)) (ahead .if1 .left)
+
+is-suspended-shared-slice-read-tag :
+    (t : ℕ) → is-suspended-lts.Need-shared-slice-read-tag (R t) (is-suspended-at t) is-suspended.Post
+is-suspended-shared-slice-read-tag t c = some-bytes (c .before .before .pre .1 .1 .1)
+
+is-suspended-find-front-requires :
+    (t : ℕ) → is-suspended-lts.Need-find-front-requires (R t) (is-suspended-at t) is-suspended.Post
+is-suspended-find-front-requires t c κs =
+    let pre = c .before .before .pre .1 in
+    (pre .0 .checked, (pre .1 .0, pre .1 .1 .known))
+
+is-suspended-returns : (t : ℕ) → is-suspended-lts.Need-returns (R t) (is-suspended-at t) is-suspended.Post
+is-suspended-returns t c = sym (stays (found t (c .before .before)) (c .if1 .taken) .waits)
+
+is-suspended-signal-is-present-requires :
+    (t : ℕ) → is-suspended-lts.Need-signal-is-present-requires (R t) (is-suspended-at t) is-suspended.Post
+is-suspended-signal-is-present-requires t c κs =
+    let front = c .before .before .before .before in
+    let pre = front .before .before .before .pre .1 in
+    let known = signal-known (found t front) (omega (arith, c .if2 .taken)) (omega (arith, c .if2 .taken)) in
+    (pre .0 .checked, (pre .1 .0, (pre .1 .1 .known, (pre .0 .named, known))))
+
+is-suspended-returns-2 : (t : ℕ) → is-suspended-lts.Need-returns-2 (R t) (is-suspended-at t) is-suspended.Post
+is-suspended-returns-2 t c =
+    let signal = c .before in
+    let opened = signal .before in
+    let front = opened .before .before .before .before in
+    let absent = sym (signal .signal-is-present .ensures) ∙ not-true _ (c .if3 .taken) in
+    sym (shuts (found t front) (opened .if2 .taken) absent .waits)
+
+is-suspended-rear-waits-requires :
+    (t : ℕ) → is-suspended-lts.Need-rear-waits-requires (R t) (is-suspended-at t) is-suspended.Post
+is-suspended-rear-waits-requires t c κs =
+    let front = c .before .before .before .before in
+    let pre = front .before .before .before .pre in
+    (omega (arith, pre .0), (pre .1, ap (λ f. f .form) (front .find-front .ensures)))
+
+is-suspended-returns-3 : (t : ℕ) → is-suspended-lts.Need-returns-3 (R t) (is-suspended-at t) is-suspended.Post
+is-suspended-returns-3 t c =
+    let opened = c .before .before in
+    let front = c .before .before .before .before .before .before in
+    let args = front .before .before .before .args in
+    sym
+    (awake-rear (found t front) (c .before .before .before .before .if1 .left) (shown t opened)
+    (subst
+    (RearWaits (args .s .now .now) (args .k) (args .state .now) (args .values .now) (front .find-front .result .form))
+    (not-true _ (c .if4 .taken))
+    (c .before .rear-waits .ensures)))
+
+is-suspended-sub-is-suspended :
+    (t : ℕ) → is-suspended-lts.Need-sub-is-suspended (R t) (is-suspended-at t) is-suspended.Post
+is-suspended-sub-is-suspended t c = part t (c .before .before) .order
+
+is-suspended-part-is-suspended-start :
+    (t : ℕ) → is-suspended-lts.Need-part-is-suspended-start (R t) (is-suspended-at t) is-suspended.Post
+is-suspended-part-is-suspended-start t c = part t (c .before .before) .order
+
+is-suspended-part-is-suspended-end :
+    (t : ℕ) → is-suspended-lts.Need-part-is-suspended-end (R t) (is-suspended-at t) is-suspended.Post
+is-suspended-part-is-suspended-end t c = part t (c .before .before) .within
+
+is-suspended-is-suspended-requires :
+    (t : ℕ) → is-suspended-lts.Need-is-suspended-requires (R t) (is-suspended-at t) is-suspended.Post
+is-suspended-is-suspended-requires t c κs =
+    let pre = c .before .before .before .before .before .before .before .before .before .before .pre in
+    (omega (arith, pre .0, part t (c .before .before .before) .earlier), (pre .1 .0, (pre .1 .1 .0, part t (c .before .before .before) .at)))
+
+is-suspended-returns-4 : (t : ℕ) → is-suspended-lts.Need-returns-4 (R t) (is-suspended-at t) is-suspended.Post
+is-suspended-returns-4 t c =
+    let opened = c .before .before .before .before in
+    let front = c .before .before .before .before .before .before .before .before in
+    let args = front .before .before .before .args in
+    c .is-suspended .ensures
+    ∙ waiting-rear (found t front) (c .before .before .before .before .before .before .if1 .left) (shown t opened)
+    (subst
+    (RearWaits (args .s .now .now) (args .k) (args .state .now) (args .values .now) (front .find-front .result .form))
+    (not-false _ (c .before .before .if4 .left))
+    (c .before .before .before .rear-waits .ensures))
+
+-- the node is a parallel
+rear :
+    (t : ℕ) (c : rear-waits-lts.Else1 (Q t) (rear-waits-at t) rear-waits.Post) →
+    let args = c .before .before .args in
+    Rear (args .s .now .now) (args .k) (args .state .now)
+    (frontOf (args .s .now .now) (args .k) (own (args .state .now)) (length (args .state .now)))
+rear t c =
+    let pre = c .before .before .pre .1 in
+    rear-part (record { valued = pre .0 .0; at = pre .0 .1 .1; front = refl }) (omega (arith, pre .1, c .if1 .left))
+
+behind :
+    (t : ℕ) (c : rear-waits-lts.After-find-rear (Q t) (rear-waits-at t) rear-waits.Post) →
+    let args = c .before .before .before .before .args in
+    Part (args .s .now .now) (args .k) (args .state .now) (c .find-rear .result)
+behind t c = rw (c .find-rear .ensures) (rear t (c .before .before) .part)
+
+rear-waits-returns : (t : ℕ) → rear-waits-lts.Need-returns (Q t) (rear-waits-at t) rear-waits.Post
+rear-waits-returns t c = record { none = λ h. refl; other = λ h. absurd (omega (arith, c .if1 .taken)) }
+
+rear-waits-shared-slice-read-tag :
+    (t : ℕ) → rear-waits-lts.Need-shared-slice-read-tag (Q t) (rear-waits-at t) rear-waits.Post
+rear-waits-shared-slice-read-tag t c = some-bytes (c .before .before .before .pre .1 .0 .1 .1)
+
+rear-waits-find-rear-requires :
+    (t : ℕ) → rear-waits-lts.Need-find-rear-requires (Q t) (rear-waits-at t) rear-waits.Post
+rear-waits-find-rear-requires t c κs =
+    let start = c .before .before .before in
+    let pre = start .pre .1 .0 in
+    ((pre .0 .checked, (pre .1 .0, pre .1 .1 .known)), (start .pre .1 .1, c .before .if1 .left))
+
+rear-waits-sub-is-suspended : (t : ℕ) → rear-waits-lts.Need-sub-is-suspended (Q t) (rear-waits-at t) rear-waits.Post
+rear-waits-sub-is-suspended t c = behind t c .order
+
+rear-waits-part-is-suspended-start :
+    (t : ℕ) → rear-waits-lts.Need-part-is-suspended-start (Q t) (rear-waits-at t) rear-waits.Post
+rear-waits-part-is-suspended-start t c = behind t c .order
+
+rear-waits-part-is-suspended-end :
+    (t : ℕ) → rear-waits-lts.Need-part-is-suspended-end (Q t) (rear-waits-at t) rear-waits.Post
+rear-waits-part-is-suspended-end t c = behind t c .within
+
+rear-waits-is-suspended-requires :
+    (t : ℕ) → rear-waits-lts.Need-is-suspended-requires (Q t) (rear-waits-at t) rear-waits.Post
+rear-waits-is-suspended-requires t c κs =
+    let pre = c .before .before .before .before .before .pre in
+    let part = behind t (c .before) in
+    (omega (arith, pre .0, part .earlier), (pre .1 .0 .0, (pre .1 .0 .1 .0, part .at)))
+
+rear-waits-returns-2 : (t : ℕ) → rear-waits-lts.Need-returns-2 (Q t) (rear-waits-at t) rear-waits.Post
+rear-waits-returns-2 t c =
+    let front = c .before .before in
+    let ahead = front .before .before in
+    let args = ahead .before .before .args in
+    let rear = front .find-rear .ensures in
+    record {
+      none = λ h. absurd (omega (arith, ahead .if1 .left));
+      other =
+          λ h.
+          c .is-suspended .ensures
+          ∙ ap (λ f. suspended (left (args .s .now .now) (f .child) (partIn f (args .state .now))) (args .values .now)) rear;
+    }
+
+pub +is-suspended+rear-waits-spec : {M : Type 1} → statement M
++is-suspended+rear-waits-spec = close μ-is-suspended μ-rear-waits (λ t. is-suspended-lts.spec (R t)
+    (is-suspended-at t)
+    is-suspended.Post
+    (is-suspended-shared-slice-read-tag t)
+    (is-suspended-find-front-requires t)
+    (is-suspended-returns t)
+    (is-suspended-signal-is-present-requires t)
+    (is-suspended-returns-2 t)
+    (is-suspended-rear-waits-requires t)
+    (is-suspended-returns-3 t)
+    (is-suspended-sub-is-suspended t)
+    (is-suspended-part-is-suspended-start t)
+    (is-suspended-part-is-suspended-end t)
+    (is-suspended-is-suspended-requires t)
+    (is-suspended-returns-4 t))
+    λ t. rear-waits-lts.spec
+    (Q t)
+    (rear-waits-at t)
+    rear-waits.Post
+    (rear-waits-returns t)
+    (rear-waits-shared-slice-read-tag t)
+    (rear-waits-find-rear-requires t)
+    (rear-waits-sub-is-suspended t)
+    (rear-waits-part-is-suspended-start t)
+    (rear-waits-part-is-suspended-end t)
+    (rear-waits-is-suspended-requires t)
+    (rear-waits-returns-2 t)
