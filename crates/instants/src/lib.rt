@@ -5,6 +5,7 @@ use layout::Script;
 use plan::forms;
 use plan::forms::find_front;
 use plan::forms::find_rear;
+use plan::forms::form_at;
 ghost use mathlib.Core.Path.{_≡_};
 ghost use Prim.Native.Nat.{_<_};
 ghost use lib.ListN.{length};
@@ -28,23 +29,24 @@ fn change_instant(
     ensures { λ _. ⌜ left (now (now (s .entry))) k (now (state .exit)) ≡ change (left (now (now (s .entry))) k (now (state .entry))) (now (values .entry)) ⌝ }
 {
     let tag = state[0];
-    let len = state.len();
-    let f = find_front(s, plan, k, tag, len);
-    if f.form <= forms::MOVER {
+    let form = form_at(s, plan, k, tag);
+    if form <= forms::MOVER {
         return;
     }
-    if f.form == forms::WATCHED && evaluation::signal_is_present(s, plan, values, k) {
+    if form == forms::WATCHED && evaluation::signal_is_present(s, plan, values, k) {
         state[0] = forms::NIL;
         return;
     }
-    if f.form == forms::GUARDED && !evaluation::signal_is_present(s, plan, values, k) {
+    if form == forms::GUARDED && !evaluation::signal_is_present(s, plan, values, k) {
         return;
     }
+    let len = state.len();
+    let f = find_front(s, plan, k, tag, len);
     let from = f.from;
     let to = f.to;
     change_instant(s, plan, values, &mut state[from..to], f.child);
-    if forms::BESIDE <= f.form {
-        let g = find_rear(s, plan, k, tag, len, f.form);
+    if forms::BESIDE <= form {
+        let g = find_rear(s, plan, k, tag, len, form);
         let start = g.from;
         let end = g.to;
         change_instant(s, plan, values, &mut state[start..end], g.child);

@@ -3,6 +3,7 @@ use layout::Script;
 use plan::forms;
 use plan::forms::find_front;
 use plan::forms::find_rear;
+use plan::forms::form_at;
 ghost use mathlib.Core.Path.{_≡_};
 ghost use lib.ListN.{length};
 ghost use Rattle.language.specs.Steps.{suspended};
@@ -24,16 +25,17 @@ pub fn is_suspended(
     ensures { λ r. ⌜ r ≡ suspended (left (now (now (s .entry))) k (now (state .entry))) (now (values .entry)) ⌝ }
 {
     let tag = state[0];
-    let f = find_front(s, plan, k, tag, state.len());
-    if f.form <= forms::MOVER {
+    let form = form_at(s, plan, k, tag);
+    if form <= forms::MOVER {
         return false;
     }
-    if f.form == forms::GUARDED && !evaluation::signal_is_present(s, plan, values, k) {
+    if form == forms::GUARDED && !evaluation::signal_is_present(s, plan, values, k) {
         return true;
     }
-    if !rear_waits(s, plan, values, state, k, f.form) {
+    if !rear_waits(s, plan, values, state, k, form) {
         return false;
     }
+    let f = find_front(s, plan, k, tag, state.len());
     let from = f.from;
     let to = f.to;
     is_suspended(s, plan, values, &state[from..to], f.child)

@@ -4,8 +4,9 @@ use layout::Script;
 ghost use mathlib.Core.Path.{_≡_};
 ghost use Prim.Native.Nat.{_-_, _≤_, _<_};
 ghost use Rattle.layout.specs.Layout.{nodeCount};
+ghost use Rattle.layout.specs.Entries.{partOf, node};
 ghost use Rattle.reach.specs.Checked.{Checked};
-ghost use Rattle.plan.specs.Forms.{beside, frontOf};
+ghost use Rattle.plan.specs.Forms.{beside, formOf, frontOf};
 ghost use Rattle.plan.specs.Plan.{formsOf, KeepsPlan};
 
 // Nil.
@@ -85,7 +86,18 @@ pub fn forms_of(kind: usize) -> usize
     }
 }
 
-// The form of node k whose own byte is `tag` and which has so many bytes.
+// The form of node k whose own byte is `tag`.
+pub fn form_at(s: &&[u8], plan: &[usize; Script::MAX_PARTS], k: usize, tag: u8) -> u8
+    requires { ⌜ Checked (now (now s)) × (KeepsPlan (now (now s)) (now plan) × (k < nodeCount (now (now s)))) ⌝ }
+    ensures { λ r. ⌜ r ≡ formOf (partOf (now (now (s .entry))) (node (now (now (s .entry))) k) .kind) tag ⌝ }
+{
+    if NIL <= tag {
+        return GONE;
+    }
+    words::form_in(crate::word_at(s, plan, k), prelude::wide(tag)) as u8
+}
+
+// The form of node k whose own byte is `tag` and which has so many bytes, with the part in front.
 pub fn find_front(
     s: &&[u8],
     plan: &[usize; Script::MAX_PARTS],
@@ -96,16 +108,7 @@ pub fn find_front(
     requires { ⌜ Checked (now (now s)) × (KeepsPlan (now (now s)) (now plan) × (k < nodeCount (now (now s)))) ⌝ }
     ensures { λ r. ⌜ r ≡ frontOf (now (now (s .entry))) k tag len ⌝ }
 {
-    if NIL <= tag {
-        return Front {
-            form: GONE,
-            child: 0,
-            from: 0,
-            to: 0,
-        };
-    }
-    let w = crate::word_at(s, plan, k);
-    let form = words::form_in(w, prelude::wide(tag)) as u8;
+    let form = form_at(s, plan, k, tag);
     if form <= MOVER {
         return Front {
             form,
@@ -114,6 +117,7 @@ pub fn find_front(
             to: 0,
         };
     }
+    let w = crate::word_at(s, plan, k);
     let middle = 1 + words::size_in(w);
     if form == SECOND || form == TURNED {
         return Front {

@@ -1,22 +1,26 @@
 -- `change_instant`: by the form of the node, its part in front changes, and of a parallel the part behind it.
-use mathlib.Core.Path.{_≡_, sym, ap, _∙_}
+use mathlib.Core.Path.{_≡_, refl, sym, ap, _∙_, subst}
 use mathlib.Core.Bool.{true, false}
 use mathlib.Core.Logic.{⊎-elim}
 use native.Mathlib.Omega.{arith}
-use lib.ListN.{length-set}
+use lib.ListN.{length, length-set}
 use borrow.Author.Tests.{not-true, not-false}
 use Rattle.language.specs.Steps.{present}
-use Rattle.plan.specs.Forms.{watched, guarded}
+use Rattle.plan.specs.declared.forms.Front.{Front}
+use Rattle.plan.specs.Forms.{mover, watched, guarded, beside, frontOf}
+use Rattle.plan.proofs.Fronts.{front-form}
+use Rattle.residual.specs.Residual.{own}
 use Rattle.residual.proofs.Sights.{signalAt}
 use Rattle.residual.proofs.Residuals.{some-bytes}
 use Rattle.instants.proofs.Deciding.{Found, Part, front-part, stays, signal-known, ends, shuts}
 use Rattle.instants.proofs.Changing.{put, length-one, one-changed, rear-after, length-two, two-changed}
-use Prim.Native.Nat.{ℕ, _<_}
+use Prim.Native.Nat.{ℕ, _≤_, _<_}
 use borrow.Fn.Kinds.{In}
 use borrow.Fn.PlainCycle.{Measures, is, falls, and}
 use Rattle.instants.proofs.change_instant.Reads as change-instant
 use Rattle.instants.proofs.change_instant.Kinds as change-instant-kinds
 use Rattle.instants.proofs.+change_instant.Lts-change_instant as change-instant-lts
+use Rattle.plan.proofs.forms.form_at.Reads as form-at-reads
 use Rattle.plan.proofs.forms.find_front.Reads as find-front-reads
 use Rattle.plan.proofs.forms.find_rear.Reads as find-rear-reads
 use Rattle.evaluation.proofs.signal_is_present.Reads as signal-is-present-reads
@@ -44,10 +48,12 @@ change-instant-below t =
 
 abbrev R : ℕ → change-instant-lts.Claims
 R t = (
-  find-front-reads.Asked,
-  find-front-reads.Learnt,
+  form-at-reads.Asked,
+  form-at-reads.Learnt,
   signal-is-present-reads.Asked,
   signal-is-present-reads.Learnt,
+  find-front-reads.Asked,
+  find-front-reads.Learnt,
   change-instant-below t,
   change-instant.Post,
   find-rear-reads.Asked,
@@ -56,209 +62,212 @@ R t = (
 
 -- the node and its front
 found :
-    (t : ℕ) (c : change-instant-lts.After-find-front (R t) (change-instant-at t) change-instant.Post) →
-    let args = c .before .before .before .args in
-    Found (args .s .now .now) (args .values .now) (args .k) (args .state .now) (c .find-front .result)
-found t c =
-    let pre = c .before .before .before .pre .1 in
-    record { valued = pre .0; at = pre .1 .1; front = c .find-front .ensures }
+    (t : ℕ) (c : change-instant-lts.Start (R t) (change-instant-at t) change-instant.Post) →
+    let args = c .args in
+    Found (args .s .now .now) (args .values .now) (args .k) (args .state .now) (frontOf (args .s .now .now) (args .k) (own (args .state .now)) (length (args .state .now)))
+found t c = record { valued = c .pre .1 .0; at = c .pre .1 .1 .1; front = refl }
+
+form-is :
+    (t : ℕ) (c : change-instant-lts.After-form-at (R t) (change-instant-at t) change-instant.Post) →
+    let start = c .before .before .before in
+    let args = start .args in
+    c .form-at .result ≡ (frontOf (args .s .now .now) (args .k) (own (args .state .now)) (length (args .state .now))) .form
+form-is t c =
+    let start = c .before .before .before in
+    let args = start .args in
+    c .form-at .ensures ∙ sym (front-form (args .s .now .now) (args .k) (own (args .state .now)) (length (args .state .now)))
+
+-- a part is in front
+some-part :
+    (t : ℕ) (c : change-instant-lts.Else1 (R t) (change-instant-at t) change-instant.Post) →
+    let start = c .before .before .before .before in
+    let args = start .args in
+    mover < (frontOf (args .s .now .now) (args .k) (own (args .state .now)) (length (args .state .now))) .form
+some-part t c = subst (λ n. mover < n) (form-is t (c .before)) (c .if1 .left)
 
 -- no signal ends a watching around its part ..
 silent :
     (t : ℕ) (c : change-instant-lts.Joined2 (R t) (change-instant-at t) change-instant.Post) →
-    let front = c .before .before .before .before in
-    let args = front .before .before .before .args in
-    front .find-front .result .form ≡ watched →
-    present (args .values .now) (signalAt (args .s .now .now) (args .k)) ≡ false
-silent t c =
-    ⊎-elim (λ w e. sym (w .1 .ensures) ∙ w .2 .left) (λ w e. absurd (w .left e)) (c .if2 .came)
+    let start = c .before .before .before .before .before in
+    let args = start .args in
+    (frontOf (args .s .now .now) (args .k) (own (args .state .now)) (length (args .state .now))) .form ≡ watched → present (args .values .now) (signalAt (args .s .now .now) (args .k)) ≡ false
+silent t c e =
+    ⊎-elim (λ w. sym (w .1 .ensures) ∙ w .2 .left) (λ w. absurd (w .left (form-is t (c .before .before) ∙ e))) (c .if2 .came)
 
 -- .. and a when around it is open
 shown :
     (t : ℕ) (c : change-instant-lts.Joined4 (R t) (change-instant-at t) change-instant.Post) →
-    let front = c .before .before .before .before .before .before in
-    let args = front .before .before .before .args in
-    front .find-front .result .form ≡ guarded →
-    present (args .values .now) (signalAt (args .s .now .now) (args .k)) ≡ true
-shown t c =
-    ⊎-elim (λ w e. sym (w .1 .ensures) ∙ not-false _ (w .2 .left)) (λ w e. absurd (w .left e)) (c .if4 .came)
+    let start = c .before .before .before .before .before .before in
+    let args = start .args in
+    (frontOf (args .s .now .now) (args .k) (own (args .state .now)) (length (args .state .now))) .form ≡ guarded → present (args .values .now) (signalAt (args .s .now .now) (args .k)) ≡ true
+shown t c e =
+    ⊎-elim (λ w. sym (w .1 .ensures) ∙ not-false _ (w .2 .left)) (λ w. absurd (w .left (form-is t (c .before .before .before) ∙ e))) (c .if4 .came)
+
+-- the front that was found
+standing :
+    (t : ℕ) (c : change-instant-lts.After-find-front (R t) (change-instant-at t) change-instant.Post) →
+    let start = c .before .before .before .before .before .before .before in
+    let args = start .args in
+    Found (args .s .now .now) (args .values .now) (args .k) (args .state .now) (c .find-front .result)
+standing t c =
+    let start = c .before .before .before .before .before .before .before in
+    record { valued = start .pre .1 .0; at = start .pre .1 .1 .1; front = c .find-front .ensures }
+
+ahead :
+    (t : ℕ) (c : change-instant-lts.After-find-front (R t) (change-instant-at t) change-instant.Post) → mover < c .find-front .result .form
+ahead t c = rw (c .find-front .ensures) (some-part t (c .before .before .before))
 
 part :
-    (t : ℕ) (c : change-instant-lts.Joined4 (R t) (change-instant-at t) change-instant.Post) →
-    let front = c .before .before .before .before .before .before in
-    let args = front .before .before .before .args in
-    Part (args .s .now .now) (args .k) (args .state .now) (front .find-front .result)
-part t c =
-    let ahead = c .before .before .before .before in
-    front-part (found t (ahead .before .before)) (ahead .if1 .left)
+    (t : ℕ) (c : change-instant-lts.After-find-front (R t) (change-instant-at t) change-instant.Post) →
+    let start = c .before .before .before .before .before .before .before in
+    let args = start .args in
+    Part (args .s .now .now) (args .k) (args .state .now) (c .find-front .result)
+part t c = front-part (standing t c) (ahead t c)
+
+-- of a parallel
+both :
+    (t : ℕ) (c : change-instant-lts.Then6 (R t) (change-instant-at t) change-instant.Post) → beside ≤ c .before .before .before .before .before .find-front .result .form
+both t c = rw (c .before .before .before .before .before .find-front .ensures) (omega (arith, form-is t (c .before .before .before .before .before .before .before .before .before), c .if6 .taken))
 
 -- the part behind it, where the part in front has changed
 behind :
     (t : ℕ) (c : change-instant-lts.After-find-rear (R t) (change-instant-at t) change-instant.Post) →
-    let first = c .before .before .before .before .before in
-    let front = first .before .before .before .before .before .before .before .before in
-    let args = front .before .before .before .args in
-    let bytes = put (front .find-front .result) (args .state .now) (first .change-instant .last .1 .1 .1 .0) in
+    let start = c .before .before .before .before .before .before .before .before .before .before .before .before .before in
+    let args = start .args in
+    let bytes = put (c .before .before .before .before .before .before .find-front .result) (args .state .now) (c .before .before .before .before .change-instant .last .1 .1 .1 .0) in
     Part (args .s .now .now) (args .k) bytes (c .find-rear .result)
 behind t c =
-    let first = c .before .before .before .before .before in
-    let ahead = first .before .before .before .before .before .before in
-    let one = first .change-instant in
-    rear-after (found t (ahead .before .before)) (ahead .if1 .left) (one .last .1 .1 .1 .0)
-    (one .kept .1 .1 .1 .0) (c .before .if6 .taken) (c .find-rear .ensures)
+    let one = c .before .before .before .before .change-instant in
+    rear-after (standing t (c .before .before .before .before .before .before)) (ahead t (c .before .before .before .before .before .before)) (one .last .1 .1 .1 .0) (one .kept .1 .1 .1 .0) (both t (c .before)) (c .find-rear .ensures)
 
-change-instant-slice-read-tag :
-    (t : ℕ) → change-instant-lts.Need-slice-read-tag (R t) (change-instant-at t) change-instant.Post
-change-instant-slice-read-tag t c = some-bytes (c .before .before .pre .1 .1 .1)
+change-instant-slice-read-tag : (t : ℕ) → change-instant-lts.Need-slice-read-tag (R t) (change-instant-at t) change-instant.Post
+change-instant-slice-read-tag t c =
+    let start = c .before .before in
+    some-bytes (start .pre .1 .1 .1)
 
-change-instant-find-front-requires :
-    (t : ℕ) → change-instant-lts.Need-find-front-requires (R t) (change-instant-at t) change-instant.Post
-change-instant-find-front-requires t c κs =
-    let pre = c .before .before .pre .1 in
+change-instant-form-at-requires : (t : ℕ) → change-instant-lts.Need-form-at-requires (R t) (change-instant-at t) change-instant.Post
+change-instant-form-at-requires t c κs =
+    let start = c .before .before in
+    let pre = start .pre .1 in
     (pre .0 .checked, (pre .1 .0, pre .1 .1 .known))
 
 change-instant-returns : (t : ℕ) → change-instant-lts.Need-returns (R t) (change-instant-at t) change-instant.Post
-change-instant-returns t c = sym (stays (found t (c .before .before)) (c .if1 .taken) .same)
+change-instant-returns t c =
+    let start = c .before .before .before .before in
+    sym (stays (found t start) (omega (arith, form-is t (c .before), c .if1 .taken)) .same)
 
-change-instant-signal-is-present-requires :
-    (t : ℕ) → change-instant-lts.Need-signal-is-present-requires (R t) (change-instant-at t) change-instant.Post
+change-instant-signal-is-present-requires : (t : ℕ) → change-instant-lts.Need-signal-is-present-requires (R t) (change-instant-at t) change-instant.Post
 change-instant-signal-is-present-requires t c κs =
-    let front = c .before .before .before .before in
-    let pre = front .before .before .before .pre .1 in
-    let known = signal-known (found t front) (omega (arith, c .if2 .taken)) (omega (arith, c .if2 .taken)) in
+    let start = c .before .before .before .before .before in
+    let pre = start .pre .1 in
+    let e = form-is t (c .before .before) in
+    let known = signal-known (found t start) (omega (arith, e, c .if2 .taken)) (omega (arith, e, c .if2 .taken)) in
     (pre .0 .checked, (pre .1 .0, (pre .1 .1 .known, (pre .0 .named, known))))
 
-change-instant-slice-write-state :
-    (t : ℕ) → change-instant-lts.Need-slice-write-state (R t) (change-instant-at t) change-instant.Post
+change-instant-slice-write-state : (t : ℕ) → change-instant-lts.Need-slice-write-state (R t) (change-instant-at t) change-instant.Post
 change-instant-slice-write-state t c =
-    some-bytes (c .before .before .before .before .before .before .before .before .before .pre .1 .1 .1)
+    let start = c .before .before .before .before .before .before .before in
+    some-bytes (start .pre .1 .1 .1)
 
-change-instant-same-length :
-    (t : ℕ) → change-instant-lts.Need-same-length (R t) (change-instant-at t) change-instant.Post
+change-instant-same-length : (t : ℕ) → change-instant-lts.Need-same-length (R t) (change-instant-at t) change-instant.Post
 change-instant-same-length t c =
-    let start = c .before .before .before .before .before .before .before .before .before in
+    let start = c .before .before .before .before .before .before .before in
     length-set (start .args .state .now) 0 4
 
 change-instant-returns-2 : (t : ℕ) → change-instant-lts.Need-returns-2 (R t) (change-instant-at t) change-instant.Post
 change-instant-returns-2 t c =
-    let present = sym (c .before .signal-is-present .ensures) ∙ c .if3 .taken in
-    ends (found t (c .before .before .before .before .before .before)) (c .before .before .if2 .taken) present
+    let start = c .before .before .before .before .before .before .before in
+    let shows = sym (c .before .signal-is-present .ensures) ∙ c .if3 .taken in
+    ends (found t start) (sym (form-is t (c .before .before .before .before)) ∙ c .before .before .if2 .taken) shows
 
-change-instant-signal-is-present-requires-2 :
-    (t : ℕ) → change-instant-lts.Need-signal-is-present-requires-2 (R t) (change-instant-at t) change-instant.Post
+change-instant-signal-is-present-requires-2 : (t : ℕ) → change-instant-lts.Need-signal-is-present-requires-2 (R t) (change-instant-at t) change-instant.Post
 change-instant-signal-is-present-requires-2 t c κs =
-    let front = c .before .before .before .before .before .before in
-    let pre = front .before .before .before .pre .1 in
-    let known = signal-known (found t front) (omega (arith, c .if4 .taken)) (omega (arith, c .if4 .taken)) in
+    let start = c .before .before .before .before .before .before in
+    let pre = start .pre .1 in
+    let e = form-is t (c .before .before .before) in
+    let known = signal-known (found t start) (omega (arith, e, c .if4 .taken)) (omega (arith, e, c .if4 .taken)) in
     (pre .0 .checked, (pre .1 .0, (pre .1 .1 .known, (pre .0 .named, known))))
 
 change-instant-returns-3 : (t : ℕ) → change-instant-lts.Need-returns-3 (R t) (change-instant-at t) change-instant.Post
 change-instant-returns-3 t c =
-    let signal = c .before in
-    let joined = signal .before in
-    let front = joined .before .before .before .before .before .before in
-    let absent = sym (signal .signal-is-present2 .ensures) ∙ not-true _ (c .if5 .taken) in
-    sym (shuts (found t front) (joined .if4 .taken) absent .same)
+    let start = c .before .before .before .before .before .before .before .before in
+    let absent = sym (c .before .signal-is-present2 .ensures) ∙ not-true _ (c .if5 .taken) in
+    sym (shuts (found t start) (sym (form-is t (c .before .before .before .before .before)) ∙ c .before .before .if4 .taken) absent .same)
 
-change-instant-sub-change-instant :
-    (t : ℕ) → change-instant-lts.Need-sub-change-instant (R t) (change-instant-at t) change-instant.Post
+change-instant-find-front-requires : (t : ℕ) → change-instant-lts.Need-find-front-requires (R t) (change-instant-at t) change-instant.Post
+change-instant-find-front-requires t c κs =
+    let start = c .before .before .before .before .before .before in
+    let pre = start .pre .1 in
+    (pre .0 .checked, (pre .1 .0, pre .1 .1 .known))
+
+change-instant-sub-change-instant : (t : ℕ) → change-instant-lts.Need-sub-change-instant (R t) (change-instant-at t) change-instant.Post
 change-instant-sub-change-instant t c = part t c .order
 
-change-instant-part-change-instant-start :
-    (t : ℕ) → change-instant-lts.Need-part-change-instant-start (R t) (change-instant-at t) change-instant.Post
+change-instant-part-change-instant-start : (t : ℕ) → change-instant-lts.Need-part-change-instant-start (R t) (change-instant-at t) change-instant.Post
 change-instant-part-change-instant-start t c = part t c .order
 
-change-instant-part-change-instant-end :
-    (t : ℕ) → change-instant-lts.Need-part-change-instant-end (R t) (change-instant-at t) change-instant.Post
+change-instant-part-change-instant-end : (t : ℕ) → change-instant-lts.Need-part-change-instant-end (R t) (change-instant-at t) change-instant.Post
 change-instant-part-change-instant-end t c = part t c .within
 
-change-instant-change-instant-requires :
-    (t : ℕ) → change-instant-lts.Need-change-instant-requires (R t) (change-instant-at t) change-instant.Post
+change-instant-change-instant-requires : (t : ℕ) → change-instant-lts.Need-change-instant-requires (R t) (change-instant-at t) change-instant.Post
 change-instant-change-instant-requires t c κs =
-    let pre = c .before .before .before .before .before .before .before .before .before .before .pre in
-    (omega (arith, pre .0, part t (c .before) .earlier), (pre .1 .0, (pre .1 .1 .0, part t (c .before) .at)))
+    let start = c .before .before .before .before .before .before .before .before in
+    let p = part t (c .before) in
+    (omega (arith, start .pre .0, p .earlier), (start .pre .1 .0, (start .pre .1 .1 .0, p .at)))
 
-change-instant-find-rear-requires :
-    (t : ℕ) → change-instant-lts.Need-find-rear-requires (R t) (change-instant-at t) change-instant.Post
+change-instant-find-rear-requires : (t : ℕ) → change-instant-lts.Need-find-rear-requires (R t) (change-instant-at t) change-instant.Post
 change-instant-find-rear-requires t c κs =
-    let front = c .before .before .before .before .before .before .before .before .before .before .before .before in
-    let pre = front .before .before .before .pre .1 in
-    ((pre .0 .checked, (pre .1 .0, pre .1 .1 .known)), (ap (λ f. f .form) (front .find-front .ensures), c .if6 .taken))
+    let start = c .before .before .before .before .before .before .before .before .before .before .before .before in
+    let pre = start .pre .1 in
+    ((pre .0 .checked, (pre .1 .0, pre .1 .1 .known)), (form-is t (c .before .before .before .before .before .before .before .before .before), c .if6 .taken))
 
-change-instant-sub-change-instant-2 :
-    (t : ℕ) → change-instant-lts.Need-sub-change-instant-2 (R t) (change-instant-at t) change-instant.Post
+change-instant-sub-change-instant-2 : (t : ℕ) → change-instant-lts.Need-sub-change-instant-2 (R t) (change-instant-at t) change-instant.Post
 change-instant-sub-change-instant-2 t c = behind t c .order
 
-change-instant-part-change-instant-start-2 :
-    (t : ℕ) → change-instant-lts.Need-part-change-instant-start-2 (R t) (change-instant-at t) change-instant.Post
+change-instant-part-change-instant-start-2 : (t : ℕ) → change-instant-lts.Need-part-change-instant-start-2 (R t) (change-instant-at t) change-instant.Post
 change-instant-part-change-instant-start-2 t c = behind t c .order
 
-change-instant-part-change-instant-end-2 :
-    (t : ℕ) → change-instant-lts.Need-part-change-instant-end-2 (R t) (change-instant-at t) change-instant.Post
+change-instant-part-change-instant-end-2 : (t : ℕ) → change-instant-lts.Need-part-change-instant-end-2 (R t) (change-instant-at t) change-instant.Post
 change-instant-part-change-instant-end-2 t c = behind t c .within
 
-change-instant-change-instant-requires-2 :
-    (t : ℕ) → change-instant-lts.Need-change-instant-requires-2 (R t) (change-instant-at t) change-instant.Post
+change-instant-change-instant-requires-2 : (t : ℕ) → change-instant-lts.Need-change-instant-requires-2 (R t) (change-instant-at t) change-instant.Post
 change-instant-change-instant-requires-2 t c κs =
-    let front = c .before .before .before .before .before .before .before .before .before .before .before .before .before .before in
-    let pre = front .before .before .before .pre in
-    let part = behind t (c .before) in
-    (omega (arith, pre .0, part .earlier), (pre .1 .0, (pre .1 .1 .0, part .at)))
+    let start = c .before .before .before .before .before .before .before .before .before .before .before .before .before .before in
+    let p = behind t (c .before) in
+    (omega (arith, start .pre .0, p .earlier), (start .pre .1 .0, (start .pre .1 .1 .0, p .at)))
 
-change-instant-same-length-2 :
-    (t : ℕ) → change-instant-lts.Need-same-length-2 (R t) (change-instant-at t) change-instant.Post
+change-instant-same-length-2 : (t : ℕ) → change-instant-lts.Need-same-length-2 (R t) (change-instant-at t) change-instant.Post
 change-instant-same-length-2 t c =
-    let second = c .before .before in
-    let behind-it = second .before .before in
-    let both = behind-it .before in
-    let first = both .before .before .before .before in
-    let ahead = first .before .before .before .before .before .before in
-    let front = ahead .before .before in
-    let one = first .change-instant in
-    let two = second .change-instant2 in
-    length-two (found t front) (ahead .if1 .left) (one .last .1 .1 .1 .0) (one .kept .1 .1 .1 .0)
-    (both .if6 .taken) (behind-it .find-rear .ensures) (two .last .1 .1 .1 .0) (two .kept .1 .1 .1 .0)
+    let one = c .before .before .before .before .before .before .before .before .change-instant in
+    let two = c .before .before .change-instant2 in
+    length-two (standing t (c .before .before .before .before .before .before .before .before .before .before)) (ahead t (c .before .before .before .before .before .before .before .before .before .before)) (one .last .1 .1 .1 .0) (one .kept .1 .1 .1 .0)
+    (both t (c .before .before .before .before .before)) (c .before .before .before .before .find-rear .ensures) (two .last .1 .1 .1 .0) (two .kept .1 .1 .1 .0)
 
 change-instant-returns-4 : (t : ℕ) → change-instant-lts.Need-returns-4 (R t) (change-instant-at t) change-instant.Post
 change-instant-returns-4 t c =
-    let second = c .before .before in
-    let behind-it = second .before .before in
-    let both = behind-it .before in
-    let first = both .before .before .before .before in
-    let ahead = first .before .before .before .before .before .before in
-    let front = ahead .before .before in
-    let one = first .change-instant in
-    let two = second .change-instant2 in
-    two-changed (found t front) (ahead .if1 .left) (one .last .1 .1 .1 .0) (one .kept .1 .1 .1 .0)
-    (both .if6 .taken) (behind-it .find-rear .ensures) (two .last .1 .1 .1 .0) (two .kept .1 .1 .1 .0)
-    (one .ensures) (two .ensures)
+    let one = c .before .before .before .before .before .before .before .before .change-instant in
+    let two = c .before .before .change-instant2 in
+    two-changed (standing t (c .before .before .before .before .before .before .before .before .before .before)) (ahead t (c .before .before .before .before .before .before .before .before .before .before)) (one .last .1 .1 .1 .0) (one .kept .1 .1 .1 .0)
+    (both t (c .before .before .before .before .before)) (c .before .before .before .before .find-rear .ensures) (two .last .1 .1 .1 .0) (two .kept .1 .1 .1 .0) (one .ensures) (two .ensures)
 
-change-instant-same-length-3 :
-    (t : ℕ) → change-instant-lts.Need-same-length-3 (R t) (change-instant-at t) change-instant.Post
+change-instant-same-length-3 : (t : ℕ) → change-instant-lts.Need-same-length-3 (R t) (change-instant-at t) change-instant.Post
 change-instant-same-length-3 t c =
-    let first = c .before .before .before .before in
-    let ahead = first .before .before .before .before .before .before in
-    let front = ahead .before .before in
-    let one = first .change-instant in
-    length-one (found t front) (ahead .if1 .left) (one .last .1 .1 .1 .0) (one .kept .1 .1 .1 .0)
+    let one = c .before .before .before .change-instant in
+    length-one (standing t (c .before .before .before .before .before)) (ahead t (c .before .before .before .before .before)) (one .last .1 .1 .1 .0) (one .kept .1 .1 .1 .0)
 
 change-instant-returns-5 : (t : ℕ) → change-instant-lts.Need-returns-5 (R t) (change-instant-at t) change-instant.Post
 change-instant-returns-5 t c =
-    let first = c .before .before .before .before in
-    let joined = first .before .before in
-    let opened = joined .before .before in
-    let ahead = opened .before .before in
-    let front = ahead .before .before in
-    let one = first .change-instant in
-    one-changed (found t front) (ahead .if1 .left) (one .last .1 .1 .1 .0) (one .kept .1 .1 .1 .0)
-    (c .if6 .left) (silent t opened) (shown t joined) (one .ensures)
+    let one = c .before .before .before .change-instant in
+    let e = ap (λ (f : Front). f .form) (c .before .before .before .before .before .find-front .ensures) in
+    one-changed (standing t (c .before .before .before .before .before)) (ahead t (c .before .before .before .before .before)) (one .last .1 .1 .1 .0) (one .kept .1 .1 .1 .0)
+    (rw (c .before .before .before .before .before .find-front .ensures) (omega (arith, form-is t (c .before .before .before .before .before .before .before .before .before), c .if6 .left))) (λ q. silent t (c .before .before .before .before .before .before .before) (sym e ∙ q)) (λ q. shown t (c .before .before .before .before .before .before) (sym e ∙ q)) (one .ensures)
 
 pub +change-instant-spec : {M : Type 1} → statement M
 +change-instant-spec = close μ-change-instant λ t. change-instant-lts.spec (R t)
     (change-instant-at t)
     change-instant.Post
     (change-instant-slice-read-tag t)
-    (change-instant-find-front-requires t)
+    (change-instant-form-at-requires t)
     (change-instant-returns t)
     (change-instant-signal-is-present-requires t)
     (change-instant-slice-write-state t)
@@ -266,6 +275,7 @@ pub +change-instant-spec : {M : Type 1} → statement M
     (change-instant-returns-2 t)
     (change-instant-signal-is-present-requires-2 t)
     (change-instant-returns-3 t)
+    (change-instant-find-front-requires t)
     (change-instant-sub-change-instant t)
     (change-instant-part-change-instant-start t)
     (change-instant-part-change-instant-end t)

@@ -1,13 +1,15 @@
 -- `is_suspended` and `rear_waits`: by the form of the node, its part in front decides, or the part behind it.
 use mathlib.Core.Path.{_≡_, refl, sym, ap, _∙_, subst}
-use mathlib.Core.Bool.{true}
+use mathlib.Core.Bool.{true, false}
 use mathlib.Core.Logic.{⊎-elim}
 use native.Mathlib.Omega.{arith}
 use lib.ListN.{length}
 use borrow.Author.Tests.{not-true, not-false}
 use Rattle.language.specs.Steps.{present, suspended}
 use Rattle.residual.specs.Residual.{own}
-use Rattle.plan.specs.Forms.{guarded, frontOf, partIn}
+use Rattle.plan.specs.declared.forms.Front.{Front}
+use Rattle.plan.specs.Forms.{mover, guarded, frontOf, partIn}
+use Rattle.plan.proofs.Fronts.{front-form}
 use Rattle.residual.specs.Nodes.{left}
 use Rattle.instants.specs.Contracts.{RearWaits}
 use Rattle.residual.proofs.Sights.{signalAt}
@@ -22,6 +24,7 @@ use Rattle.instants.proofs.suspension.+is_suspended+rear_waits.Lts-is_s
 use Rattle.instants.proofs.suspension.rear_waits.Reads as rear-waits
 use Rattle.instants.proofs.suspension.rear_waits.Kinds as rear-waits-kinds
 use Rattle.instants.proofs.suspension.+is_suspended+rear_waits.Lts-rear_waits as rear-waits-lts
+use Rattle.plan.proofs.forms.form_at.Reads as form-at-reads
 use Rattle.plan.proofs.forms.find_front.Reads as find-front-reads
 use Rattle.plan.proofs.forms.find_rear.Reads as find-rear-reads
 use Rattle.evaluation.proofs.signal_is_present.Reads as signal-is-present-reads
@@ -56,12 +59,14 @@ rear-waits-below t =
 
 abbrev R : ℕ → is-suspended-lts.Claims
 R t = (
-  find-front-reads.Asked,
-  find-front-reads.Learnt,
+  form-at-reads.Asked,
+  form-at-reads.Learnt,
   signal-is-present-reads.Asked,
   signal-is-present-reads.Learnt,
   rear-waits-below t,
   rear-waits.Post,
+  find-front-reads.Asked,
+  find-front-reads.Learnt,
   is-suspended-below t,
   is-suspended.Post,
 )
@@ -71,109 +76,121 @@ Q t = (find-rear-reads.Asked, find-rear-reads.Learnt, is-suspended-below t, is-s
 
 -- the node and its front
 found :
-    (t : ℕ) (c : is-suspended-lts.After-find-front (R t) (is-suspended-at t) is-suspended.Post) →
-    let args = c .before .before .before .args in
-    Found (args .s .now .now) (args .values .now) (args .k) (args .state .now) (c .find-front .result)
-found t c =
-    let pre = c .before .before .before .pre .1 in
-    record { valued = pre .0; at = pre .1 .1; front = c .find-front .ensures }
+    (t : ℕ) (c : is-suspended-lts.Start (R t) (is-suspended-at t) is-suspended.Post) →
+    let args = c .args in
+    Found (args .s .now .now) (args .values .now) (args .k) (args .state .now) (frontOf (args .s .now .now) (args .k) (own (args .state .now)) (length (args .state .now)))
+found t c = record { valued = c .pre .1 .0; at = c .pre .1 .1 .1; front = refl }
+
+form-is :
+    (t : ℕ) (c : is-suspended-lts.After-form-at (R t) (is-suspended-at t) is-suspended.Post) →
+    let start = c .before .before .before in
+    let args = start .args in
+    c .form-at .result ≡ (frontOf (args .s .now .now) (args .k) (own (args .state .now)) (length (args .state .now))) .form
+form-is t c =
+    let start = c .before .before .before in
+    let args = start .args in
+    c .form-at .ensures ∙ sym (front-form (args .s .now .now) (args .k) (own (args .state .now)) (length (args .state .now)))
 
 -- a when around its part is open
 shown :
     (t : ℕ) (c : is-suspended-lts.Joined2 (R t) (is-suspended-at t) is-suspended.Post) →
-    let front = c .before .before .before .before in
-    let args = front .before .before .before .args in
-    front .find-front .result .form ≡ guarded →
+    let start = c .before .before .before .before .before in
+    let args = start .args in
+    (frontOf (args .s .now .now) (args .k) (own (args .state .now)) (length (args .state .now))) .form ≡ guarded →
     present (args .values .now) (signalAt (args .s .now .now) (args .k)) ≡ true
-shown t c =
-    ⊎-elim (λ w e. sym (w .1 .ensures) ∙ not-false _ (w .2 .left)) (λ w e. absurd (w .left e)) (c .if2 .came)
+shown t c e =
+    ⊎-elim (λ w. sym (w .1 .ensures) ∙ not-false _ (w .2 .left)) (λ w. absurd (w .left (form-is t (c .before .before) ∙ e))) (c .if2 .came)
+
+some-part :
+    (t : ℕ) (c : is-suspended-lts.Else1 (R t) (is-suspended-at t) is-suspended.Post) →
+    let start = c .before .before .before .before in
+    let args = start .args in
+    mover < (frontOf (args .s .now .now) (args .k) (own (args .state .now)) (length (args .state .now))) .form
+some-part t c = subst (λ n. mover < n) (form-is t (c .before)) (c .if1 .left)
 
 part :
-    (t : ℕ) (c : is-suspended-lts.Joined2 (R t) (is-suspended-at t) is-suspended.Post) →
-    let front = c .before .before .before .before in
-    let args = front .before .before .before .args in
-    Part (args .s .now .now) (args .k) (args .state .now) (front .find-front .result)
+    (t : ℕ) (c : is-suspended-lts.After-find-front (R t) (is-suspended-at t) is-suspended.Post) →
+    let start = c .before .before .before .before .before .before .before .before in
+    let args = start .args in
+    Part (args .s .now .now) (args .k) (args .state .now) (c .find-front .result)
 part t c =
-    let ahead = c .before .before in
-    front-part (found t (ahead .before .before)) (ahead .if1 .left)
+    let start = c .before .before .before .before .before .before .before .before in
+    rw (c .find-front .ensures) (front-part (found t start) (some-part t (c .before .before .before .before)))
 
-is-suspended-shared-slice-read-tag :
-    (t : ℕ) → is-suspended-lts.Need-shared-slice-read-tag (R t) (is-suspended-at t) is-suspended.Post
-is-suspended-shared-slice-read-tag t c = some-bytes (c .before .before .pre .1 .1 .1)
+is-suspended-shared-slice-read-tag : (t : ℕ) → is-suspended-lts.Need-shared-slice-read-tag (R t) (is-suspended-at t) is-suspended.Post
+is-suspended-shared-slice-read-tag t c =
+    let start = c .before .before in
+    some-bytes (start .pre .1 .1 .1)
 
-is-suspended-find-front-requires :
-    (t : ℕ) → is-suspended-lts.Need-find-front-requires (R t) (is-suspended-at t) is-suspended.Post
-is-suspended-find-front-requires t c κs =
-    let pre = c .before .before .pre .1 in
+is-suspended-form-at-requires : (t : ℕ) → is-suspended-lts.Need-form-at-requires (R t) (is-suspended-at t) is-suspended.Post
+is-suspended-form-at-requires t c κs =
+    let start = c .before .before in
+    let pre = start .pre .1 in
     (pre .0 .checked, (pre .1 .0, pre .1 .1 .known))
 
 is-suspended-returns : (t : ℕ) → is-suspended-lts.Need-returns (R t) (is-suspended-at t) is-suspended.Post
-is-suspended-returns t c = sym (stays (found t (c .before .before)) (c .if1 .taken) .waits)
+is-suspended-returns t c =
+    let start = c .before .before .before .before in
+    sym (stays (found t start) (omega (arith, form-is t (c .before), c .if1 .taken)) .waits)
 
-is-suspended-signal-is-present-requires :
-    (t : ℕ) → is-suspended-lts.Need-signal-is-present-requires (R t) (is-suspended-at t) is-suspended.Post
+is-suspended-signal-is-present-requires : (t : ℕ) → is-suspended-lts.Need-signal-is-present-requires (R t) (is-suspended-at t) is-suspended.Post
 is-suspended-signal-is-present-requires t c κs =
-    let front = c .before .before .before .before in
-    let pre = front .before .before .before .pre .1 in
-    let known = signal-known (found t front) (omega (arith, c .if2 .taken)) (omega (arith, c .if2 .taken)) in
+    let start = c .before .before .before .before .before in
+    let pre = start .pre .1 in
+    let e = form-is t (c .before .before) in
+    let known = signal-known (found t start) (omega (arith, e, c .if2 .taken)) (omega (arith, e, c .if2 .taken)) in
     (pre .0 .checked, (pre .1 .0, (pre .1 .1 .known, (pre .0 .named, known))))
 
 is-suspended-returns-2 : (t : ℕ) → is-suspended-lts.Need-returns-2 (R t) (is-suspended-at t) is-suspended.Post
 is-suspended-returns-2 t c =
-    let signal = c .before in
-    let opened = signal .before in
-    let front = opened .before .before .before .before in
-    let absent = sym (signal .signal-is-present .ensures) ∙ not-true _ (c .if3 .taken) in
-    sym (shuts (found t front) (opened .if2 .taken) absent .waits)
+    let start = c .before .before .before .before .before .before .before in
+    let absent = sym (c .before .signal-is-present .ensures) ∙ not-true _ (c .if3 .taken) in
+    sym (shuts (found t start) (sym (form-is t (c .before .before .before .before)) ∙ c .before .before .if2 .taken) absent .waits)
 
-is-suspended-rear-waits-requires :
-    (t : ℕ) → is-suspended-lts.Need-rear-waits-requires (R t) (is-suspended-at t) is-suspended.Post
+is-suspended-rear-waits-requires : (t : ℕ) → is-suspended-lts.Need-rear-waits-requires (R t) (is-suspended-at t) is-suspended.Post
 is-suspended-rear-waits-requires t c κs =
-    let front = c .before .before .before .before in
-    let pre = front .before .before .before .pre in
-    (omega (arith, pre .0), (pre .1, ap (λ f. f .form) (front .find-front .ensures)))
+    let start = c .before .before .before .before .before in
+    (omega (arith, start .pre .0), (start .pre .1, form-is t (c .before .before)))
 
 is-suspended-returns-3 : (t : ℕ) → is-suspended-lts.Need-returns-3 (R t) (is-suspended-at t) is-suspended.Post
 is-suspended-returns-3 t c =
-    let opened = c .before .before in
-    let front = c .before .before .before .before .before .before in
-    let args = front .before .before .before .args in
+    let start = c .before .before .before .before .before .before .before in
+    let args = start .args in
     sym
-    (awake-rear (found t front) (c .before .before .before .before .if1 .left) (shown t opened)
-    (subst
-    (RearWaits (args .s .now .now) (args .k) (args .state .now) (args .values .now) (front .find-front .result .form))
-    (not-true _ (c .if4 .taken))
-    (c .before .rear-waits .ensures)))
+    (awake-rear (found t start) (some-part t (c .before .before .before)) (shown t (c .before .before))
+    (subst (λ n. RearWaits (args .s .now .now) (args .k) (args .state .now) (args .values .now) n false) (form-is t (c .before .before .before .before))
+    (subst (RearWaits (args .s .now .now) (args .k) (args .state .now) (args .values .now) (c .before .before .before .before .form-at .result)) (not-true _ (c .if4 .taken)) (c .before .rear-waits .ensures))))
 
-is-suspended-sub-is-suspended :
-    (t : ℕ) → is-suspended-lts.Need-sub-is-suspended (R t) (is-suspended-at t) is-suspended.Post
-is-suspended-sub-is-suspended t c = part t (c .before .before) .order
+is-suspended-find-front-requires : (t : ℕ) → is-suspended-lts.Need-find-front-requires (R t) (is-suspended-at t) is-suspended.Post
+is-suspended-find-front-requires t c κs =
+    let start = c .before .before .before .before .before .before .before in
+    let pre = start .pre .1 in
+    (pre .0 .checked, (pre .1 .0, pre .1 .1 .known))
 
-is-suspended-part-is-suspended-start :
-    (t : ℕ) → is-suspended-lts.Need-part-is-suspended-start (R t) (is-suspended-at t) is-suspended.Post
-is-suspended-part-is-suspended-start t c = part t (c .before .before) .order
+is-suspended-sub-is-suspended : (t : ℕ) → is-suspended-lts.Need-sub-is-suspended (R t) (is-suspended-at t) is-suspended.Post
+is-suspended-sub-is-suspended t c = part t c .order
 
-is-suspended-part-is-suspended-end :
-    (t : ℕ) → is-suspended-lts.Need-part-is-suspended-end (R t) (is-suspended-at t) is-suspended.Post
-is-suspended-part-is-suspended-end t c = part t (c .before .before) .within
+is-suspended-part-is-suspended-start : (t : ℕ) → is-suspended-lts.Need-part-is-suspended-start (R t) (is-suspended-at t) is-suspended.Post
+is-suspended-part-is-suspended-start t c = part t c .order
 
-is-suspended-is-suspended-requires :
-    (t : ℕ) → is-suspended-lts.Need-is-suspended-requires (R t) (is-suspended-at t) is-suspended.Post
+is-suspended-part-is-suspended-end : (t : ℕ) → is-suspended-lts.Need-part-is-suspended-end (R t) (is-suspended-at t) is-suspended.Post
+is-suspended-part-is-suspended-end t c = part t c .within
+
+is-suspended-is-suspended-requires : (t : ℕ) → is-suspended-lts.Need-is-suspended-requires (R t) (is-suspended-at t) is-suspended.Post
 is-suspended-is-suspended-requires t c κs =
-    let pre = c .before .before .before .before .before .before .before .before .before .before .pre in
-    (omega (arith, pre .0, part t (c .before .before .before) .earlier), (pre .1 .0, (pre .1 .1 .0, part t (c .before .before .before) .at)))
+    let start = c .before .before .before .before .before .before .before .before .before in
+    let p = part t (c .before) in
+    (omega (arith, start .pre .0, p .earlier), (start .pre .1 .0, (start .pre .1 .1 .0, p .at)))
 
 is-suspended-returns-4 : (t : ℕ) → is-suspended-lts.Need-returns-4 (R t) (is-suspended-at t) is-suspended.Post
 is-suspended-returns-4 t c =
-    let opened = c .before .before .before .before in
-    let front = c .before .before .before .before .before .before .before .before in
-    let args = front .before .before .before .args in
+    let start = c .before .before .before .before .before .before .before .before .before .before in
+    let args = start .args in
     c .is-suspended .ensures
-    ∙ waiting-rear (found t front) (c .before .before .before .before .before .before .if1 .left) (shown t opened)
-    (subst
-    (RearWaits (args .s .now .now) (args .k) (args .state .now) (args .values .now) (front .find-front .result .form))
-    (not-false _ (c .before .before .if4 .left))
-    (c .before .before .before .rear-waits .ensures))
+    ∙ ap (λ (f : Front). suspended (left (args .s .now .now) (f .child) (partIn f (args .state .now))) (args .values .now)) (c .before .before .find-front .ensures)
+    ∙ waiting-rear (found t start) (some-part t (c .before .before .before .before .before .before)) (shown t (c .before .before .before .before .before))
+    (subst (λ n. RearWaits (args .s .now .now) (args .k) (args .state .now) (args .values .now) n true) (form-is t (c .before .before .before .before .before .before .before))
+    (subst (RearWaits (args .s .now .now) (args .k) (args .state .now) (args .values .now) (c .before .before .before .before .before .before .before .form-at .result)) (not-false _ (c .before .before .before .if4 .left)) (c .before .before .before .before .rear-waits .ensures)))
 
 -- the node is a parallel
 rear :
@@ -242,12 +259,13 @@ pub +is-suspended+rear-waits-spec : {M : Type 1} → statement M
     (is-suspended-at t)
     is-suspended.Post
     (is-suspended-shared-slice-read-tag t)
-    (is-suspended-find-front-requires t)
+    (is-suspended-form-at-requires t)
     (is-suspended-returns t)
     (is-suspended-signal-is-present-requires t)
     (is-suspended-returns-2 t)
     (is-suspended-rear-waits-requires t)
     (is-suspended-returns-3 t)
+    (is-suspended-find-front-requires t)
     (is-suspended-sub-is-suspended t)
     (is-suspended-part-is-suspended-start t)
     (is-suspended-part-is-suspended-end t)
