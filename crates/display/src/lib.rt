@@ -15,28 +15,29 @@ pub fn say_byte(byte: u8) {
     say(&text);
 }
 
+// A number, and the byte that ends it.
+fn say_number(n: u64, end: u8) {
+    io::print_decimal(STDOUT_FILENO, n);
+    say_byte(end);
+}
+
 // A line of a word and two numbers.
 fn say_pair(word: &[u8], a: u32, b: u32) {
     say(word);
-    io::print_decimal(STDOUT_FILENO, a as u64);
-    say_byte(b' ');
-    io::print_decimal(STDOUT_FILENO, b as u64);
-    say_byte(b'\n');
+    say_number(a as u64, b' ');
+    say_number(b as u64, b'\n');
 }
 
 // The word at index i of a log: of a line's four words the last is a signed value, in two's complement.
 fn say_word(i: usize, w: u32) {
-    let mut n = w as u64;
-    let mut end = b' ';
-    if i % 4 == 3 {
-        end = b'\n';
-        if 2147483648 <= w {
-            say_byte(b'-');
-            n = 4294967296 - n;
-        }
+    if i % 4 != 3 {
+        say_number(w as u64, b' ');
+    } else if w < 2147483648 {
+        say_number(w as u64, b'\n');
+    } else {
+        say_byte(b'-');
+        say_number(4294967296 - (w as u64), b'\n');
     }
-    io::print_decimal(STDOUT_FILENO, n);
-    say_byte(end);
 }
 
 // The first lines of a log that has so many.

@@ -54,6 +54,17 @@ fn clear(state: &mut [u8])
     }
 }
 
+// The bytes of a loop's body. That of one node needs no loop of its own.
+fn clear_body(state: &mut [u8])
+    ensures { λ _. ⌜ now (state .exit) ≡ replicate (length (now (state .entry))) 0 ⌝ }
+{
+    if state.len() == 1 {
+        state[0] = 0;
+        return;
+    }
+    clear(state);
+}
+
 // A let sets its name and leaves its body.
 fn move_let(
     s: &&[u8],
@@ -112,7 +123,7 @@ fn move_while(
 {
     if evaluation::test_holds(s, plan, values, plan::a_at(s, plan, k)) {
         state[0] = 1;
-        clear(&mut state[1..]);
+        clear_body(&mut state[1..]);
     } else {
         state[0] = forms::NIL;
     }

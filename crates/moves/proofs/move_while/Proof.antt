@@ -36,21 +36,21 @@ slice-write-state c =
     let start = c .before .before .before .before in
     some-bytes (start .pre .1 .1 .0)
 
-sub-clear : tie.Need-sub-clear
-sub-clear c =
+sub-clear-body : tie.Need-sub-clear-body
+sub-clear-body c =
     let start = c .before .before .before .before in
     rw (length-set (start .args .state .now) 0 1) (some-bytes (start .pre .1 .1 .0))
 
-part-clear-start : tie.Need-part-clear-start
-part-clear-start c =
+part-clear-body-start : tie.Need-part-clear-body-start
+part-clear-body-start c =
     let start = c .before .before .before .before in
     rw (length-set (start .args .state .now) 0 1) (some-bytes (start .pre .1 .1 .0))
 
-part-clear-end : tie.Need-part-clear-end
-part-clear-end c = search needs
+part-clear-body-end : tie.Need-part-clear-body-end
+part-clear-body-end c = search needs
 
-clear-requires : tie.Need-clear-requires
-clear-requires c κs = search needs
+clear-body-requires : tie.Need-clear-body-requires
+clear-body-requires c κs = search needs
 
 slice-write-state-2 : tie.Need-slice-write-state-2
 slice-write-state-2 c =
@@ -61,13 +61,13 @@ same-length : tie.Need-same-length
 same-length c =
     let start = c .before .before .before .before .before .before .before .before in
     cleared-long (start .args .s .now .now) (start .pre .0 .checked) (start .args .k) (start .pre .1 .1 .0 .known)
-    (start .args .state .now) (some-bytes (start .pre .1 .1 .0)) (start .pre .1 .1 .1 .1) (start .args .values .now) (start .pre .1 .1 .1 .0) (start .pre .1 .1 .0 .whole) (c .before .before .clear .last .0) (c .before .before .clear .ensures)
+    (start .args .state .now) (some-bytes (start .pre .1 .1 .0)) (start .pre .1 .1 .1 .1) (start .args .values .now) (start .pre .1 .1 .1 .0) (start .pre .1 .1 .0 .whole) (c .before .before .clear-body .last .0) (c .before .before .clear-body .ensures)
 
 returns : tie.Need-returns
 returns c =
     let start = c .before .before .before .before .before .before .before .before in
     round-moves (start .args .s .now .now) (start .pre .0 .checked) (start .args .k) (start .pre .1 .1 .0 .known)
-    (start .args .state .now) (some-bytes (start .pre .1 .1 .0)) (start .pre .1 .1 .1 .1) (start .args .values .now) (start .pre .1 .1 .1 .0) (start .pre .1 .1 .0 .whole) (c .before .before .clear .last .0) (c .before .before .clear .ensures)
+    (start .args .state .now) (some-bytes (start .pre .1 .1 .0)) (start .pre .1 .1 .1 .1) (start .args .values .now) (start .pre .1 .1 .1 .0) (start .pre .1 .1 .0 .whole) (c .before .before .clear-body .last .0) (c .before .before .clear-body .ensures)
     (sym (tested (c .before .before .before .before .before)) ∙ c .before .before .before .before .if1 .taken)
 
 same-length-2 : tie.Need-same-length-2
@@ -86,10 +86,10 @@ move-while-spec =
     a-at-requires
     test-holds-requires
     slice-write-state
-    sub-clear
-    part-clear-start
-    part-clear-end
-    clear-requires
+    sub-clear-body
+    part-clear-body-start
+    part-clear-body-end
+    clear-body-requires
     slice-write-state-2
     same-length
     returns
