@@ -1,5 +1,5 @@
 // The order of a level book: any bytes in; out comes a book in order, or refusal 1 or 2.
-mod faults; // faults.rt: the faults of refusal 2
+mod disorder; // disorder.rt: the faults of refusal 2
 pub mod converse; // converse.rt: the order upside down
 
 use book::Book;
@@ -32,7 +32,7 @@ pub fn load(s: &[u8]) -> Loaded
         return refused(1, 0);
     }
     let b = read::read_book(s);
-    let faulty = faults::first_faulty(b);
+    let faulty = disorder::first_faulty(b);
     if faulty < b.count {
         return refused(2, faulty);
     }

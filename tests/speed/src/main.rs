@@ -76,8 +76,8 @@ fn names() {
 fn once(side: &str, name: &str, count: &str) {
     let side = side.parse().expect("side: 0, 1 or 2");
     let count = count.parse().expect("count: a number");
-    if let Some(Workload { call, .. }) = workloads::runs().into_iter().find(|run| run.name == name)
-    {
+    let mut runs = workloads::runs().into_iter().chain(workloads::growth());
+    if let Some(Workload { call, .. }) = runs.find(|run| run.name == name) {
         let (mut values, mut log) = (call.values.clone(), vec![0; call.log]);
         println!(
             "{:?}",

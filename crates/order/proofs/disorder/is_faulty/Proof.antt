@@ -11,8 +11,8 @@ use Rattle.prelude.proofs.Sets.{none-beyond}
 use Rattle.book.specs.LevelBook.{atOrBelow}
 use Rattle.order.specs.Refusals.{isFaulty}
 use Rattle.order.proofs.Faultless.{faults-by-sets}
-use Rattle.order.proofs.faults.is_faulty.Statement.{statement}
-use Rattle.order.proofs.faults.is_faulty.Tie as tie
+use Rattle.order.proofs.disorder.is_faulty.Statement.{statement}
+use Rattle.order.proofs.disorder.is_faulty.Tie as tie
 
 mul-row : tie.Need-mul-row
 mul-row c = search needs

@@ -6,8 +6,8 @@ use Rattle.prelude.proofs.Searches.{NoneBelow, past, first-is, first-none}
 use Rattle.order.specs.Refusals.{isFaulty, firstFaulty}
 use native.Mathlib.Nat.{le-antisymm}
 use borrow.Author.Needs.{needs}
-use Rattle.order.proofs.faults.first_faulty.Statement.{statement}
-use Rattle.order.proofs.faults.first_faulty.Tie as tie
+use Rattle.order.proofs.disorder.first_faulty.Statement.{statement}
+use Rattle.order.proofs.disorder.first_faulty.Tie as tie
 
 abbrev Inv-loop : tie.InvT-loop
 Inv-loop n rows i₀ i = (i ≤ n) × NoneBelow (isFaulty rows n) i

@@ -16,8 +16,8 @@ use Rattle.prelude.proofs.Bools.{and-intro}
 use Rattle.prelude.proofs.Searches.{first-holds, any-some, any-none}
 use Rattle.prelude.proofs.Sets.{has-zero, smallest-below, smallest-same, out, out-le}
 use Rattle.book.specs.LevelBook.{mostLevels}
-use Rattle.order.proofs.faults.any_fault.Statement.{statement}
-use Rattle.order.proofs.faults.any_fault.Tie as tie
+use Rattle.order.proofs.disorder.any_fault.Statement.{statement}
+use Rattle.order.proofs.disorder.any_fault.Tie as tie
 
 -- what of the levels in a set shows a fault is what all the others show
 abbrev Left : List ℕ → ℕ → ℕ → ℕ → Type 0
