@@ -17,30 +17,31 @@ ghost use Rattle.moves.specs.Contracts.{Counted, seenIn, IsSilent, IsWri
 
 // Why a node made no further move: it has made one and can go on; it is nil; it is suspended; the limit is reached;
 // the next line has no room.
-pub const AGAIN: u8 = 0;
+pub const AGAIN: usize = 0;
 
-pub const GONE: u8 = 1;
+pub const GONE: usize = 1;
 
-pub const SUSPENDED: u8 = 2;
+pub const SUSPENDED: usize = 2;
 
-pub const SPENT: u8 = 3;
+pub const SPENT: usize = 3;
 
-pub const FULL: u8 = 4;
+pub const FULL: usize = 4;
 
-// The steps and the lines that are counted.
+// The steps and the lines that are counted. These structs are copied at each call: whole words leave no gaps in them, which
+// would be copied too.
 pub struct Counts {
-    pub steps: u32,
+    pub steps: usize,
     pub lines: usize,
 }
 
 pub struct Done {
-    pub why: u8,
+    pub why: usize,
     pub at: Counts,
 }
 
 // The step limit, and the instant.
 pub struct Limits {
-    pub steps: u32,
+    pub steps: usize,
     pub instant: u32,
 }
 

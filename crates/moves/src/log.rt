@@ -26,7 +26,7 @@ pub struct Noted {
 pub fn note(
     seen: &[u8; Script::MAX_NAMES],
     log: &mut [u32],
-    steps: u32,
+    steps: usize,
     instant: u32,
     lines: usize,
     x: usize,
@@ -42,7 +42,7 @@ pub fn note(
         return Noted { fits: false, lines };
     }
     let word = arithmetic::words::word_of(value);
-    put_line(log, 4 * lines, steps + 1, instant, x as u32, word);
+    put_line(log, 4 * lines, (steps + 1) as u32, instant, x as u32, word);
     Noted {
         fits: true,
         lines: lines + 1,

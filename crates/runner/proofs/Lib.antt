@@ -5,4 +5,5 @@ pub mod Turning
 pub mod Entries
 pub mod Nexts
 pub mod Idling
+pub mod Places
 pub mod Whole

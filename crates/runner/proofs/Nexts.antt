@@ -23,11 +23,11 @@ use Rattle.residual.proofs.Sights.{part-length}
 use Rattle.instants.proofs.Deciding.{Found, Part, sees, front-part}
 use Rattle.moves.specs.declared.Done.{Done}
 use Rattle.moves.specs.Moves.{Running, isGone, isSuspended, isSpent, gone, waits}
-use Rattle.moves.specs.Contracts.{IsWriter, runningAt, Advances}
+use Rattle.moves.specs.Contracts.{Counted, IsWriter, runningAt, Advances}
 use Rattle.moves.proofs.Advancing.{ended}
-use Rattle.runner.specs.Contracts.{into, moving, itselfOf, Follows, nothing, awaits, itself, part, doneAt, Rests, Settles}
+use Rattle.runner.specs.Contracts.{inside, into, moving, itselfOf, Alone, Follows, nothing, awaits, itself, stands, part, doneAt, Rests, Settles}
 use Rattle.runner.proofs.Entries.{writer-moves}
-use Rattle.runner.proofs.Turning.{Going, going, Turn, turns-on, turns-end, part-turn, part-ends, part-rests, front-kept, settled}
+use Rattle.runner.proofs.Turning.{Going, going, Turn, begins, turns-on, turns-to, part-turn, part-ends, part-rests, front-kept, settled}
 
 -- the bytes of the node itself are all
 whole-part : (k : ℕ) (st : List ℕ) → partIn (itselfOf k (length st)) st ≡ st
@@ -48,24 +48,12 @@ pub data Way (s : List ℕ) (k : ℕ) (st : List ℕ) (vs : List ℤ) (why : ℕ
 abbrev pub reached : Front → List ℕ → List ℕ → List ℕ
 reached f st ys = putMid (f .from) (f .to - f .from) st ys
 
--- A node has been left, where it was at `at` with the bytes st₀, and had made these steps before: what came of it.
-pub record Left
-    (seen : ℕ → Bool) (limit : ℕ) (at : Running ℕ) (st₀ : List ℕ) (s : List ℕ) (k steps : ℕ) (long : ℕ) (st′ : List ℕ)
-    (ws : List ℤ) (log′ : List ℕ) (instant : ℕ) (d : Done) : Type 0 where
-  pub ends :
-      (d .why ≡ 0 → ⊥) →
-      Advances seen limit (length (at .log) / 4) at (runningAt s k st′ ws log′ (d .at .steps) instant (d .at .lines)) (d .why)
-      × (0 < d .why)
-  pub on :
-      length st′ ≡ long →
-      Turn seen limit at (runningAt s k st′ ws log′ (d .at .steps) instant (d .at .lines)) st₀ st′
-  pub less : d .why ≡ 0 → (steps < d .at .steps) × (d .at .steps ≤ limit)
-
 module _ (s : List ℕ) (k : ℕ) (st : List ℕ) (vs : List ℤ) (why : ℕ) (f : Front) where
   pub way : Follows s k st vs why f → into ≤ why → Valued s vs → At s k st → Way s k st vs why f
   way (nothing e z) g v a = absurd (omega (arith, e, g))
   way (awaits e z) g v a = absurd (omega (arith, e, g))
   way (itself e q m) g v a = byItself e q m
+  way (stands e o) g v a = absurd (omega (arith, e, g))
   way (part l e m p w) g v a =
       let found : Found s vs k st f = record { valued = v; at = a; front = e } in
       byPart (going s k st f vs (sees found) m p) (front-part found m) m e w
@@ -89,15 +77,14 @@ module _ (s : List ℕ) (k : ℕ) (st : List ℕ) (vs : List ℤ) (why : ℕ) (f
         let x = w (eqb-true why moving t) in
         writer-moves s (f .child) (length (partIn f st)) (partIn f st) (x .0) (x .1)
 
-    pub falls-by : Way s k st vs why f → cond (eqb why moving) 0 (2 * f .child + 2) < 2 * k + 1
+    pub falls-by : Way s k st vs why f → cond (eqb why moving) 0 (3 * f .child + 3) < 3 * k + 1
     falls-by (byItself e q m) = rw (eq-eqb why moving e) (omega arith)
     falls-by (byPart g p m q w) =
-        by-cases (λ n. n < 2 * k + 1) (eqb why moving) (λ _. omega arith) (λ _. omega (arith, p .earlier))
+        by-cases (λ n. n < 3 * k + 1) (eqb why moving) (λ _. omega arith) (λ _. omega (arith, p .earlier))
 
   -- the node or its part in front has been advanced
-  module _ {seen : ℕ → Bool} {limit : ℕ} {at : Running ℕ} {st₀ : List ℕ} {log : List ℕ} {steps instant lines : ℕ}
-      (u : Turn seen limit at (runningAt s k st vs log steps instant lines) st₀ st) (ys : List ℕ)
-      (l : length ys ≡ f .to - f .from) {ws : List ℤ} {log′ : List ℕ} {steps′ lines′ why′ : ℕ}
+  module _ {seen : ℕ → Bool} {limit : ℕ} {log : List ℕ} {steps instant lines : ℕ} (c : Counted limit log steps lines)
+      (ys : List ℕ) (l : length ys ≡ f .to - f .from) {ws : List ℤ} {log′ : List ℕ} {steps′ lines′ why′ : ℕ}
       (r :
       Advances seen limit (length log / 4) (runningAt s (f .child) (partIn f st) vs log steps instant lines)
       (runningAt s (f .child) ys ws log′ steps′ instant lines′) why′)
@@ -135,25 +122,31 @@ module _ (s : List ℕ) (k : ℕ) (st : List ℕ) (vs : List ℤ) (why : ℕ) (f
     positive (byItself e q m) h = absurd (omega (arith, h, ap (λ (g : Front). g .form) q))
     positive (byPart g p m q w) h = some (λ t. w (eqb-true why moving t) .0)
 
+    abbrev here : Running ℕ
+    here = runningAt s k st vs log steps instant lines
+
+    abbrev at-first : Turn seen limit here here st st
+    at-first = begins {at = here} c
+
     pub advanced-turn :
         Way s k st vs why f → length ws ≡ length vs → length log′ ≡ length log →
-        Turn seen limit at (runningAt s k (reached f st ys) ws log′ steps′ instant lines′) st₀ (reached f st ys)
-    advanced-turn (byItself e q m) named logged = turns-on u (own-advances q) named logged (own-long q)
+        Turn seen limit here (runningAt s k (reached f st ys) ws log′ steps′ instant lines′) st (reached f st ys)
+    advanced-turn (byItself e q m) named logged = turns-on at-first (own-advances q) named logged (own-long q)
     advanced-turn (byPart g p m q w) named logged =
-        part-turn g u ys l (r, positive (byPart g p m q w) m) named logged
+        part-turn g at-first ys l (r, positive (byPart g p m q w) m) named logged
 
     pub advanced-ends :
         Way s k st vs why f → isSpent ≤ why′ →
-        Advances seen limit (length (at .log) / 4) at (runningAt s k (reached f st ys) ws log′ steps′ instant lines′) why′ × (0 < why′)
-    advanced-ends (byItself e q m) h = turns-end u (own-advances q) (λ z. absurd (omega (arith, z, h)))
-    advanced-ends (byPart g p m q w) h = part-ends g u ys l (r, positive (byPart g p m q w) m) h
+        Advances seen limit (length log / 4) here (runningAt s k (reached f st ys) ws log′ steps′ instant lines′) why′
+    advanced-ends (byItself e q m) h = own-advances q
+    advanced-ends (byPart g p m q w) h = part-ends g at-first ys l (r, positive (byPart g p m q w) m) h
 
     pub front-rests :
         Way s k st vs why f → why′ < isSpent → mover < f .form →
         (f ≡ frontOf s k (own (reached f st ys)) (length (reached f st ys))) × Rests s k (reached f st ys) ws f why′
     front-rests (byItself e q m) h n = absurd (omega (arith, n, ap (λ (g : Front). g .form) q))
     front-rests (byPart g p m q w) h n =
-        (front-kept g ys l q, part-rests g u ys l (r, positive (byPart g p m q w) m) m h)
+        (front-kept g ys l q, part-rests g at-first ys l (r, positive (byPart g p m q w) m) m h)
 
     -- the node has been left
     module _ (h : why′ < isSpent) {st′ : List ℕ} {d : Done}
@@ -161,36 +154,40 @@ module _ (s : List ℕ) (k : ℕ) (st : List ℕ) (vs : List ℤ) (why : ℕ) (f
         (settles :
         mover < f .form →
         Settles limit (left s k (reached f st ys)) ws (left s k st′) steps′ lines′ why′ (d .why) (d .at .steps) (d .at .lines))
-        (fits : steps′ ≤ limit) (room : lines′ ≤ length log′ / 4) where
-      pub left-by : Way s k st vs why f → length ws ≡ length vs → length log′ ≡ length log →
-          Left seen limit at st₀ s k steps (length (reached f st ys)) st′ ws log′ instant d
-      left-by (byItself e q m) named logged =
+        (named : length ws ≡ length vs) (logged : length log′ ≡ length log) where
+      pub left-by :
+          Way s k st vs why f →
+          Advances seen limit (length log / 4) here (runningAt s k st′ ws log′ (d .at .steps) instant (d .at .lines)) (d .why)
+      left-by (byItself e q m) =
           let x = same (omega (arith, ap (λ (g : Front). g .form) q)) in
-          rw (x .0, x .1)
-          (record {
-            ends = λ n. turns-end u (own-advances q) n;
-            on = λ _. turns-on u (own-advances q) named logged (own-long q);
-            less = λ z. (r .again z, r .time);
-          })
-      left-by (byPart g p m q w) named logged =
-          let turn = advanced-turn (byPart g p m q w) named logged in
+          rw (x .0, x .1) (own-advances q)
+      left-by (byPart g p m q w) =
+          let u = advanced-turn (byPart g p m q w) named logged in
           let rests = front-rests (byPart g p m q w) h m .1 in
-          let a = settled {seen = seen} {room = length log′ / 4} {log = log′} {instant = instant} (settles m) (rests .known) fits room in
-          record {
-            ends = λ n. turns-end turn a n;
-            on = λ b. turns-on turn a refl refl b;
-            less = λ z. (omega (arith, a .again z, r .later), a .time);
-          }
+          turns-to u
+          (settled {seen = seen} {room = length log′ / 4} {log = log′} {instant = instant} (settles m) (rests .known) (u .time)
+          (omega (arith, u .space, u .logged)))
 
 -- nothing follows
 pub rests-here :
-    {s : List ℕ} {k : ℕ} {st : List ℕ} {vs : List ℤ} {why : ℕ} {f : Front} (seen : ℕ → Bool) (limit : ℕ) (at : Running ℕ)
-    (log : List ℕ) (steps instant lines : ℕ) (st₀ : List ℕ) →
-    Turn seen limit at (runningAt s k st vs log steps instant lines) st₀ st → Follows s k st vs why f → why < into →
-    Advances seen limit (length (at .log) / 4) at (runningAt s k st vs log steps instant lines) why × (0 < why)
-rests-here seen limit at log steps instant lines st₀ u (nothing e z) h =
-    turns-end u (ended (u .time) (omega (arith, u .space, u .logged)) (λ q. omega (arith, e, q)) (gone e z)) (λ q. omega (arith, e, q))
-rests-here seen limit at log steps instant lines st₀ u (awaits e z) h =
-    turns-end u (ended (u .time) (omega (arith, u .space, u .logged)) (λ q. omega (arith, e, q)) (waits e z)) (λ q. omega (arith, e, q))
-rests-here seen limit at log steps instant lines st₀ u (itself e q m) h = absurd (omega (arith, e, h))
-rests-here seen limit at log steps instant lines st₀ u (part l e m p w) h = absurd (omega (arith, l, h))
+    {s : List ℕ} {k : ℕ} {st : List ℕ} {vs : List ℤ} {why : ℕ} {f : Front} (seen : ℕ → Bool) (limit : ℕ) (log : List ℕ)
+    (steps instant lines : ℕ) →
+    Counted limit log steps lines → Follows s k st vs why f → why < inside →
+    Advances seen limit (length log / 4) (runningAt s k st vs log steps instant lines)
+    (runningAt s k st vs log steps instant lines) why
+rests-here seen limit log steps instant lines c (nothing e z) h =
+    ended (c .time) (omega (arith, c .space)) (λ q. omega (arith, e, q)) (gone e z)
+rests-here seen limit log steps instant lines c (awaits e z) h =
+    ended (c .time) (omega (arith, c .space)) (λ q. omega (arith, e, q)) (waits e z)
+rests-here seen limit log steps instant lines c (itself e q m) h = absurd (omega (arith, e, h))
+rests-here seen limit log steps instant lines c (stands e o) h = absurd (omega (arith, e, h))
+rests-here seen limit log steps instant lines c (part l e m p w) h = absurd (omega (arith, l, h))
+
+-- the part that stands alone
+pub alone-there :
+    {s : List ℕ} {k : ℕ} {st : List ℕ} {vs : List ℤ} {why : ℕ} {f : Front} → Follows s k st vs why f → why ≡ inside → Alone s k st f
+alone-there (nothing e z) h = absurd (omega (arith, e, h))
+alone-there (awaits e z) h = absurd (omega (arith, e, h))
+alone-there (itself e q m) h = absurd (omega (arith, e, h))
+alone-there (stands e o) h = o
+alone-there (part l e m p w) h = absurd (omega (arith, l, h))

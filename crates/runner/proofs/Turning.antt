@@ -17,10 +17,10 @@ use Rattle.plan.specs.declared.forms.Front.{Front}
 use Rattle.residual.specs.Residual.{own}
 use Rattle.plan.specs.Forms.{mover, guarded, frontOf, partIn}
 use Rattle.residual.specs.Frames.{Frame, alone, beforeThe, watchedBy, guardedBy, besideThe, Open}
-use Rattle.moves.specs.Moves.{Running, isGone, isSuspended, isSpent, Path, stays, Ends, gone, waits, spent, full}
+use Rattle.moves.specs.Moves.{Running, isGone, isSuspended, isSpent, isFull, Path, stays, Ends, gone, waits, spent, full}
 use Rattle.moves.specs.Contracts.{mostSteps, Counted, runningAt, Advances}
 use Rattle.residual.specs.Nodes.{Valued, At, left}
-use Rattle.runner.specs.Contracts.{Rests, Settles, restsOn, atLimit, makesMove}
+use Rattle.runner.specs.Contracts.{inside, Rests, Settles, restsOn, atLimit, makesMove}
 use Rattle.moves.proofs.Framing.{joined, open-path, lift, ends-around}
 use Rattle.moves.proofs.Advancing.{ended, again}
 use Rattle.residual.proofs.Sights.{signalAt, Inside, Sight, sees-gone, sees-mover, sees-alone, sees-before, sees-watched, sees-guarded, sees-beside, own-put, length-put, part-put}
@@ -37,6 +37,17 @@ module _ {seen : ℕ → Bool} {limit room : ℕ} {at : Running ℕ} {why : ℕ}
   ended-waits (waits e z) q = z
   ended-waits (spent e l z) q = absurd (omega (arith, e, q))
   ended-waits (full e l t z) q = absurd (omega (arith, e, q))
+
+  ended-known : Ends seen limit room at why → why ≤ isFull
+  ended-known (gone e z) = omega (arith, e)
+  ended-known (waits e z) = omega (arith, e)
+  ended-known (spent e l z) = omega (arith, e)
+  ended-known (full e l t z) = omega (arith, e)
+
+-- what has made moves, or can make none, is no part that stands alone
+pub not-inside :
+    {seen : ℕ → Bool} {limit room : ℕ} {at to : Running ℕ} {why : ℕ} → Advances seen limit room at to why → why ≡ inside → ⊥
+not-inside a e = omega (arith, e, ended-known (a .ends (λ z. omega (arith, z, e))))
 
 module _ (s : List ℕ) (k : ℕ) (st : List ℕ) (f : Front) (vs : List ℤ) where
   -- the part in front goes on in an open frame
@@ -179,18 +190,16 @@ module _ {seen : ℕ → Bool} {limit : ℕ} {at to : Running ℕ} {st₀ st : L
           bytes = bytes ∙ u .bytes;
         }
 
-    pub turns-end : (why ≡ 0 → ⊥) → Advances seen limit (length (at .log) / 4) at next why × (0 < why)
-    turns-end n = (
-      record {
-        path = joined (u .path) (here .path);
-        later = le-trans (u .later) (here .later);
-        time = here .time;
-        space = here .space;
-        again = λ z. absurd (n z);
-        ends = here .ends;
-      },
-      omega (arith, n),
-    )
+    pub turns-to : Advances seen limit (length (at .log) / 4) at next why
+    turns-to =
+        record {
+          path = joined (u .path) (here .path);
+          later = le-trans (u .later) (here .later);
+          time = here .time;
+          space = here .space;
+          again = λ z. omega (arith, u .later, here .again z);
+          ends = here .ends;
+        }
 
 -- its part in front has been advanced
 module _ {seen : ℕ → Bool} {limit : ℕ} {at : Running ℕ} {st₀ : List ℕ} {s : List ℕ} {k : ℕ} {st : List ℕ} {f : Front}
@@ -227,18 +236,16 @@ module _ {seen : ℕ → Bool} {limit : ℕ} {at : Running ℕ} {st₀ : List �
 
   pub part-ends :
       isSpent ≤ why →
-      Advances seen limit (length (at .log) / 4) at (runningAt s k (put g ys) ws log′ steps′ instant lines′) why × (0 < why)
-  part-ends h = (
-    record {
-      path = joined (u .path) (goes g ys l here-too (r .1));
-      later = le-trans (u .later) (here-too .later);
-      time = here-too .time;
-      space = here-too .space;
-      again = λ z. absurd (omega (arith, z, h));
-      ends = λ _. halts g ys l here-too (r .1) h;
-    },
-    r .1,
-  )
+      Advances seen limit (length (at .log) / 4) at (runningAt s k (put g ys) ws log′ steps′ instant lines′) why
+  part-ends h =
+      record {
+        path = joined (u .path) (goes g ys l here-too (r .1));
+        later = le-trans (u .later) (here-too .later);
+        time = here-too .time;
+        space = here-too .space;
+        again = λ z. absurd (omega (arith, z, h));
+        ends = λ _. halts g ys l here-too (r .1) h;
+      }
 
   pub part-rests : mover < f .form → why < isSpent → Rests s k (put g ys) ws f why
   part-rests = rests g ys l here-too (r .1)

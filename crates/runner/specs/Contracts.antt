@@ -22,25 +22,33 @@ use Rattle.moves.specs.Contracts.{IsWriter}
 use Rattle.runner.specs.declared.Ran.{Ran}
 use Rattle.runner.specs.Outcome.{Outcome}
 
--- what comes next, beside that the node is nil or suspended: a part to be advanced, or one move
+-- what comes next, beside that the node is nil or suspended: a part that stands alone, a part to be advanced, or one move
+abbrev pub inside : ℕ
+inside = 5
+
 abbrev pub into : ℕ
-into = 5
+into = 6
 
 abbrev pub moving : ℕ
-moving = 6
+moving = 7
 
 -- the node itself as the part in front
 abbrev pub itselfOf : ℕ → ℕ → Front
 itselfOf k len = record { form = mover; child = k; from = 0; to = len }
 
--- What comes next at node k: nothing, since it is nil or suspended; its own move; or its part in front, which may be one
--- assignment or emission.
+-- what is left of node k is what is left of its part in front
+abbrev pub Alone : List ℕ → ℕ → List ℕ → Front → Type 0
+Alone s k st f = (f ≡ frontOf s k (own st) (length st)) × ((mover < f .form) × (f .form < before))
+
+-- What comes next at node k: nothing, since it is nil or suspended; its own move; its part in front, which stands alone; or
+-- that part in its frame, which may be one assignment or emission.
 pub data Follows (s : List ℕ) (k : ℕ) (st : List ℕ) (values : List ℤ) (why : ℕ) (f : Front) : Type 0 where
   nothing : why ≡ isGone → isNil (left s k st) ≡ true → Follows s k st values why f
   awaits : why ≡ isSuspended → suspended (left s k st) values ≡ true → Follows s k st values why f
   itself :
       why ≡ moving → f ≡ itselfOf k (length st) → frontOf s k (own st) (length st) .form ≡ mover →
       Follows s k st values why f
+  stands : why ≡ inside → Alone s k st f → Follows s k st values why f
   part :
       into ≤ why → f ≡ frontOf s k (own st) (length st) → mover < f .form →
       (f .form ≡ guarded → present values (partOf s (node s k) .a) ≡ true) →

@@ -20,16 +20,24 @@ ghost use Rattle.layout.specs.Entries.{partOf, node};
 ghost use Rattle.reach.specs.Checked.{Checked};
 ghost use Rattle.moves.specs.Contracts.{mostSteps, Counted, seenIn, isWriter, IsWriter, runningAt, Advances};
 ghost use Rattle.residual.specs.Nodes.{Valued, At, left};
-ghost use Rattle.runner.specs.Contracts.{Follows, doneAt, Byte, byteAfter, Rests, Settles};
+ghost use Rattle.runner.specs.Contracts.{inside, Alone, Follows, doneAt, Byte, byteAfter, Rests, Settles};
 
-// What comes next at a node, beside that it is nil or suspended: its part in front is to be advanced; or one move, its own
-// or that of its part in front, which needs no further call.
-const INTO: u8 = 5;
+// What comes next at a node, beside that it is nil or suspended: the part that stands alone in its place; its part in front,
+// which is to be advanced; or one move, its own or that of its part in front, which needs no further call.
+const INSIDE: usize = 5;
 
-const MOVING: u8 = 6;
+const INTO: usize = 6;
+
+const MOVING: usize = 7;
 
 pub struct Next {
-    pub why: u8,
+    pub why: usize,
+    pub front: Front,
+}
+
+// What a turn came to, with the part that was in front.
+pub struct Turned {
+    pub done: Done,
     pub front: Front,
 }
 
@@ -90,6 +98,12 @@ fn find_next(
             front: f,
         };
     }
+    if f.form < forms::BEFORE {
+        return Next {
+            why: INSIDE,
+            front: f,
+        };
+    }
     Next {
         why: INTO,
         front: f,
@@ -98,7 +112,7 @@ fn find_next(
 
 // The node's own byte after a move around a part that rests. A watching or a when is nil with its part. A part that
 // waits trades places; else it is nil and is dropped.
-fn byte_after(form: u8, why: u8, tag: u8) -> u8
+fn byte_after(form: u8, why: usize, tag: u8) -> u8
     requires { ⌜ Byte form tag ⌝ }
     ensures { λ r. ⌜ r ≡ byteAfter form why tag ⌝ }
 {
@@ -121,7 +135,7 @@ fn leave(
     at: Counts,
     k: usize,
     f: Front,
-    why: u8,
+    why: usize,
 ) -> Done
     requires { ⌜ Valued (now (now s)) (now values) × (KeepsPlan (now (now s)) (now plan) × (At (now (now s)) k (now state) × ((at .steps ≤ limits .steps) × (limits .steps ≤ mostSteps)))) ⌝ }
     requires { ⌜ (mover < f .form → (f ≡ frontOf (now (now s)) k (own (now state)) (length (now state))) × Rests (now (now s)) k (now state) (now values) f why) ⌝ }
@@ -150,7 +164,54 @@ fn leave(
     }
 }
 
-// Runs node k as far as it goes within the instant.
+// One turn of node k: what comes next is found, and made. Where its part stands alone nothing is made: it is that part's turn.
+fn turn(
+    s: &&[u8],
+    plan: &[usize; Script::MAX_PARTS],
+    seen: &[u8; Script::MAX_NAMES],
+    values: &mut [i32],
+    state: &mut [u8],
+    log: &mut [u32],
+    limits: Limits,
+    at: Counts,
+    k: usize,
+) -> Turned
+    requires { ⌜ Valued (now (now s)) (now values) × (KeepsPlan (now (now s)) (now plan) × (At (now (now s)) k (now state) × Counted (limits .steps) (now log) (at .steps) (at .lines))) ⌝ }
+    ensures { λ r. ⌜ (r .done .why ≡ inside → Alone (now (now (s .entry))) k (now (state .entry)) (r .front) × ((r .done .at ≡ at) × ((now (values .exit) ≡ now (values .entry)) × ((now (state .exit) ≡ now (state .entry)) × (now (log .exit) ≡ now (log .entry)))))) × ((r .done .why ≡ inside → ⊥) → Advances (seenIn (now (seen .entry))) (limits .steps) (length (now (log .entry)) / 4) (runningAt (now (now (s .entry))) k (now (state .entry)) (now (values .entry)) (now (log .entry)) (at .steps) (limits .instant) (at .lines)) (runningAt (now (now (s .entry))) k (now (state .exit)) (now (values .exit)) (now (log .exit)) (r .done .at .steps) (limits .instant) (r .done .at .lines)) (r .done .why)) ⌝ }
+{
+    let next = find_next(s, plan, values, state, k);
+    let f = next.front;
+    if next.why <= INSIDE {
+        return Turned {
+            done: Done { why: next.why, at },
+            front: f,
+        };
+    }
+    let from = f.from;
+    let to = f.to;
+    let part = &mut state[from..to];
+    let moving = next.why == MOVING;
+    let r = advance_front(
+        s,
+        plan,
+        seen,
+        values,
+        part,
+        log,
+        limits,
+        at,
+        f.child,
+        moving,
+    );
+    if moves::SPENT <= r.why {
+        return Turned { done: r, front: f };
+    }
+    let reached = r.at;
+    let l = leave(s, plan, values, state, limits, reached, k, f, r.why);
+    Turned { done: l, front: f }
+}
+
+// Runs node k as far as it goes within the instant. A part that stands alone takes its place, with no further call.
 pub fn advance(
     s: &&[u8],
     plan: &[usize; Script::MAX_PARTS],
@@ -166,40 +227,22 @@ pub fn advance(
     ensures { λ r. ⌜ Advances (seenIn (now (seen .entry))) (limits .steps) (length (now (log .entry)) / 4) (runningAt (now (now (s .entry))) k (now (state .entry)) (now (values .entry)) (now (log .entry)) (at .steps) (limits .instant) (at .lines)) (runningAt (now (now (s .entry))) k (now (state .exit)) (now (values .exit)) (now (log .exit)) (r .at .steps) (limits .instant) (r .at .lines)) (r .why) × (0 < r .why) ⌝ }
 {
     let mut now = at;
+    let mut node = k;
+    let mut start: usize = 0;
+    let mut end = state.len();
     loop {
-        let next = find_next(s, plan, values, state, k);
-        if next.why < INTO {
-            return Done {
-                why: next.why,
-                at: now,
-            };
+        let part = &mut state[start..end];
+        let r = turn(s, plan, seen, values, part, log, limits, now, node);
+        let d = r.done;
+        if d.why == INSIDE {
+            let f = r.front;
+            node = f.child;
+            end = start + f.to;
+            start = start + f.from;
+        } else if d.why != moves::AGAIN {
+            return d;
         }
-        let f = next.front;
-        let from = f.from;
-        let to = f.to;
-        let part = &mut state[from..to];
-        let moving = next.why == MOVING;
-        let r = advance_front(
-            s,
-            plan,
-            seen,
-            values,
-            part,
-            log,
-            limits,
-            now,
-            f.child,
-            moving,
-        );
-        if moves::SPENT <= r.why {
-            return r;
-        }
-        let reached = r.at;
-        let l = leave(s, plan, values, state, limits, reached, k, f, r.why);
-        if l.why != moves::AGAIN {
-            return l;
-        }
-        now = l.at;
+        now = d.at;
     }
 }
 

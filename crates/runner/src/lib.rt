@@ -25,7 +25,7 @@ pub struct Ran {
 }
 
 // The ending of a run whose script made no further move for this reason. A suspended script at its limit is spent.
-fn ending_of(why: u8) -> u32
+fn ending_of(why: usize) -> u32
     ensures { λ r. ⌜ r ≡ endingOf why ⌝ }
 {
     if why == moves::GONE {
@@ -42,7 +42,7 @@ fn stop(
     s: &[u8],
     c: Script,
     values: &mut [i32],
-    why: u8,
+    why: usize,
     steps: u32,
     instants: u32,
     lines: usize,
@@ -74,15 +74,16 @@ pub fn run(
     ensures { λ r. ⌜ Gives (outcome (namesOf (now (s .entry))) (seenIn (now (seen .entry))) limit (length (now (log .entry)) / 4) (starting (now (s .entry)) (now (values .entry)) (now (log .entry)))) r (now (values .exit)) (now (log .exit)) ⌝ }
 {
     let k = c.nodes - 1;
+    let most = limit as usize;
     let mut at = Counts { steps: 0, lines: 0 };
     let mut instant: u32 = 0;
     loop {
         let limits = Limits {
-            steps: limit,
+            steps: most,
             instant,
         };
         let r = advance::advance(&s, plan, seen, values, state, log, limits, at, k);
-        let steps = r.at.steps;
+        let steps = r.at.steps as u32;
         let lines = r.at.lines;
         if r.why != moves::SUSPENDED || limit <= steps {
             return stop(s, c, values, r.why, steps, instant, lines);
@@ -93,7 +94,7 @@ pub fn run(
         }
         instants::begin_instant(s, c, plan, values, state, k);
         at = Counts {
-            steps: steps + 1,
+            steps: r.at.steps + 1,
             lines,
         };
         instant += 1;

@@ -72,8 +72,8 @@ slice-set-from-value c = search needs
 slice-write-state : tie.Need-slice-write-state
 slice-write-state c = some-bytes (c .before .before .before .before .before .before .before .before .pre .0)
 
-add-t18 : tie.Need-add-t18
-add-t18 c = search needs
+add-t15 : tie.Need-add-t15
+add-t15 c = search needs
 
 same-length-2 : tie.Need-same-length-2
 same-length-2 c = search needs
@@ -108,7 +108,7 @@ write-spec =
     mul-value
     slice-set-from-value
     slice-write-state
-    add-t18
+    add-t15
     same-length-2
     same-length-3
     same-length-4

@@ -29,12 +29,12 @@ use Rattle.runner.proofs.run.Statement.{statement}
 use Rattle.runner.proofs.run.Tie as tie
 
 abbrev Inv-loop : tie.InvT-loop
-Inv-loop s c plan seen values₀ state₀ log₀ limit s′ k at₀ instant₀ values state log at instant =
+Inv-loop s c plan seen values₀ state₀ log₀ limit s′ k most at₀ instant₀ values state log at instant =
     Comes (namesOf s) (seenIn seen) limit (starting s values₀ log₀)
     (runningAt s k state values log (at .steps) instant (at .lines)) state₀ state
 
 abbrev μ-loop : tie.MeasureT-loop
-μ-loop s c plan seen values₀ state₀ log₀ limit s′ k at₀ instant₀ values state log at instant = limit - at .steps
+μ-loop s c plan seen values₀ state₀ log₀ limit s′ k most at₀ instant₀ values state log at instant = limit - at .steps
 
 -- the script is run as far as it goes in the instant
 advanced :
@@ -94,59 +94,64 @@ advance-requires c κs =
     let at = whole-script start in
     (valued _ _ _ u (start .pre .1 .0), (start .pre .1 .1 .0, (record { known = at .known; whole = u .bytes ∙ at .whole }, counted _ _ _ u (start .pre .1 .1 .1 .1))))
 
+cast-steps : tie.Need-cast-steps Inv-loop μ-loop
+cast-steps c =
+    let start = c .before .before .before .before .before .before .before .before .before .before .before .before .before .before .before .before in
+    fits-under _ _ 4000000 (omega (arith, advanced (c .before .before .before .before .before .before) .time, start .pre .1 .1 .1 .1)) tt
+
 stop-requires : tie.Need-stop-requires Inv-loop μ-loop
-stop-requires c κs = let start = c .before .before .before .before .before .before .before .before .before .before .before .before .before .before .before .before .before .before in (start .pre .0, valued _ _ _ (advanced (c .before .before .before .before .before .before .before .before)) (start .pre .1 .0))
+stop-requires c κs = let start = c .before .before .before .before .before .before .before .before .before .before .before .before .before .before .before .before .before .before .before in (start .pre .0, valued _ _ _ (advanced (c .before .before .before .before .before .before .before .before .before)) (start .pre .1 .0))
 
 same-length : tie.Need-same-length Inv-loop μ-loop
-same-length c = c .before .stop .kept .1 .1 .0 ∙ advanced (c .before .before .before .before .before .before .before .before .before .before) .named
+same-length c = c .before .stop .kept .1 .1 .0 ∙ advanced (c .before .before .before .before .before .before .before .before .before .before .before) .named
 
 same-length-2 : tie.Need-same-length-2 Inv-loop μ-loop
-same-length-2 c = advanced (c .before .before .before .before .before .before .before .before .before .before) .bytes
+same-length-2 c = advanced (c .before .before .before .before .before .before .before .before .before .before .before) .bytes
 
 same-length-3 : tie.Need-same-length-3 Inv-loop μ-loop
-same-length-3 c = advanced (c .before .before .before .before .before .before .before .before .before .before) .logged
+same-length-3 c = advanced (c .before .before .before .before .before .before .before .before .before .before .before) .logged
 
 returns : tie.Need-returns Inv-loop μ-loop
 returns c =
-    let start = c .before .before .before .before .before .before .before .before .before .before .before .before .before .before .before .before .before .before .before .before in
-    let r = c .before .before .before .before .before .before .before .before .before .before .advance in
-    let u = advanced (c .before .before .before .before .before .before .before .before .before .before) in
+    let start = c .before .before .before .before .before .before .before .before .before .before .before .before .before .before .before .before .before .before .before .before .before in
+    let r = c .before .before .before .before .before .before .before .before .before .before .before .advance in
+    let u = advanced (c .before .before .before .before .before .before .before .before .before .before .before) in
     gives _ _ _ (starting (now (start .args .t1)) (now (start .args .values)) (now (start .args .log)))
-    (stops _ _ _ (comes-ends _ _ _ (c .before .before .before .before .before .before .before .before .before .before .before .before .before .before .before .loop .inv) (r .ensures .0) (λ e. omega (arith, e, r .ensures .1)))
+    (stops _ _ _ (comes-ends _ _ _ (c .before .before .before .before .before .before .before .before .before .before .before .before .before .before .before .before .loop .inv) (r .ensures .0) (λ e. omega (arith, e, r .ensures .1)))
     (λ e. ⊎-elim (λ t. absurd (t .taken e)) (λ t. le-antisymm (u .time) (leb-true (start .args .limit) _ (t .1 .taken))) (c .before .before .before .if1 .came)))
     (u .same) (c .before .stop .ensures .0) (c .before .stop .ensures .1)
 
 some-signal-present-requires : tie.Need-some-signal-present-requires Inv-loop μ-loop
-some-signal-present-requires c κs = let start = c .before .before .before .before .before .before .before .before .before .before .before .before .before .before .before .before .before .before .before in (start .pre .0, valued _ _ _ (advanced (c .before .before .before .before .before .before .before .before .before)) (start .pre .1 .0))
+some-signal-present-requires c κs = let start = c .before .before .before .before .before .before .before .before .before .before .before .before .before .before .before .before .before .before .before .before in (start .pre .0, valued _ _ _ (advanced (c .before .before .before .before .before .before .before .before .before .before)) (start .pre .1 .0))
 
 sub-stop : tie.Need-sub-stop Inv-loop μ-loop
-sub-stop c = advanced (c .before .before .before .before .before .before .before .before .before .before .before .before) .time
+sub-stop c = advanced (c .before .before .before .before .before .before .before .before .before .before .before .before .before) .time
 
 add-stop : tie.Need-add-stop Inv-loop μ-loop
 add-stop c =
-    let start = c .before .before .before .before .before .before .before .before .before .before .before .before .before .before .before .before .before .before .before .before .before .before in
-    let u = advanced (c .before .before .before .before .before .before .before .before .before .before .before .before) in
+    let start = c .before .before .before .before .before .before .before .before .before .before .before .before .before .before .before .before .before .before .before .before .before .before .before in
+    let u = advanced (c .before .before .before .before .before .before .before .before .before .before .before .before .before) in
     fits-under _ _ 4000000 (omega (arith, u .instants, u .time, start .pre .1 .1 .1 .1)) tt
 
 stop-requires-2 : tie.Need-stop-requires-2 Inv-loop μ-loop
-stop-requires-2 c κs = let start = c .before .before .before .before .before .before .before .before .before .before .before .before .before .before .before .before .before .before .before .before .before .before in (start .pre .0, valued _ _ _ (advanced (c .before .before .before .before .before .before .before .before .before .before .before .before)) (start .pre .1 .0))
+stop-requires-2 c κs = let start = c .before .before .before .before .before .before .before .before .before .before .before .before .before .before .before .before .before .before .before .before .before .before .before in (start .pre .0, valued _ _ _ (advanced (c .before .before .before .before .before .before .before .before .before .before .before .before .before)) (start .pre .1 .0))
 
 same-length-4 : tie.Need-same-length-4 Inv-loop μ-loop
-same-length-4 c = c .before .stop2 .kept .1 .1 .0 ∙ advanced (c .before .before .before .before .before .before .before .before .before .before .before .before .before .before) .named
+same-length-4 c = c .before .stop2 .kept .1 .1 .0 ∙ advanced (c .before .before .before .before .before .before .before .before .before .before .before .before .before .before .before) .named
 
 same-length-5 : tie.Need-same-length-5 Inv-loop μ-loop
-same-length-5 c = advanced (c .before .before .before .before .before .before .before .before .before .before .before .before .before .before) .bytes
+same-length-5 c = advanced (c .before .before .before .before .before .before .before .before .before .before .before .before .before .before .before) .bytes
 
 same-length-6 : tie.Need-same-length-6 Inv-loop μ-loop
-same-length-6 c = advanced (c .before .before .before .before .before .before .before .before .before .before .before .before .before .before) .logged
+same-length-6 c = advanced (c .before .before .before .before .before .before .before .before .before .before .before .before .before .before .before) .logged
 
 returns-2 : tie.Need-returns-2 Inv-loop μ-loop
 returns-2 c =
-    let start = c .before .before .before .before .before .before .before .before .before .before .before .before .before .before .before .before .before .before .before .before .before .before .before .before in
+    let start = c .before .before .before .before .before .before .before .before .before .before .before .before .before .before .before .before .before .before .before .before .before .before .before .before .before in
     let a = start .args in
     let s = now (a .t1) in
-    let r = c .before .before .before .before .before .before .before .before .before .before .before .before .before .before .advance in
-    let u = advanced (c .before .before .before .before .before .before .before .before .before .before .before .before .before .before) in
+    let r = c .before .before .before .before .before .before .before .before .before .before .before .before .before .before .before .advance in
+    let u = advanced (c .before .before .before .before .before .before .before .before .before .before .before .before .before .before .before) in
     let none = sym (c .before .before .before .before .some-signal-present .ensures) ∙ not-true _ (c .before .before .before .if3 .taken) in
     let scoped =
     subst (λ k. Scoped (namesOf s) (isSession s) (processOf s k)) (sym (script-node start)) (tree-scoped s (start .pre .1 .0 .checked)) in
@@ -158,36 +163,36 @@ returns-2 c =
 
 begin-instant-requires : tie.Need-begin-instant-requires Inv-loop μ-loop
 begin-instant-requires c κs =
-    let start = c .before .before .before .before .before .before .before .before .before .before .before .before .before .before .before .before .before .before .before .before .before .before .before in
-    let u = advanced (c .before .before .before .before .before .before .before .before .before .before .before .before .before) in
+    let start = c .before .before .before .before .before .before .before .before .before .before .before .before .before .before .before .before .before .before .before .before .before .before .before .before in
+    let u = advanced (c .before .before .before .before .before .before .before .before .before .before .before .before .before .before) in
     let at = whole-script start in
     (start .pre .0, (valued _ _ _ u (start .pre .1 .0), (start .pre .1 .1 .0, record { known = at .known; whole = u .bytes ∙ at .whole })))
 
-add-t44 : tie.Need-add-t44 Inv-loop μ-loop
-add-t44 c =
-    let start = c .before .before .before .before .before .before .before .before .before .before .before .before .before .before .before .before .before .before .before .before .before .before .before .before .before .before .before in
-    fits-under _ _ 4000000 (omega (arith, advanced (c .before .before .before .before .before .before .before .before .before .before .before .before .before .before .before .before .before) .time, start .pre .1 .1 .1 .1)) tt
+add-t45 : tie.Need-add-t45 Inv-loop μ-loop
+add-t45 c =
+    let start = c .before .before .before .before .before .before .before .before .before .before .before .before .before .before .before .before .before .before .before .before .before .before .before .before .before .before .before .before .before in
+    fits-under _ _ 4000000 (omega (arith, advanced (c .before .before .before .before .before .before .before .before .before .before .before .before .before .before .before .before .before .before .before) .time, start .pre .1 .1 .1 .1)) tt
 
 add-instant : tie.Need-add-instant Inv-loop μ-loop
 add-instant c =
-    let start = c .before .before .before .before .before .before .before .before .before .before .before .before .before .before .before .before .before .before .before .before .before .before .before .before .before .before .before in
-    let u = c .before .before .before .before .before .before .before .before .before .before .before .before .before .before .before .before .before .before .before .before .before .before .loop .inv in
+    let start = c .before .before .before .before .before .before .before .before .before .before .before .before .before .before .before .before .before .before .before .before .before .before .before .before .before .before .before .before .before in
+    let u = c .before .before .before .before .before .before .before .before .before .before .before .before .before .before .before .before .before .before .before .before .before .before .before .before .loop .inv in
     fits-under _ _ 4000000 (omega (arith, u .instants, u .time, start .pre .1 .1 .1 .1)) tt
 
 loop-less : tie.Need-loop-less Inv-loop μ-loop
 loop-less c =
-    let start = c .before .before .before .before .before .before .before .before .before .before .before .before .before .before .before .before .before .before .before .before .before .before .before .before .before .before .before in
-    omega (arith, c .before .before .before .before .before .before .before .before .before .before .before .before .before .before .before .before .before .advance .ensures .0 .later, leb-false (start .args .limit) _ (c .before .before .before .before .before .before .before .before .before .if2 .left))
+    let start = c .before .before .before .before .before .before .before .before .before .before .before .before .before .before .before .before .before .before .before .before .before .before .before .before .before .before .before .before .before in
+    omega (arith, c .before .before .before .before .before .before .before .before .before .before .before .before .before .before .before .before .before .before .before .advance .ensures .0 .later, leb-false (start .args .limit) _ (c .before .before .before .before .before .before .before .before .before .before .if2 .left))
 
 loop-again : tie.Need-loop-again Inv-loop μ-loop
 loop-again c =
-    let start = c .before .before .before .before .before .before .before .before .before .before .before .before .before .before .before .before .before .before .before .before .before .before .before .before .before .before .before in
-    let r = c .before .before .before .before .before .before .before .before .before .before .before .before .before .before .before .before .before .advance in
-    comes-changed _ _ _ (advanced (c .before .before .before .before .before .before .before .before .before .before .before .before .before .before .before .before .before))
-    (ended-waits (r .ensures .0 .ends (λ e. omega (arith, e, r .ensures .1))) (c .before .before .before .before .before .before .before .before .before .before .if1 .left))
-    (leb-false (start .args .limit) _ (c .before .before .before .before .before .before .before .before .before .if2 .left))
-    (c .before .before .before .begin-instant .ensures .0) (c .before .before .before .begin-instant .ensures .1) (add-one (r .result .at .steps)) (add-one (c .before .before .before .before .before .before .before .before .before .before .before .before .before .before .before .before .before .before .before .before .before .before .loop .instant))
-    (c .before .before .before .begin-instant .kept .1 .1 .1 .0) (c .before .before .before .begin-instant .kept .1 .1 .1 .1 .0)
+    let start = c .before .before .before .before .before .before .before .before .before .before .before .before .before .before .before .before .before .before .before .before .before .before .before .before .before .before .before .before .before in
+    let r = c .before .before .before .before .before .before .before .before .before .before .before .before .before .before .before .before .before .before .before .advance in
+    comes-changed _ _ _ (advanced (c .before .before .before .before .before .before .before .before .before .before .before .before .before .before .before .before .before .before .before))
+    (ended-waits (r .ensures .0 .ends (λ e. omega (arith, e, r .ensures .1))) (c .before .before .before .before .before .before .before .before .before .before .before .if1 .left))
+    (leb-false (start .args .limit) _ (c .before .before .before .before .before .before .before .before .before .before .if2 .left))
+    (c .before .before .before .before .begin-instant .ensures .0) (c .before .before .before .before .begin-instant .ensures .1) (add-one (r .result .at .steps)) (add-one (c .before .before .before .before .before .before .before .before .before .before .before .before .before .before .before .before .before .before .before .before .before .before .before .before .loop .instant))
+    (c .before .before .before .before .begin-instant .kept .1 .1 .1 .0) (c .before .before .before .before .begin-instant .kept .1 .1 .1 .1 .0)
 
 pub run-spec : {M : Type 1} → statement M
 run-spec =
@@ -198,6 +203,7 @@ run-spec =
     sub-k
     loop-holds
     advance-requires
+    cast-steps
     stop-requires
     same-length
     same-length-2
@@ -212,7 +218,7 @@ run-spec =
     same-length-6
     returns-2
     begin-instant-requires
-    add-t44
+    add-t45
     add-instant
     loop-less
     loop-again)

@@ -48,11 +48,14 @@ add-put-line c = search needs
 cast-put-line : tie.Need-cast-put-line
 cast-put-line c = search needs
 
+cast-put-line-2 : tie.Need-cast-put-line-2
+cast-put-line-2 c = search needs
+
 put-line-requires : tie.Need-put-line-requires
 put-line-requires c κs = search needs
 
-add-t14 : tie.Need-add-t14
-add-t14 c = search needs
+add-t13 : tie.Need-add-t13
+add-t13 c = search needs
 
 same-length : tie.Need-same-length
 same-length c = search needs
@@ -91,7 +94,8 @@ note-spec =
     mul-put-line
     add-put-line
     cast-put-line
+    cast-put-line-2
     put-line-requires
-    add-t14
+    add-t13
     same-length
     returns-3)

@@ -13,7 +13,7 @@ use Rattle.plan.specs.Forms.{mover, guarded}
 use Rattle.residual.proofs.Residuals.{some-bytes}
 use Rattle.residual.proofs.Sights.{signalAt, part-length}
 use Rattle.instants.proofs.Deciding.{Found, Part, sees, front-part, signal-known, shuts}
-use Rattle.runner.specs.Contracts.{nothing, awaits, itself, part}
+use Rattle.runner.specs.Contracts.{nothing, awaits, itself, stands, part}
 use Rattle.runner.proofs.Entries.{nil-seen, own-part, writes-both}
 use borrow.Author.Needs.{needs}
 use Rattle.runner.proofs.advance.find_next.Statement.{statement}
@@ -99,7 +99,11 @@ returns-4 c =
 
 returns-5 : tie.Need-returns-5
 returns-5 c =
-    part (omega arith) (c .before .before .before .before .before .before .before .before .before .find-front .ensures) (ahead (c .before .before .before)) (shown (c .before .before .before)) (λ q. absurd (omega (arith, q)))
+    stands refl (c .before .before .before .before .before .before .before .before .before .before .before .find-front .ensures, (ahead (c .before .before .before .before .before), c .if6 .taken))
+
+returns-6 : tie.Need-returns-6
+returns-6 c =
+    part (omega arith) (c .before .before .before .before .before .before .before .before .before .before .before .find-front .ensures) (ahead (c .before .before .before .before .before)) (shown (c .before .before .before .before .before)) (λ q. absurd (omega (arith, q)))
 
 pub find-next-spec : {M : Type 1} → statement M
 find-next-spec =
@@ -114,4 +118,5 @@ find-next-spec =
     shared-slice-read-writes-next
     writes-next-requires
     returns-4
-    returns-5)
+    returns-5
+    returns-6)
