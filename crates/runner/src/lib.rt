@@ -1,6 +1,4 @@
 // Runs a checked script, as far as the step limit and the log let it.
-mod advance; // advance.rt: a node is run as far as it goes within the instant
-
 use layout::Script;
 use moves::Counts;
 use moves::Limits;

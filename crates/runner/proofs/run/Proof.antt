@@ -24,7 +24,7 @@ use Rattle.moves.specs.Contracts.{seenIn, runningAt}
 use Rattle.runner.specs.Contracts.{starting}
 use Rattle.runner.proofs.Whole.{Comes, counted, valued, comes-on, comes-ends, comes-changed, comes-idle, stops, gives, fresh}
 use Rattle.runner.proofs.Idling.{residual-stays, values-stay}
-use Rattle.runner.proofs.Turning.{ended-waits}
+use Rattle.advance.proofs.Turning.{ended-waits}
 use Rattle.runner.proofs.run.Statement.{statement}
 use Rattle.runner.proofs.run.Tie as tie
 

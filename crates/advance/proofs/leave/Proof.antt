@@ -12,14 +12,14 @@ use Rattle.plan.specs.Forms.{mover}
 use Rattle.residual.specs.Residual.{own}
 use Rattle.moves.specs.Moves.{Silent}
 use Rattle.residual.specs.Nodes.{left}
-use Rattle.runner.specs.Contracts.{byteAfter, restsOn, atLimit, makesMove}
+use Rattle.advance.specs.Contracts.{byteAfter, restsOn, atLimit, makesMove}
 use Rattle.instants.specs.Contracts.{RearWaits}
 use Rattle.instants.proofs.Deciding.{Found, sees, waiting-front}
 use Rattle.residual.proofs.Residuals.{some-bytes}
-use Rattle.runner.proofs.Resting.{rests-alone, settles, byte-bound}
+use Rattle.advance.proofs.Resting.{rests-alone, settles, byte-bound}
 use borrow.Author.Needs.{needs}
-use Rattle.runner.proofs.advance.leave.Statement.{statement}
-use Rattle.runner.proofs.advance.leave.Tie as tie
+use Rattle.advance.proofs.leave.Statement.{statement}
+use Rattle.advance.proofs.leave.Tie as tie
 
 -- what is found of the node
 found :

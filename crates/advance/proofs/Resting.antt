@@ -16,7 +16,7 @@ use Rattle.plan.specs.Forms.{mover, before, guarded, beside, frontOf, partIn}
 use Rattle.residual.specs.Frames.{besideThe}
 use Rattle.moves.specs.Moves.{Silent, isGone, isSuspended}
 use Rattle.residual.specs.Nodes.{left}
-use Rattle.runner.specs.Contracts.{Byte, byteAfter, Rests}
+use Rattle.advance.specs.Contracts.{Byte, byteAfter, Rests}
 use Rattle.instants.specs.Contracts.{RearWaits}
 use Rattle.moves.proofs.Framing.{drop-before, drop-watched, drop-guarded, drop-beside, trade}
 use Rattle.residual.proofs.Sights.{signalAt, Inside, Sight, sees-gone, sees-mover, sees-alone, sees-before, sees-watched, sees-guarded, sees-beside, part-set}

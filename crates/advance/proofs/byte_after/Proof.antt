@@ -9,8 +9,8 @@ use borrow.Author.Tests.{eq-eqb, ne-eqb, eqb-false}
 use Rattle.prelude.proofs.Bools.{or-first, or-true}
 use Rattle.plan.specs.Forms.{before, watched, guarded}
 use Rattle.moves.specs.Moves.{isSuspended}
-use Rattle.runner.proofs.advance.byte_after.Statement.{statement}
-use Rattle.runner.proofs.advance.byte_after.Tie as tie
+use Rattle.advance.proofs.byte_after.Statement.{statement}
+use Rattle.advance.proofs.byte_after.Tie as tie
 
 returns : tie.Need-returns
 returns c =

@@ -25,9 +25,9 @@ use Rattle.moves.specs.declared.Done.{Done}
 use Rattle.moves.specs.Moves.{Running, isGone, isSuspended, isSpent, gone, waits}
 use Rattle.moves.specs.Contracts.{Counted, IsWriter, runningAt, Advances}
 use Rattle.moves.proofs.Advancing.{ended}
-use Rattle.runner.specs.Contracts.{inside, into, moving, itselfOf, Alone, Follows, nothing, awaits, itself, stands, part, doneAt, Rests, Settles}
-use Rattle.runner.proofs.Entries.{writer-moves}
-use Rattle.runner.proofs.Turning.{Going, going, Turn, begins, turns-on, turns-to, part-turn, part-ends, part-rests, front-kept, settled}
+use Rattle.advance.specs.Contracts.{inside, into, moving, itselfOf, Alone, Follows, nothing, awaits, itself, stands, part, doneAt, Rests, Settles}
+use Rattle.advance.proofs.Entries.{writer-moves}
+use Rattle.advance.proofs.Turning.{Going, going, Turn, begins, turns-on, turns-to, part-turn, part-ends, part-rests, front-kept, settled}
 
 -- the bytes of the node itself are all
 whole-part : (k : ℕ) (st : List ℕ) → partIn (itselfOf k (length st)) st ≡ st

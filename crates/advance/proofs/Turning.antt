@@ -20,7 +20,7 @@ use Rattle.residual.specs.Frames.{Frame, alone, beforeThe, watchedBy, guardedBy
 use Rattle.moves.specs.Moves.{Running, isGone, isSuspended, isSpent, isFull, Path, stays, Ends, gone, waits, spent, full}
 use Rattle.moves.specs.Contracts.{mostSteps, Counted, runningAt, Advances}
 use Rattle.residual.specs.Nodes.{Valued, At, left}
-use Rattle.runner.specs.Contracts.{inside, Rests, Settles, restsOn, atLimit, makesMove}
+use Rattle.advance.specs.Contracts.{inside, Rests, Settles, restsOn, atLimit, makesMove}
 use Rattle.moves.proofs.Framing.{joined, open-path, lift, ends-around}
 use Rattle.moves.proofs.Advancing.{ended, again}
 use Rattle.residual.proofs.Sights.{signalAt, Inside, Sight, sees-gone, sees-mover, sees-alone, sees-before, sees-watched, sees-guarded, sees-beside, own-put, length-put, part-put}

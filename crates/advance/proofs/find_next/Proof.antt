@@ -13,11 +13,11 @@ use Rattle.plan.specs.Forms.{mover, guarded}
 use Rattle.residual.proofs.Residuals.{some-bytes}
 use Rattle.residual.proofs.Sights.{signalAt, part-length}
 use Rattle.instants.proofs.Deciding.{Found, Part, sees, front-part, signal-known, shuts}
-use Rattle.runner.specs.Contracts.{nothing, awaits, itself, stands, part}
-use Rattle.runner.proofs.Entries.{nil-seen, own-part, writes-both}
+use Rattle.advance.specs.Contracts.{nothing, awaits, itself, stands, part}
+use Rattle.advance.proofs.Entries.{nil-seen, own-part, writes-both}
 use borrow.Author.Needs.{needs}
-use Rattle.runner.proofs.advance.find_next.Statement.{statement}
-use Rattle.runner.proofs.advance.find_next.Tie as tie
+use Rattle.advance.proofs.find_next.Statement.{statement}
+use Rattle.advance.proofs.find_next.Tie as tie
 
 -- what is found of the node
 found :

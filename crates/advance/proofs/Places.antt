@@ -20,8 +20,8 @@ use Rattle.instants.proofs.Deciding.{Found, sees, front-part}
 use Rattle.moves.specs.declared.Counts.{Counts}
 use Rattle.moves.specs.Moves.{Running}
 use Rattle.moves.specs.Contracts.{runningAt, Advances}
-use Rattle.runner.specs.Contracts.{Alone}
-use Rattle.runner.proofs.Turning.{Turn, turns-on}
+use Rattle.advance.specs.Contracts.{Alone}
+use Rattle.advance.proofs.Turning.{Turn, turns-on}
 
 -- a part of a part: m elements from f on, among the n from a on
 module _ (a n f m : ℕ) (st : List ℕ) (h : f + m ≤ n) (l : a + n ≤ length st) where

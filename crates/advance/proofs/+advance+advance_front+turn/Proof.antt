@@ -13,26 +13,26 @@ use Rattle.layout.proofs.Layouts.{few-bounds, nodes-are}
 use Rattle.tree.proofs.NodeSizes.{size-within}
 use Rattle.residual.proofs.Sights.{part-length}
 use Rattle.moves.specs.Contracts.{seenIn, runningAt, Advances}
-use Rattle.runner.proofs.Turning.{Turn, begins, counted, valued, at-node, turns-to, not-inside}
-use Rattle.runner.proofs.Nexts.{Way, way, reached, within, at-front, moves-next, falls-by, advanced-turn, advanced-ends, front-rests, left-by, rests-here, alone-there}
-use Rattle.runner.proofs.Places.{Placed, Stands, itself-stands, long, bytes-kept, advances-there, part-falls, part-stands, placed-on, placed-inside}
+use Rattle.advance.proofs.Turning.{Turn, begins, counted, valued, at-node, turns-to, not-inside}
+use Rattle.advance.proofs.Nexts.{Way, way, reached, within, at-front, moves-next, falls-by, advanced-turn, advanced-ends, front-rests, left-by, rests-here, alone-there}
+use Rattle.advance.proofs.Places.{Placed, Stands, itself-stands, long, bytes-kept, advances-there, part-falls, part-stands, placed-on, placed-inside}
 use borrow.Fn.Kinds.{In}
 use borrow.Fn.PlainCycle.{Measures, is, falls, and}
 use borrow.Author.Needs.{fits-under}
-use Rattle.runner.proofs.advance.advance.Reads as advance
-use Rattle.runner.proofs.advance.advance.Kinds as advance-kinds
-use Rattle.runner.proofs.advance.+advance+advance_front+turn.Lts-advance as advance-lts
-use Rattle.runner.proofs.advance.advance_front.Reads as advance-front
-use Rattle.runner.proofs.advance.advance_front.Kinds as advance-front-kinds
-use Rattle.runner.proofs.advance.+advance+advance_front+turn.Lts-advance_front as advance-front-lts
-use Rattle.runner.proofs.advance.turn.Reads as turn
-use Rattle.runner.proofs.advance.turn.Kinds as turn-kinds
-use Rattle.runner.proofs.advance.+advance+advance_front+turn.Lts-turn as turn-lts
+use Rattle.advance.proofs.advance.Reads as advance
+use Rattle.advance.proofs.advance.Kinds as advance-kinds
+use Rattle.advance.proofs.+advance+advance_front+turn.Lts-advance as advance-lts
+use Rattle.advance.proofs.advance_front.Reads as advance-front
+use Rattle.advance.proofs.advance_front.Kinds as advance-front-kinds
+use Rattle.advance.proofs.+advance+advance_front+turn.Lts-advance_front as advance-front-lts
+use Rattle.advance.proofs.turn.Reads as turn
+use Rattle.advance.proofs.turn.Kinds as turn-kinds
+use Rattle.advance.proofs.+advance+advance_front+turn.Lts-turn as turn-lts
 use Rattle.moves.proofs.move_own.Reads as move-own-reads
-use Rattle.runner.proofs.advance.find_next.Reads as find-next-reads
-use Rattle.runner.proofs.advance.leave.Reads as leave-reads
-use Rattle.runner.proofs.advance.+advance+advance_front+turn.{statement}
-use Rattle.runner.proofs.advance.+advance+advance_front+turn.Tie.{close}
+use Rattle.advance.proofs.find_next.Reads as find-next-reads
+use Rattle.advance.proofs.leave.Reads as leave-reads
+use Rattle.advance.proofs.+advance+advance_front+turn.{statement}
+use Rattle.advance.proofs.+advance+advance_front+turn.Tie.{close}
 
 abbrev μ-advance : Measures 7 advance-kinds.ps ℕ
 μ-advance κs a = 3 * a .1 .1 .1 .1 .1 .1 .1 .1 .0 + 2

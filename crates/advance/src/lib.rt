@@ -20,7 +20,7 @@ ghost use Rattle.layout.specs.Entries.{partOf, node};
 ghost use Rattle.reach.specs.Checked.{Checked};
 ghost use Rattle.moves.specs.Contracts.{mostSteps, Counted, seenIn, isWriter, IsWriter, runningAt, Advances};
 ghost use Rattle.residual.specs.Nodes.{Valued, At, left};
-ghost use Rattle.runner.specs.Contracts.{inside, Alone, Follows, doneAt, Byte, byteAfter, Rests, Settles};
+ghost use Rattle.advance.specs.Contracts.{inside, Alone, Follows, doneAt, Byte, byteAfter, Rests, Settles};
 
 // What comes next at a node, beside that it is nil or suspended: the part that stands alone in its place; its part in front,
 // which is to be advanced; or one move, its own or that of its part in front, which needs no further call.

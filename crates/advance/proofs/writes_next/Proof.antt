@@ -2,8 +2,8 @@
 use mathlib.Core.Path.{sym, _∙_}
 use borrow.Author.Tests.{eq-eqb, ne-eqb}
 use borrow.Author.Needs.{needs}
-use Rattle.runner.proofs.advance.writes_next.Statement.{statement}
-use Rattle.runner.proofs.advance.writes_next.Tie as tie
+use Rattle.advance.proofs.writes_next.Statement.{statement}
+use Rattle.advance.proofs.writes_next.Tie as tie
 
 returns : tie.Need-returns
 returns c = rw (ne-eqb _ 0 (c .if1 .taken))
