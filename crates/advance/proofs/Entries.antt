@@ -21,6 +21,7 @@ use Rattle.residual.specs.Residual.{own}
 use Rattle.residual.specs.Nodes.{left}
 use Rattle.residual.proofs.Sights.{Sight, sees-gone, sees-mover, sees-alone, sees-before, sees-watched, sees-guarded, sees-beside}
 use Rattle.moves.specs.Contracts.{isWriter, IsWriter}
+use Rattle.moves.proofs.Movers.{writer-is}
 
 pub nil-seen : {s : List ℕ} {k : ℕ} {st : List ℕ} {f : Front} → Sight s k st f → f .form ≡ gone → isNil (left s k st) ≡ true
 unfolding isNil
@@ -38,14 +39,7 @@ nil-seen (sees-beside (inr e) o g p i j r) q = absurd (omega (arith, e, q))
 pub own-part : (f : Front) (st : List ℕ) → f .from < f .to → own (partIn f st) ≡ getD st (f .from) 0
 own-part f st h = getD-take (f .to - f .from) (drop (f .from) st) 0 0 (omega (arith, h)) ∙ getD-drop (f .from) st 0 0 ∙ ap (λ i. getD st i 0) (omega arith)
 
--- assignments and emissions
-writer-is : (kind : ℕ) → isWriter kind ≡ true → IsWriter kind
-writer-is kind e =
-    elim (ℕ-discrete kind 1) [
-      | yes q ↦ inl q
-      | no n ↦ inr (eqb-true kind 6 (rw (ne-eqb kind 1 n) at e))
-    ]
-
+-- an assignment or an emission is next
 pub writes-both : (tag kind : ℕ) → (eqb tag 0 && isWriter kind) ≡ true → IsWriter kind × (tag ≡ 0)
 writes-both tag kind e = (writer-is kind (and-right (eqb tag 0) (isWriter kind) e), eqb-true tag 0 (and-left (eqb tag 0) (isWriter kind) e))
 

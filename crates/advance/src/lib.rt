@@ -49,11 +49,7 @@ fn writes_next(s: &&[u8], plan: &[usize; Script::MAX_PARTS], k: usize, tag: u8) 
     if tag != 0 {
         return false;
     }
-    let kind = plan::kind_at(s, plan, k);
-    if kind == 1 {
-        return true;
-    }
-    kind == 6
+    moves::is_writer(plan::kind_at(s, plan, k))
 }
 
 // What comes next at node k. Where its own move does, the node itself counts as the part in front.

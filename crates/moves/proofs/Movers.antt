@@ -1,12 +1,13 @@
 -- A node whose own move is next: what the move is, kind by kind, and what the bytes say after it.
 -- Assumes nothing.
 use mathlib.Core.Path.{_≡_, refl, sym, ap, _∙_, subst}
-use mathlib.Core.Bool.{true, false}
+use mathlib.Core.Bool.{true, false, true≢false}
 use mathlib.Core.Logic.{inl, inr}
 use mathlib.Core.List.{List, [], _∷_}
 use Prim.Native.Nat.{ℕ, suc, _-_, _≤_, _<_}
 use native.Mathlib.Decide.{ℕ-discrete}
 use native.Mathlib.Omega.{arith}
+use borrow.Author.Tests.{eqb-true, ne-eqb}
 use borrow.Rule.Slice.PartMut.{putMid}
 use lib.IntN.{ℤ, pos}
 use lib.ListN.{getD, length, take, drop, set, replicate, length-set, length-replicate, length-drop}
@@ -25,7 +26,7 @@ use Rattle.plan.specs.Forms.{mover}
 use Rattle.residual.specs.Residual.{own, firstOf, secondOf, residual}
 use Rattle.moves.specs.Moves.{Live, Silent}
 use Rattle.residual.specs.Nodes.{left}
-use Rattle.moves.specs.Contracts.{IsSilent, Writes}
+use Rattle.moves.specs.Contracts.{IsSilent, isWriter, IsWriter, Writes}
 use Rattle.residual.proofs.Residuals.{zeros}
 use Rattle.residual.proofs.Residuals.{own-set-at}
 use Rattle.residual.proofs.Sights.{Mover, no-mover, Sight, sees-gone, sees-mover, sees-alone, sees-before, sees-watched, sees-guarded, sees-beside, own-put, length-put, first-put}
@@ -100,9 +101,23 @@ is-mover (sees-guarded e x a i r) q = absurd (omega (arith, e, q))
 is-mover (sees-beside (inl e) o g p i j r) q = absurd (omega (arith, e, q))
 is-mover (sees-beside (inr e) o g p i j r) q = absurd (omega (arith, e, q))
 
--- let, if, while and local are left when it is no assignment and no emission
-pub is-silent : {kind : ℕ} → Mover kind → (kind ≡ 1 → ⊥) → (kind ≡ 6 → ⊥) → IsSilent kind
-is-silent {kind} m a b =
+-- assignments and emissions
+pub writer-is : (kind : ℕ) → isWriter kind ≡ true → IsWriter kind
+writer-is kind e =
+    elim (ℕ-discrete kind 1) [
+      | yes q ↦ inl q
+      | no n ↦ inr (eqb-true kind 6 (rw (ne-eqb kind 1 n) at e))
+    ]
+
+pub writer-was : {kind : ℕ} → IsWriter kind → isWriter kind ≡ true
+writer-was (inl e) = ap isWriter e
+writer-was (inr e) = ap isWriter e
+
+-- let, if, while and local are left
+pub is-silent : {kind : ℕ} → Mover kind → isWriter kind ≡ false → IsSilent kind
+is-silent {kind} m e =
+    let a : kind ≡ 1 → ⊥ = λ q. true≢false (sym (ap isWriter q) ∙ e) in
+    let b : kind ≡ 6 → ⊥ = λ q. true≢false (sym (ap isWriter q) ∙ e) in
     elim (ℕ-discrete kind 2) [
       | yes e ↦ inl e
       | no c ↦

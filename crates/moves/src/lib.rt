@@ -6,14 +6,14 @@ use plan::forms;
 ghost use mathlib.Core.Path.{_≡_};
 ghost use Prim.Native.Nat.{_/_, _≤_, _<_};
 ghost use lib.ListN.{length, replicate};
-ghost use Rattle.layout.specs.Layout.{nodeCount};
+ghost use Rattle.layout.specs.Layout.{mostNames, nodeCount};
 ghost use Rattle.layout.specs.Entries.{partOf, node};
 ghost use Rattle.residual.specs.Residual.{own};
 ghost use Rattle.plan.specs.Forms.{mover, frontOf};
 ghost use Rattle.plan.specs.Plan.{KeepsPlan};
 ghost use Rattle.moves.specs.Moves.{Silent};
 ghost use Rattle.residual.specs.Nodes.{Valued, At, left};
-ghost use Rattle.moves.specs.Contracts.{Counted, seenIn, IsSilent, IsWriter, Writes, Written, runningAt, Advances};
+ghost use Rattle.moves.specs.Contracts.{Counted, seenIn, IsSilent, isWriter, IsWriter, Writes, Written, runningAt, Advances};
 
 // Why a node made no further move: it has made one and can go on; it is nil; it is suspended; the limit is reached;
 // the next line has no room.
@@ -154,6 +154,13 @@ fn move_silently(
     }
 }
 
+// An assignment or an emission: its move writes a line.
+pub fn is_writer(kind: usize) -> bool
+    ensures { λ r. ⌜ r ≡ isWriter kind ⌝ }
+{
+    kind == 1 || kind == 6
+}
+
 // What node k, an assignment or an emission, gives its name.
 fn written(
     s: &&[u8],
@@ -184,7 +191,7 @@ fn write(
     x: usize,
     value: i32,
 ) -> Done
-    requires { ⌜ At (now (now s)) k (now state) × (Writes (left (now (now s)) k (now state)) (now values) x value × (Counted (limits .steps) (now log) (at .steps) (at .lines) × ((at .steps < limits .steps) × ((x < length (now values)) × (x < 64))))) ⌝ }
+    requires { ⌜ At (now (now s)) k (now state) × (Writes (left (now (now s)) k (now state)) (now values) x value × (Counted (limits .steps) (now log) (at .steps) (at .lines) × ((at .steps < limits .steps) × ((x < length (now values)) × (x < mostNames))))) ⌝ }
     ensures { λ r. ⌜ Advances (seenIn (now (seen .entry))) (limits .steps) (length (now (log .entry)) / 4) (runningAt (now (now (s .entry))) k (now (state .entry)) (now (values .entry)) (now (log .entry)) (at .steps) (limits .instant) (at .lines)) (runningAt (now (now (s .entry))) k (now (state .exit)) (now (values .exit)) (now (log .exit)) (r .at .steps) (limits .instant) (r .at .lines)) (r .why) × (0 < r .why) ⌝ }
 {
     let noted = log::note(seen, log, at.steps, limits.instant, at.lines, x, value);
@@ -221,7 +228,7 @@ pub fn move_own(
         return Done { why: SPENT, at };
     }
     let kind = plan::kind_at(s, plan, k);
-    if kind == 1 || kind == 6 {
+    if is_writer(kind) {
         let x = plan::a_at(s, plan, k);
         let v = written(s, plan, values, k, kind);
         return write(s, seen, values, state, log, limits, at, k, x, v);

@@ -3,8 +3,9 @@ use layout::Script;
 ghost use mathlib.Core.Path.{_≡_};
 ghost use Prim.Native.Nat.{_*_, _/_, _+_, _≤_, _<_};
 ghost use lib.ListN.{length};
+ghost use Rattle.layout.specs.Layout.{mostNames};
 ghost use Rattle.moves.specs.Moves.{putWords};
-ghost use Rattle.moves.specs.Contracts.{lineOf, Notes};
+ghost use Rattle.moves.specs.Contracts.{mostSteps, lineOf, Notes};
 
 fn put_line(log: &mut [u32], at: usize, step: u32, instant: u32, name: u32, value: u32)
     requires { ⌜ at + 4 ≤ length (now log) ⌝ }
@@ -32,7 +33,7 @@ pub fn note(
     x: usize,
     value: i32,
 ) -> Noted
-    requires { ⌜ (x < 64) × ((steps < 1000000) × (4 * lines ≤ length (now log))) ⌝ }
+    requires { ⌜ (x < mostNames) × ((steps < mostSteps) × (4 * lines ≤ length (now log))) ⌝ }
     ensures { λ r. ⌜ Notes (length (now (log .entry)) / 4) (lineOf (now (seen .entry)) steps instant x value) lines (now (log .entry)) r (now (log .exit)) ⌝ }
 {
     if seen[x] != 1 {

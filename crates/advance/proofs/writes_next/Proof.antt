@@ -1,7 +1,8 @@
 -- `writes_next`: by the byte, then by the kind.
-use mathlib.Core.Path.{sym, _∙_}
+use mathlib.Core.Path.{ap, _∙_}
 use borrow.Author.Tests.{eq-eqb, ne-eqb}
 use borrow.Author.Needs.{needs}
+use Rattle.moves.specs.Contracts.{isWriter}
 use Rattle.advance.proofs.writes_next.Statement.{statement}
 use Rattle.advance.proofs.writes_next.Tie as tie
 
@@ -11,12 +12,11 @@ returns c = rw (ne-eqb _ 0 (c .if1 .taken))
 kind-at-requires : tie.Need-kind-at-requires
 kind-at-requires c κs = search needs
 
-returns-2 : tie.Need-returns-2
-returns-2 c = rw (eq-eqb _ 0 (c .before .before .if1 .left), eq-eqb _ 1 (sym (c .before .kind-at .ensures) ∙ c .if2 .taken))
+is-writer-requires : tie.Need-is-writer-requires
+is-writer-requires c κs = search needs
 
-returns-3 : tie.Need-returns-3
-returns-3 c =
-    rw (eq-eqb _ 0 (c .before .before .if1 .left), ← c .before .kind-at .ensures, ne-eqb (c .before .kind-at .result) 1 (c .if2 .left))
+returns-2 : tie.Need-returns-2
+returns-2 c = rw (eq-eqb _ 0 (c .before .before .if1 .left)) (c .is-writer .ensures ∙ ap isWriter (c .before .kind-at .ensures))
 
 pub writes-next-spec : {M : Type 1} → statement M
-writes-next-spec = tie.close (tie.spec returns kind-at-requires returns-2 returns-3)
+writes-next-spec = tie.close (tie.spec returns kind-at-requires is-writer-requires returns-2)

@@ -1,6 +1,7 @@
 -- `move_own`: by the kind, if the limit is not reached.
-use mathlib.Core.Path.{_≡_, refl, sym, _∙_, subst}
-use mathlib.Core.Logic.{inl, inr, ⊎-elim}
+use mathlib.Core.Path.{_≡_, refl, sym, ap, _∙_, subst}
+use mathlib.Core.Bool.{true≢false}
+use mathlib.Core.Logic.{⊎-elim}
 use Prim.Native.Nat.{_/_, _≤_, _<_}
 use native.Mathlib.Nat.{le-antisymm}
 use native.Mathlib.Omega.{arith}
@@ -8,16 +9,15 @@ use native.Mathlib.Numerals.{add-one}
 use mir.Syntax.{w32}
 use mir.Facts.{toZ-ofZ}
 use lib.ListN.{length}
-use borrow.Author.Tests.{eqb-true, eqb-false}
 use Rattle.layout.specs.Layout.{nameCount}
 use Rattle.layout.specs.Entries.{partOf, node}
 use Rattle.residual.specs.Residual.{own}
 use Rattle.residual.proofs.Residuals.{some-bytes}
 use Rattle.residual.proofs.Sights.{Mover, sight}
 use Rattle.moves.specs.Moves.{spent}
-use Rattle.moves.specs.Contracts.{IsWriter, runningAt}
+use Rattle.moves.specs.Contracts.{isWriter, IsWriter, runningAt}
 use Rattle.moves.proofs.Advancing.{ended, again}
-use Rattle.moves.proofs.Movers.{known, few-names, is-mover, is-silent, mover-live}
+use Rattle.moves.proofs.Movers.{known, few-names, is-mover, writer-is, writer-was, is-silent, mover-live}
 use borrow.Author.Needs.{needs}
 use Rattle.moves.proofs.move_own.Statement.{statement}
 use Rattle.moves.proofs.move_own.Tie as tie
@@ -35,16 +35,16 @@ lines-within : (c : tie.Start) → c .args .at .lines ≤ length (c .args .log .
 lines-within c = omega (arith, c .pre .1 .1 .1 .0 .space)
 
 -- it is an assignment or an emission
-writer : (c : tie.Joined2) → IsWriter (c .before .kind-at .result)
-writer c = ⊎-elim (λ t. inl (t .taken)) (λ t. inr (eqb-true _ _ (t .1 .taken))) (c .if2 .came)
+writer : (c : tie.Then2) → IsWriter (c .before .before .kind-at .result)
+writer c = writer-is _ (sym (c .before .is-writer .ensures) ∙ c .if2 .taken)
 
 name-known :
-    (c : tie.Joined2) → let start = c .before .before .before .before .before .before .before in partOf (start .args .s .now .now) (node (start .args .s .now .now) (start .args .k)) .a < nameCount (start .args .s .now .now)
+    (c : tie.Then2) → let start = c .before .before .before .before .before .before .before .before in partOf (start .args .s .now .now) (node (start .args .s .now .now) (start .args .k)) .a < nameCount (start .args .s .now .now)
 name-known c =
-    let start = c .before .before .before .before .before .before .before in
+    let start = c .before .before .before .before .before .before .before .before in
     ⊎-elim
-    (λ e. known (start .args .s .now .now) (start .pre .0 .checked) (start .args .k) (start .pre .1 .1 .0 .known) {n = 1} (sym (c .before .kind-at .ensures) ∙ e) .1 .0)
-    (λ e. known (start .args .s .now .now) (start .pre .0 .checked) (start .args .k) (start .pre .1 .1 .0 .known) {n = 6} (sym (c .before .kind-at .ensures) ∙ e) .1)
+    (λ e. known (start .args .s .now .now) (start .pre .0 .checked) (start .args .k) (start .pre .1 .1 .0 .known) {n = 1} (sym (c .before .before .kind-at .ensures) ∙ e) .1 .0)
+    (λ e. known (start .args .s .now .now) (start .pre .0 .checked) (start .args .k) (start .pre .1 .1 .0 .known) {n = 6} (sym (c .before .before .kind-at .ensures) ∙ e) .1)
     (writer c)
 
 returns : tie.Need-returns
@@ -60,24 +60,27 @@ returns c =
 kind-at-requires : tie.Need-kind-at-requires
 kind-at-requires c κs = search needs
 
+is-writer-requires : tie.Need-is-writer-requires
+is-writer-requires c κs = search needs
+
 a-at-requires : tie.Need-a-at-requires
 a-at-requires c κs =
-    let start = c .before .before .before .before .before .before .before in
+    let start = c .before .before .before .before .before .before .before .before in
     (start .pre .0 .checked, (start .pre .1 .0, (start .pre .1 .1 .0 .known, omega (arith, name-known c, few-names (start .pre .0 .checked)))))
 
 written-requires : tie.Need-written-requires
 written-requires c κs =
-    let start = c .before .before .before .before .before .before .before .before .before in
-    (start .pre .0, (start .pre .1 .0, (start .pre .1 .1 .0 .known, (c .before .before .before .kind-at .ensures, writer (c .before .before)))))
+    let start = c .before .before .before .before .before .before .before .before .before .before in
+    (start .pre .0, (start .pre .1 .0, (start .pre .1 .1 .0 .known, (c .before .before .before .before .kind-at .ensures, writer (c .before .before)))))
 
 write-requires : tie.Need-write-requires
 write-requires c κs =
-    let start = c .before .before .before .before .before .before .before .before .before .before .before .before .before in
+    let start = c .before .before .before .before .before .before .before .before .before .before .before .before .before .before in
     let name : c .before .before .before .before .before .a-at .result < nameCount (start .args .s .now .now) = omega (arith, c .before .before .before .before .before .a-at .ensures, name-known (c .before .before .before .before .before .before)) in (
       start .pre .1 .1 .0,
       (
         rw (toZ-ofZ {w = w32} (record { sfits = c .before .before .before .written .ok }), c .before .before .before .before .before .a-at .ensures) (c .before .before .before .written .ensures (start .args .state .now) (some-bytes (start .pre .1 .1 .0)) (moves-itself start .0)),
-        (start .pre .1 .1 .1 .0, (c .before .before .before .before .before .before .before .before .if1 .left, (omega (arith, name, start .pre .0 .named), omega (arith, name, few-names (start .pre .0 .checked))))),
+        (start .pre .1 .1 .1 .0, (c .before .before .before .before .before .before .before .before .before .if1 .left, (omega (arith, name, start .pre .0 .named), omega (arith, name, few-names (start .pre .0 .checked))))),
       ),
     )
 
@@ -97,11 +100,11 @@ move-silently-requires : tie.Need-move-silently-requires
 move-silently-requires c κs =
     let start = c .before .before .before .before .before .before .before .before .before .before in (
       (start .pre .0, (start .pre .1 .0, (start .pre .1 .1 .0, (c .before .before .before .before .kind-at .ensures, moves-itself start .0)))),
-      is-silent (subst Mover (sym (c .before .before .before .before .kind-at .ensures)) (moves-itself start .1)) (c .before .before .before .if2 .left) (eqb-false _ _ (c .before .before .if3 .left)),
+      is-silent (subst Mover (sym (c .before .before .before .before .kind-at .ensures)) (moves-itself start .1)) (sym (c .before .before .before .is-writer .ensures) ∙ c .before .before .if2 .left),
     )
 
-add-t29 : tie.Need-add-t29
-add-t29 c = search needs
+add-t28 : tie.Need-add-t28
+add-t28 c = search needs
 
 same-length-4 : tie.Need-same-length-4
 same-length-4 c = search needs
@@ -114,7 +117,7 @@ returns-3 c =
     let start = c .before .before .before .before .before .before .before .before .before .before .before .before .before .before .before in
     let at = runningAt (start .args .s .now .now) (start .args .k) (start .args .state .now) (start .args .values .now) (start .args .log .now) (start .args .at .steps) (start .args .limits .instant) (start .args .at .lines) in (
       rw (add-one (start .args .at .steps)) (again at (c .before .before .before .before .before .before .before .before .before .before .if1 .left) (lines-within start) (c .before .before .before .before .move-silently .ensures)),
-      ⊎-elim (λ e. absurd (c .before .before .before .before .before .before .before .before .if2 .left (c .before .before .before .before .before .before .before .before .before .kind-at .ensures ∙ e))) (λ e. absurd (eqb-false _ _ (c .before .before .before .before .before .before .before .if3 .left) (c .before .before .before .before .before .before .before .before .before .kind-at .ensures ∙ e))),
+      λ w. absurd (true≢false (sym (writer-was w) ∙ ap isWriter (sym (c .before .before .before .before .before .before .before .before .before .kind-at .ensures)) ∙ sym (c .before .before .before .before .before .before .before .before .is-writer .ensures) ∙ c .before .before .before .before .before .before .before .if2 .left)),
     )
 
 pub move-own-spec : {M : Type 1} → statement M
@@ -123,6 +126,7 @@ move-own-spec =
     (tie.spec
     returns
     kind-at-requires
+    is-writer-requires
     a-at-requires
     written-requires
     write-requires
@@ -131,7 +135,7 @@ move-own-spec =
     same-length-3
     returns-2
     move-silently-requires
-    add-t29
+    add-t28
     same-length-4
     same-length-5
     returns-3)

@@ -1,0 +1,14 @@
+-- `is_writer`: by the kind.
+use mathlib.Core.Path.{refl, sym}
+use borrow.Author.Tests.{eq-eqb, ne-eqb}
+use Rattle.moves.proofs.is_writer.Statement.{statement}
+use Rattle.moves.proofs.is_writer.Tie as tie
+
+returns : tie.Need-returns
+returns c = sym (rw (eq-eqb _ 1 (c .if1 .taken)))
+
+returns-2 : tie.Need-returns-2
+returns-2 c = sym (rw (ne-eqb _ 1 (c .if1 .left)))
+
+pub is-writer-spec : {M : Type 1} → statement M
+is-writer-spec = tie.close (tie.spec returns returns-2)
