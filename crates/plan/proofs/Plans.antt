@@ -1,8 +1,9 @@
 -- The words of a plan: what was packed into one is what it tells.
 -- Assumes nothing.
 use mathlib.Core.Path.{_≡_, refl, sym, ap, _∙_}
+use mathlib.Core.Bool.{Bool, true, false}
 use mathlib.Core.List.{List}
-use Prim.Native.Nat.{ℕ, zero, suc, _+_, _*_, _%_, _^_, _≤_, _<_}
+use Prim.Native.Nat.{ℕ, zero, suc, _+_, _*_, _/_, _%_, _^_, _≤_, _<_}
 use native.Mathlib.Decide.{ℕ-discrete}
 use native.Mathlib.Omega.{arith}
 use lib.Dec.{eqb, ltb}
@@ -18,7 +19,7 @@ use Rattle.layout.specs.Entries.{partOf, node}
 use Rattle.fields.specs.Fields.{firstChild, secondChild}
 use Rattle.tree.specs.Tree.{processOf, size}
 use Rattle.plan.specs.Forms.{formOf}
-use Rattle.plan.specs.Plan.{formIn, aIn, bIn, firstIn, secondIn, sizeIn, nodeKindIn, packedFields, packed, formsOf, spelled, Spelled, Planned, KeepsExpressions, KeepsNodes}
+use Rattle.plan.specs.Plan.{watches, formIn, aIn, bIn, firstIn, secondIn, sizeIn, nodeKindIn, watchesIn, packedFields, marked, packed, formsOf, spelled, Spelled, Planned, KeepsExpressions, KeepsNodes}
 
 pub forms-fit : (kind : ℕ) → kind < 11 → formsOf kind < 65536
 unfolding all any search-for.first firstFrom
@@ -60,38 +61,59 @@ module _ (forms kind a b first second size : ℕ) (few : forms < 65536) where
   size-told : sizeIn made ≡ size % 256
   size-told = omega (arith, few)
 
-  kind-told : nodeKindIn made ≡ kind
-  kind-told = omega (arith, few)
+pub mark-fits : (kind : ℕ) → kind < 128 → (w : Bool) → marked kind w < 256
+mark-fits kind h true = omega (arith, h)
+mark-fits kind h false = omega (arith, h)
+
+-- its kind, and its mark
+module _ (forms a b first second size kind : ℕ) (few : forms < 65536) (fits : kind < 128) where
+  kind-told : (w : Bool) → nodeKindIn (made forms (marked kind w) a b first second size few) ≡ kind
+  kind-told true = omega (arith, few, fits)
+  kind-told false = omega (arith, few, fits)
+
+  mark-told : (w : Bool) → watchesIn (made forms (marked kind w) a b first second size few) ≡ w
+  mark-told true =
+      let e : made forms (kind + 128) a b first second size few / 2 ^ 63 ≡ 1 = omega (arith, few, fits) in
+      rw e
+  mark-told false =
+      let e : made forms kind a b first second size few / 2 ^ 63 ≡ 0 = omega (arith, few, fits) in
+      rw e
 
 -- the word that is packed for node k
 module _ (s : List ℕ) (k : ℕ) where
   abbrev entry : Part
   entry = partOf s (node s k)
 
-  module _ (n : entry .kind < 11) (few : k ≤ 256) (one two count : ℕ) (a : one % 256 ≡ firstChild entry % 256)
+  module _ (n : entry .kind < 11) (few : k ≤ 256) (one two count : ℕ) (w : Bool) (a : one % 256 ≡ firstChild entry % 256)
       (b : two ≡ secondChild entry)
-      (sized : firstChild entry < k → (count ≡ size (processOf s (firstChild entry))) × (count < 256)) where
+      (sized : firstChild entry < k → (count ≡ size (processOf s (firstChild entry))) × (count < 256))
+      (marks : w ≡ watches (processOf s k)) where
     abbrev forms : ℕ
     forms = formsOf (entry .kind)
 
     abbrev fields : ℕ
     fields = packedFields (entry .a) (entry .b) one two count
 
+    abbrev kind : ℕ
+    kind = marked (entry .kind) w
+
     fit : forms < 65536
     fit = forms-fit (entry .kind) n
 
-    pub planned : Planned s k (packed forms fields (entry .kind))
+    known : entry .kind < 128
+    known = omega (arith, n)
+
+    pub planned : Planned s k (packed forms fields kind)
     planned =
         record {
-          forms = λ tag l. low forms (fields + 2 ^ 40 * entry .kind) tag l ∙ forms-tell (entry .kind) tag n l;
-          kind = kind-told forms (entry .kind) (entry .a) (entry .b) one two count fit;
-          a = λ h. omega (arith, h, a-told forms (entry .kind) (entry .a) (entry .b) one two count fit);
-          b = λ h. omega (arith, h, b-told forms (entry .kind) (entry .a) (entry .b) one two count fit);
-          first = λ h. omega (arith, h, few, a, first-told forms (entry .kind) (entry .a) (entry .b) one two count fit);
-          second = λ h. omega (arith, h, few, b, second-told forms (entry .kind) (entry .a) (entry .b) one two count fit);
-          size =
-              λ h.
-              omega (arith, sized h .0, sized h .1, size-told forms (entry .kind) (entry .a) (entry .b) one two count fit);
+          forms = λ tag l. low forms (fields + 2 ^ 40 * kind) tag l ∙ forms-tell (entry .kind) tag n l;
+          kind = kind-told forms (entry .a) (entry .b) one two count (entry .kind) fit known w;
+          watches = mark-told forms (entry .a) (entry .b) one two count (entry .kind) fit known w ∙ marks;
+          a = λ h. omega (arith, h, a-told forms kind (entry .a) (entry .b) one two count fit);
+          b = λ h. omega (arith, h, b-told forms kind (entry .a) (entry .b) one two count fit);
+          first = λ h. omega (arith, h, few, a, first-told forms kind (entry .a) (entry .b) one two count fit);
+          second = λ h. omega (arith, h, few, b, second-told forms kind (entry .a) (entry .b) one two count fit);
+          size = λ h. omega (arith, sized h .0, sized h .1, size-told forms kind (entry .a) (entry .b) one two count fit);
         }
 
 -- the word that is spelled for expression e, whose entry is p

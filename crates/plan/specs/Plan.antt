@@ -1,8 +1,11 @@
 -- The plan of a run: a word for each expression and for each node, with what the run goes by.
 use mathlib.Core.Path.{_≡_}
+use mathlib.Core.Bool.{Bool, true, false, cond, _&&_, _||_}
 use mathlib.Core.List.{List}
 use Prim.Native.Nat.{ℕ, _+_, _*_, _/_, _%_, _^_, _<_}
+use lib.Dec.{eqb, ltb}
 use lib.ListN.{getD}
+use Rattle.language.specs.Syntax.{Proc, nil, assign, letIn, ifThenElse, while, sequence, emit, local, watching, when, parallel}
 use Rattle.layout.specs.Layout.{mostExpressions, expressionCount, nodeCount}
 use Rattle.layout.specs.Entries.{partOf, node}
 use Rattle.fields.specs.Fields.{firstChild, secondChild}
@@ -33,8 +36,22 @@ pub record Spelled (s : List ℕ) (e w : ℕ) : Type 0 where
   pub operand : (partOf s e .kind ≡ 0 → ⊥) → operandIn w ≡ partOf s e .a
   pub later : laterIn w ≡ partOf s e .b
 
+-- a watching stands in a process; where none does, an instant change leaves it as it is
+unfoldable pub watches : {L : Type 0} → Proc L → Bool
+watches nil = false
+watches (assign x e) = false
+watches (letIn x δ e p) = watches p
+watches (ifThenElse e p q) = watches p || watches q
+watches (while e p) = watches p
+watches (sequence p q) = watches p || watches q
+watches (emit a) = false
+watches (local a δ p) = watches p
+watches (watching a p) = true
+watches (when a p) = watches p
+watches (parallel p q) = watches p || watches q
+
 -- what the word of a node tells: the form by its own byte, fields a and b, the first and the second child, the size of
--- the first, the kind
+-- the first, the kind, and whether a watching stands in the node
 abbrev pub formIn : ℕ → ℕ → ℕ
 formIn w tag = w / 2 ^ (4 * tag) % 16
 
@@ -54,12 +71,18 @@ abbrev pub sizeIn : ℕ → ℕ
 sizeIn w = w / 2 ^ 48 % 256
 
 abbrev pub nodeKindIn : ℕ → ℕ
-nodeKindIn w = w / 2 ^ 56
+nodeKindIn w = w / 2 ^ 56 % 128
+
+abbrev pub watchesIn : ℕ → Bool
+watchesIn w = eqb (w / 2 ^ 63) 1
 
 -- a word that tells these, and the forms of a kind, as they stand in it
 abbrev pub packedFields : ℕ → ℕ → ℕ → ℕ → ℕ → ℕ
 packedFields a b first second size =
     a % 256 + 256 * (b % 256 + 256 * (first % 256 + 256 * (second % 256 + 256 * (size % 256))))
+
+abbrev pub marked : ℕ → Bool → ℕ
+marked kind watches = cond watches (kind + 128) kind
 
 abbrev pub packed : ℕ → ℕ → ℕ → ℕ
 packed forms fields kind = forms + 2 ^ 16 * (fields + 2 ^ 40 * kind)
@@ -71,6 +94,7 @@ formsOf kind = formOf kind 0 + 16 * formOf kind 1 + 256 * formOf kind 2 + 4096 *
 pub record Planned (s : List ℕ) (k w : ℕ) : Type 0 where
   pub forms : (tag : ℕ) → tag < 4 → formIn w tag ≡ formOf (partOf s (node s k) .kind) tag
   pub kind : nodeKindIn w ≡ partOf s (node s k) .kind
+  pub watches : watchesIn w ≡ watches (processOf s k)
   pub a : partOf s (node s k) .a < 256 → aIn w ≡ partOf s (node s k) .a
   pub b : partOf s (node s k) .b < 256 → bIn w ≡ partOf s (node s k) .b
   pub first : firstChild (partOf s (node s k)) < k → firstIn w ≡ firstChild (partOf s (node s k))
@@ -83,6 +107,15 @@ KeepsExpressions s n plan = (e : ℕ) → e < n → Spelled s e (getD plan e 0)
 
 abbrev pub KeepsNodes : List ℕ → ℕ → List ℕ → Type 0
 KeepsNodes s n plan = (k : ℕ) → k < n → Planned s k (getD plan (mostExpressions + k) 0)
+
+-- What the words of the nodes before k tell: j is one of them, and a watching stands in it; and of node k, of this kind
+-- and with these children: it is a watching, or one stands in a child.
+abbrev pub watchesBefore : List ℕ → ℕ → ℕ → Bool
+watchesBefore plan k j = ltb j k && watchesIn (getD plan (mostExpressions + j) 0)
+
+abbrev pub watchesBy : List ℕ → ℕ → ℕ → ℕ → ℕ → Bool
+watchesBy plan k kind first second =
+    eqb kind 8 || (watchesBefore plan k first || watchesBefore plan k second)
 
 -- the plan of a script; what stands past its expressions and past its nodes is left free
 pub record KeepsPlan (s plan : List ℕ) : Type 0 where

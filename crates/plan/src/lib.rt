@@ -2,14 +2,18 @@
 pub mod words; // words.rt: what the words tell, and how they are made
 pub mod forms; // forms.rt: the form that a node has come to
 
+use fields::children::Children;
 use layout::Script;
 ghost use mathlib.Core.Path.{_≡_};
 ghost use Prim.Native.Nat.{_<_};
-ghost use Rattle.layout.specs.Layout.{expressionCount, nodeCount, Laid};
+ghost use Rattle.layout.specs.Layout.{mostNodes, expressionCount, nodeCount, Laid};
 ghost use Rattle.layout.specs.Entries.{partOf, node};
-ghost use Rattle.tree.specs.Tree.{KeepsSizes};
+ghost use Rattle.tree.specs.Tree.{processOf, KeepsSizes};
 ghost use Rattle.reach.specs.Checked.{Checked};
-ghost use Rattle.plan.specs.Plan.{Spelled, Planned, KeepsExpressions, KeepsPlan};
+ghost use Rattle.plan.specs.Plan.{watches, Spelled, Planned, watchesBefore, watchesBy, KeepsExpressions, KeepsNodes, KeepsPlan};
+
+// The kind of a watching.
+const WATCHING: usize = 8;
 
 fn wide(x: u16) -> usize
     ensures { λ r. ⌜ r ≡ x ⌝ }
@@ -17,16 +21,43 @@ fn wide(x: u16) -> usize
     x as usize
 }
 
-// The word of node k.
-fn node_word(s: &[u8], c: Script, sizes: &[u16; Script::MAX_NODES], k: usize) -> usize
-    requires { ⌜ Laid (now s) c × (Checked (now s) × (KeepsSizes (now s) (c .nodes) (now sizes) × (k < c .nodes))) ⌝ }
+// Node j is before node k and a watching stands in it, by the words of the nodes before k.
+fn watches_before(plan: &[usize; Script::MAX_PARTS], k: usize, j: usize) -> bool
+    requires { ⌜ k < mostNodes ⌝ }
+    ensures { λ r. ⌜ r ≡ watchesBefore (now (plan .entry)) k j ⌝ }
+{
+    j < k && words::watches_in(plan[Script::MAX_EXPRESSIONS + j])
+}
+
+// A watching stands in node k, which is of this kind and has these children: it is one, or one stands in a child. A
+// child that a node has not is no matter: it is 0, and node 0 has no part that could be watching.
+fn has_watching(plan: &[usize; Script::MAX_PARTS], k: usize, kind: usize, parts: Children) -> bool
+    requires { ⌜ k < mostNodes ⌝ }
+    ensures { λ r. ⌜ r ≡ watchesBy (now (plan .entry)) k kind (parts .first) (parts .second) ⌝ }
+{
+    if kind == WATCHING {
+        return true;
+    }
+    watches_before(plan, k, parts.first) || watches_before(plan, k, parts.second)
+}
+
+// The word of node k; the plan has those of the nodes before it.
+fn node_word(
+    s: &[u8],
+    c: Script,
+    sizes: &[u16; Script::MAX_NODES],
+    plan: &[usize; Script::MAX_PARTS],
+    k: usize,
+) -> usize
+    requires { ⌜ Laid (now s) c × (Checked (now s) × (KeepsSizes (now s) (c .nodes) (now sizes) × (KeepsNodes (now s) k (now plan) × (k < c .nodes)))) ⌝ }
     ensures { λ r. ⌜ Planned (now (s .entry)) k r ⌝ }
 {
     let p = layout::entries::part_at(s, c, c.expressions + k);
     let parts = fields::children::children_of(p);
     let first = parts.first % 256;
     let fields = words::pack_fields(p.a, p.b, first, parts.second, wide(sizes[first]));
-    words::pack(forms::forms_of(p.kind), fields, p.kind)
+    let kind = words::mark(p.kind, has_watching(plan, k, p.kind, parts));
+    words::pack(forms::forms_of(p.kind), fields, kind)
 }
 
 // The word of expression e.
@@ -65,7 +96,7 @@ pub fn find_plan(s: &[u8], c: Script) -> [usize; Script::MAX_PARTS]
     let n = c.nodes;
     let mut k: usize = 0;
     while k < n {
-        plan[Script::MAX_EXPRESSIONS + k] = node_word(s, c, &sizes, k);
+        plan[Script::MAX_EXPRESSIONS + k] = node_word(s, c, &sizes, &plan, k);
         k += 1;
     }
     plan
@@ -86,6 +117,14 @@ pub fn kind_at(s: &&[u8], plan: &[usize; Script::MAX_PARTS], k: usize) -> usize
     ensures { λ r. ⌜ r ≡ partOf (now (now (s .entry))) (node (now (now (s .entry))) k) .kind ⌝ }
 {
     words::node_kind_in(word_at(s, plan, k))
+}
+
+// Whether a watching stands in node k.
+pub fn watches_at(s: &&[u8], plan: &[usize; Script::MAX_PARTS], k: usize) -> bool
+    requires { ⌜ Checked (now (now s)) × (KeepsPlan (now (now s)) (now plan) × (k < nodeCount (now (now s)))) ⌝ }
+    ensures { λ r. ⌜ r ≡ watches (processOf (now (now (s .entry))) k) ⌝ }
+{
+    words::watches_in(word_at(s, plan, k))
 }
 
 pub fn a_at(s: &&[u8], plan: &[usize; Script::MAX_PARTS], k: usize) -> usize

@@ -1,9 +1,12 @@
 // The words of a plan. From the lowest bit on the word of an expression has a constant (32 bits), or field a and field b
 // (16 each), then the kind; that of a node the forms (four bits for each byte of state), field a, field b, the first and
-// the second child, the size of the first, and the kind (8 bits each).
+// the second child, the size of the first (8 bits each), the kind (7 bits), and whether a watching stands in the node.
 ghost use mathlib.Core.Path.{_≡_};
 ghost use Prim.Native.Nat.{_<_};
-ghost use Rattle.plan.specs.Plan.{kindIn, constantIn, operandIn, laterIn, spelled, formIn, aIn, bIn, firstIn, secondIn, sizeIn, nodeKindIn, packedFields, packed};
+ghost use Rattle.plan.specs.Plan.{kindIn, constantIn, operandIn, laterIn, spelled, formIn, aIn, bIn, firstIn, secondIn, sizeIn, nodeKindIn, watchesIn, packedFields, marked, packed};
+
+// The bit above the kind of a node: a watching stands in it.
+const MARK: usize = 128;
 
 // What the word of an expression tells.
 pub fn kind_in(w: usize) -> usize
@@ -78,7 +81,13 @@ pub fn size_in(w: usize) -> usize
 pub fn node_kind_in(w: usize) -> usize
     ensures { λ r. ⌜ r ≡ nodeKindIn w ⌝ }
 {
-    w >> 56
+    (w >> 56) % MARK
+}
+
+pub fn watches_in(w: usize) -> bool
+    ensures { λ r. ⌜ r ≡ watchesIn w ⌝ }
+{
+    w >> 63 == 1
 }
 
 // The word of a node without its kind and its forms: two fields, two children, and the size of the first, each by its
@@ -87,6 +96,17 @@ pub fn pack_fields(a: usize, b: usize, first: usize, second: usize, size: usize)
     ensures { λ r. ⌜ r ≡ packedFields a b first second size ⌝ }
 {
     a % 256 + 256 * (b % 256 + 256 * (first % 256 + 256 * (second % 256 + 256 * (size % 256))))
+}
+
+// A kind, with the mark of a node in which a watching stands.
+pub fn mark(kind: usize, watches: bool) -> usize
+    requires { ⌜ kind < 128 ⌝ }
+    ensures { λ r. ⌜ r ≡ marked kind watches ⌝ }
+{
+    if watches {
+        return kind + MARK;
+    }
+    kind
 }
 
 pub fn pack(forms: usize, fields: usize, kind: usize) -> usize

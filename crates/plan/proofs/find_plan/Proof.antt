@@ -30,13 +30,13 @@ loop-holds c = (search needs, (search needs, (c .find-expressions .ensures, belo
 
 node-word-requires : tie.Need-node-word-requires Inv-loop μ-loop
 node-word-requires c κs =
-    let start = c .before .before .before .before .before .before in
-    (start .pre .0, (start .pre .1, (c .before .before .before .before .find-sizes .ensures, c .before .loop-test .taken)))
-
-inside : (c : tie.After-node-word Inv-loop μ-loop) → mostExpressions + c .before .before .before .loop .k < mostParts
-inside c =
     let start = c .before .before .before .before .before .before .before in
-    omega (arith, c .before .before .loop-test .taken, few-bounds (start .args .c) (start .pre .0 .few))
+    (start .pre .0, (start .pre .1, (c .before .before .before .before .before .find-sizes .ensures, (c .before .before .before .loop .inv .1 .1 .1, c .before .before .loop-test .taken))))
+
+inside : (c : tie.After-node-word Inv-loop μ-loop) → mostExpressions + c .before .before .before .before .loop .k < mostParts
+inside c =
+    let start = c .before .before .before .before .before .before .before .before in
+    omega (arith, c .before .before .before .loop-test .taken, few-bounds (start .args .c) (start .pre .0 .few))
 
 add-plan : tie.Need-add-plan Inv-loop μ-loop
 add-plan c = fits-under _ _ 512 (omega (arith, inside c)) tt
@@ -55,9 +55,9 @@ loop-less c = search needs
 
 loop-again : tie.Need-loop-again Inv-loop μ-loop
 loop-again c =
-    let start = c .before .before .before .before .before .before .before in
+    let start = c .before .before .before .before .before .before .before .before in
     let s = start .args .s .now in
-    let loop = c .before .before .before .loop in
+    let loop = c .before .before .before .before .loop in
     let w = c .node-word .result in
     let few : expressionCount s ≤ mostExpressions =
     omega (arith, expressions-are (start .pre .0), few-bounds (start .args .c) (start .pre .0 .few)) in (

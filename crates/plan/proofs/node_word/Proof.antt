@@ -1,16 +1,19 @@
--- `node_word`: the entry, its children and the size of the first, packed.
+-- `node_word`: the entry, its children, the size of the first and the mark, packed.
 use mathlib.Core.Path.{_≡_, sym, ap, _∙_, subst}
 use Prim.Native.Nat.{_+_, _<_}
 use native.Mathlib.Omega.{arith}
 use Rattle.layout.specs.declared.entries.Part.{Part}
+use Rattle.layout.specs.Layout.{mostNodes, nodeCount}
 use Rattle.layout.specs.Entries.{partOf, node}
 use Rattle.fields.specs.Fields.{firstChild, secondChild}
 use Rattle.tree.specs.Tree.{processOf, size}
 use Rattle.layout.proofs.Layouts.{few-bounds, nodes-are}
 use Rattle.tree.proofs.NodeSizes.{size-within}
+use Rattle.plan.specs.Plan.{watches}
 use Rattle.plan.proofs.Reading.{node-read}
 use Rattle.plan.proofs.Fronts.{kind-known}
-use Rattle.plan.proofs.Plans.{forms-fit, planned}
+use Rattle.plan.proofs.Watching.{watches-told}
+use Rattle.plan.proofs.Plans.{forms-fit, mark-fits, planned}
 use borrow.Author.Needs.{needs}
 use Rattle.plan.proofs.node_word.Statement.{statement}
 use Rattle.plan.proofs.node_word.Tie as tie
@@ -47,28 +50,59 @@ kind : (c : tie.After-part-at) → c .part-at .result .kind < 11
 kind c =
     let start = c .before .before .before in
     subst (λ (p : Part). p .kind < 11) (sym (read c))
-    (kind-known (start .args .s .now) (start .pre .1 .0) (start .args .k) (omega (arith, start .pre .1 .1 .1, nodes-are (start .pre .0))))
+    (kind-known (start .args .s .now) (start .pre .1 .0) (start .args .k) (omega (arith, start .pre .1 .1 .1 .1, nodes-are (start .pre .0))))
+
+few : (c : tie.Start) → c .args .k < mostNodes
+few c = omega (arith, c .pre .1 .1 .1 .1, few-bounds (c .args .c) (c .pre .0 .few) .1 .1 .1)
+
+has-watching-requires : tie.Need-has-watching-requires
+has-watching-requires c κs = few (c .before .before .before .before .before .before .before .before)
+
+mark-requires : tie.Need-mark-requires
+mark-requires c κs = omega (arith, kind (c .before .before .before .before .before .before))
 
 forms-of-requires : tie.Need-forms-of-requires
-forms-of-requires c κs = kind (c .before .before .before .before .before)
+forms-of-requires c κs = kind (c .before .before .before .before .before .before .before)
 
 pack-requires : tie.Need-pack-requires
-pack-requires c κs = (rw (c .forms-of .ensures) (forms-fit _ (kind (c .before .before .before .before .before .before))), (omega (arith, c .before .pack-fields .ensures), omega (arith, kind (c .before .before .before .before .before .before))))
+pack-requires c κs = (
+  rw (c .forms-of .ensures) (forms-fit _ (kind (c .before .before .before .before .before .before .before .before))),
+  (
+    omega (arith, c .before .before .before .pack-fields .ensures),
+    rw (c .before .mark .ensures) (mark-fits _ (omega (arith, kind (c .before .before .before .before .before .before .before .before))) (c .before .before .has-watching .result)),
+  ),
+)
+
+-- the mark, by the words of the nodes before
+marks :
+    (c : tie.After-has-watching) →
+    let start = c .before .before .before .before .before .before .before .before .before in c .has-watching .result ≡ watches (processOf (start .args .s .now) (start .args .k))
+marks c =
+    let start = c .before .before .before .before .before .before .before .before .before in
+    let parts = c .before .before .before .before .before .children-of .ensures in
+    rw (c .has-watching .ensures, parts .0, parts .1, read (c .before .before .before .before .before .before))
+    (watches-told (start .args .s .now) (start .pre .1 .0) (start .args .k)
+    (omega (arith, start .pre .1 .1 .1 .1, nodes-are (start .pre .0)))
+    (start .args .plan .now) (start .pre .1 .1 .1 .0))
 
 returns : tie.Need-returns
 returns c =
-    let start = c .before .before .before .before .before .before .before .before .before .before in
+    let start = c .before .before .before .before .before .before .before .before .before .before .before .before in
     let s = start .args .s .now in
-    let parts = c .before .before .before .before .before .before .children-of in
-    let few = few-bounds (start .args .c) (start .pre .0 .few) .1 .1 .1 in
-    rw (c .pack .ensures, c .before .forms-of .ensures, c .before .before .pack-fields .ensures, read (c .before .before .before .before .before .before .before))
-    (planned s (start .args .k)
-    (kind-known s (start .pre .1 .0) (start .args .k) (omega (arith, start .pre .1 .1 .1, nodes-are (start .pre .0))))
-    (omega (arith, start .pre .1 .1 .1, few)) _ _ _
-    (omega (arith, parts .ensures .0, ap firstChild (read (c .before .before .before .before .before .before .before)))) (parts .ensures .1 ∙ ap secondChild (read (c .before .before .before .before .before .before .before)))
+    let k = start .args .k in
+    let ok = start .pre .1 .0 in
+    let known : k < nodeCount s = omega (arith, start .pre .1 .1 .1 .1, nodes-are (start .pre .0)) in
+    let parts = c .before .before .before .before .before .before .before .before .children-of .ensures in
+    let read-first = ap firstChild (read (c .before .before .before .before .before .before .before .before .before)) in
+    rw (c .pack .ensures, c .before .forms-of .ensures, c .before .before .mark .ensures, c .before .before .before .before .pack-fields .ensures, read (c .before .before .before .before .before .before .before .before .before))
+    (planned s k (kind-known s ok k known) (omega (arith, few start)) _ _ _ _
+    (omega (arith, parts .0, read-first)) (parts .1 ∙ ap secondChild (read (c .before .before .before .before .before .before .before .before .before)))
     (λ h.
-    let e = c .before .before .before .wide .ensures ∙ start .pre .1 .1 .0 _ (omega (arith, h, start .pre .1 .1 .1, few, parts .ensures .0, ap firstChild (read (c .before .before .before .before .before .before .before)))) ∙ ap (λ j. size (processOf s j)) (omega (arith, h, start .pre .1 .1 .1, few, parts .ensures .0, ap firstChild (read (c .before .before .before .before .before .before .before)))) in
-    (e, omega (arith, e, h, start .pre .1 .1 .1, few, size-within s (start .pre .1 .0) (firstChild (partOf s (node s (start .args .k)))) (omega (arith, h, start .pre .1 .1 .1, nodes-are (start .pre .0)))))))
+    let e =
+    c .before .before .before .before .before .wide .ensures ∙ start .pre .1 .1 .0 _ (omega (arith, h, start .pre .1 .1 .1 .1, few start, parts .0, read-first))
+    ∙ ap (λ j. size (processOf s j)) (omega (arith, h, few start, parts .0, read-first)) in
+    (e, omega (arith, e, h, few start, size-within s ok (firstChild (partOf s (node s k))) (omega (arith, h, known)))))
+    (marks (c .before .before .before)))
 
 pub node-word-spec : {M : Type 1} → statement M
 node-word-spec =
@@ -81,6 +115,8 @@ node-word-spec =
     element-copy-out-wide
     wide-requires
     pack-fields-requires
+    has-watching-requires
+    mark-requires
     forms-of-requires
     pack-requires
     returns)
