@@ -2,3 +2,4 @@
 pub mod Residuals
 pub mod Scopes
 pub mod Sights
+pub mod Staying

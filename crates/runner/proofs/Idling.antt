@@ -2,20 +2,22 @@
 -- Assumes nothing.
 use mathlib.Core.Path.{_≡_, refl, sym, ap, _∙_}
 use mathlib.Core.Bool.{Bool, true, false, cond, true≢false}
-use mathlib.Core.List.{List, [], _∷_}
+use mathlib.Core.List.{List}
 use Prim.Native.Nat.{ℕ, zero, suc, _+_, _≤_}
 use native.Mathlib.Decide.{decLt}
 use native.Mathlib.Numerals.{add-one}
 use native.Mathlib.Omega.{arith}
 use lib.IntN.{ℤ, pos, negsuc}
-use lib.ListN.{getD, length, List·getD-eq-default}
+use lib.ListN.{length, List·getD-eq-default}
 use Rattle.prelude.proofs.Bools.{and-second, by-cases}
 use Rattle.prelude.proofs.Searches.{none-of-any}
 use Rattle.arithmetic.specs.Values.{holds}
 use Rattle.language.specs.Syntax.{Names, Proc, nil, assign, letIn, ifThenElse, while, sequence, emit, local, watching, when, parallel}
 use Rattle.language.specs.Scope.{withName, Scoped}
 use Rattle.language.specs.Steps.{held, present, suspended, change, instantStart}
-use Rattle.residual.specs.Residual.{own, firstOf, secondOf, residual}
+use Rattle.residual.specs.Residual.{residual}
+use Rattle.residual.proofs.Staying.{Still}
+use Rattle.residual.proofs.Staying as staying
 use Rattle.moves.specs.Moves.{Running}
 use Rattle.runner.specs.Outcome.{outcome}
 use Rattle.instants.specs.Contracts.{isPresentSignal, someSignalPresent}
@@ -36,57 +38,24 @@ module _ (names : Names ℕ) (values : List ℤ) (none : someSignalPresent names
         | no o ↦ ap holds (List·getD-eq-default values (pos 0) (omega arith))
       ]
 
-  -- every one of these processes stays as it is
-  abbrev AllStay : List (Proc ℕ) → Type 0
-  AllStay [] = Unit {0}
-  AllStay (p ∷ ps) = (change p values ≡ p) × AllStay ps
+  -- what is left of a process stays as it is: each signal that a watching waits for is absent
+  scoped-still : (scope : ℕ → Bool) (p : Proc ℕ) → Scoped names scope p → Still values p
+  scoped-still scope nil w = tt
+  scoped-still scope (assign x e) w = tt
+  scoped-still scope (letIn x δ e p) w = scoped-still (withName scope x) p (w .2)
+  scoped-still scope (ifThenElse e p q) w = (scoped-still scope p (w .1), scoped-still scope q (w .2))
+  scoped-still scope (while e p) w = scoped-still scope p (w .1)
+  scoped-still scope (sequence p q) w = (scoped-still scope p (w .0), scoped-still scope q (w .1))
+  scoped-still scope (emit a) w = tt
+  scoped-still scope (local x δ p) w = scoped-still (withName scope x) p (w .1)
+  scoped-still scope (watching x p) w = (absent x (w .0 .1), scoped-still scope p (w .1))
+  scoped-still scope (when x p) w = scoped-still scope p (w .1)
+  scoped-still scope (parallel p q) w = (scoped-still scope p (w .0), scoped-still scope q (w .1))
 
-  form-stays : (ps : List (Proc ℕ)) (n : ℕ) → AllStay ps → change (getD ps n nil) values ≡ getD ps n nil
-  unfolding change
-  form-stays [] n t = refl
-  form-stays (p ∷ ps) zero t = t .0
-  form-stays (p ∷ ps) (suc n) t = form-stays ps n (t .1)
-
-  -- what is left of a process stays as it is
   pub residual-stays :
       (scope : ℕ → Bool) (p : Proc ℕ) → Scoped names scope p → (st : List ℕ) →
       change (residual p st) values ≡ residual p st
-  unfolding residual change
-  residual-stays scope nil w st = refl
-  residual-stays scope (assign x e) w st = form-stays (assign x e ∷ []) (own st) (refl, tt)
-  residual-stays scope (letIn x δ e p) w st =
-      let a : Proc ℕ = residual p (firstOf p st) in
-      form-stays (letIn x δ e a ∷ a ∷ []) (own st) (refl, (residual-stays (withName scope x) p (w .2) (firstOf p st), tt))
-  residual-stays scope (ifThenElse e p q) w st =
-      let a : Proc ℕ = residual p (firstOf p st) in
-      let b : Proc ℕ = residual q (secondOf p st) in
-      form-stays (ifThenElse e a b ∷ a ∷ b ∷ []) (own st)
-      (refl, (residual-stays scope p (w .1) (firstOf p st), (residual-stays scope q (w .2) (secondOf p st), tt)))
-  residual-stays scope (while e p) w st =
-      let a : Proc ℕ = residual p (firstOf p st) in
-      form-stays (while e p ∷ sequence a (while e p) ∷ []) (own st)
-      (refl, (ap (λ x. sequence x (while e p)) (residual-stays scope p (w .1) (firstOf p st)), tt))
-  residual-stays scope (sequence p q) w st =
-      let a : Proc ℕ = residual p (firstOf p st) in
-      let b : Proc ℕ = residual q (secondOf p st) in
-      form-stays (sequence a b ∷ b ∷ []) (own st)
-      (ap (λ x. sequence x b) (residual-stays scope p (w .0) (firstOf p st)), (residual-stays scope q (w .1) (secondOf p st), tt))
-  residual-stays scope (emit a) w st = form-stays (emit a ∷ []) (own st) (refl, tt)
-  residual-stays scope (local x δ p) w st =
-      let a : Proc ℕ = residual p (firstOf p st) in
-      form-stays (local x δ a ∷ a ∷ []) (own st) (refl, (residual-stays (withName scope x) p (w .1) (firstOf p st), tt))
-  residual-stays scope (watching x p) w st =
-      form-stays (watching x (residual p (firstOf p st)) ∷ []) (own st)
-      (rw (absent x (w .0 .1)) (ap (watching x) (residual-stays scope p (w .1) (firstOf p st))), tt)
-  residual-stays scope (when x p) w st =
-      form-stays (when x (residual p (firstOf p st)) ∷ []) (own st) (rw (absent x (w .0 .1)), tt)
-  residual-stays scope (parallel p q) w st =
-      let a : Proc ℕ = residual p (firstOf p st) in
-      let b : Proc ℕ = residual q (secondOf p st) in
-      let one = residual-stays scope p (w .0) (firstOf p st) in
-      let two = residual-stays scope q (w .1) (secondOf p st) in
-      form-stays (parallel a b ∷ parallel b a ∷ a ∷ b ∷ []) (own st)
-      (rw (one, two), (rw (one, two), (one, (two, tt))))
+  residual-stays scope p w = staying.residual-stays values p (scoped-still scope p w)
 
   -- and so do the values
   abbrev starts : ℕ → ℤ
