@@ -28,6 +28,10 @@ fn change_instant(
     requires { ⌜ Valued (now (now s)) (now values) × (KeepsPlan (now (now s)) (now plan) × At (now (now s)) k (now state)) ⌝ }
     ensures { λ _. ⌜ left (now (now (s .entry))) k (now (state .exit)) ≡ change (left (now (now (s .entry))) k (now (state .entry))) (now (values .entry)) ⌝ }
 {
+    // Only a watching ends with an instant: a node without one stays as it is.
+    if !plan::watches_at(s, plan, k) {
+        return;
+    }
     let tag = state[0];
     let form = form_at(s, plan, k, tag);
     if form <= forms::MOVER {
