@@ -4,14 +4,12 @@
 use mathlib.Core.Path.{_≡_, refl, sym, ap, ap₂, _∙_}
 use mathlib.Core.Bool.{Bool, true, false, _&&_, _||_}
 use mathlib.Core.List.{List}
-use Prim.Native.Nat.{ℕ, _+_, _<_}
+use Prim.Native.Nat.{ℕ, _<_}
 use native.Mathlib.Omega.{arith}
 use lib.Dec.{eqb, ltb}
-use lib.ListN.{getD}
 use borrow.Author.Tests.{eqb-true, ltb-true, lt-ltb}
-use Rattle.language.specs.Syntax.{Proc, nil, assign, letIn, ifThenElse, while, sequence, emit, local, watching, when, parallel}
 use Rattle.layout.specs.declared.entries.Part.{Part}
-use Rattle.layout.specs.Layout.{mostExpressions, nodeCount}
+use Rattle.layout.specs.Layout.{nodeCount}
 use Rattle.layout.specs.Entries.{partOf, node}
 use Rattle.fields.specs.declared.Field.{Field}
 use Rattle.fields.specs.Roles.{nodeRows, roleIn, unused}
@@ -21,7 +19,7 @@ use Rattle.faults.proofs.Holding.{right-field}
 use Rattle.reach.specs.Checked.{Checked}
 use Rattle.tree.specs.Tree.{processOf}
 use Rattle.tree.proofs.Views.{NodeView, aNil, anAssign, aLet, anIf, aWhile, aSequence, anEmit, aLocal, aWatching, aWhen, aParallel, node-view, role}
-use Rattle.plan.specs.Plan.{watches, watchesIn, watchesBefore, watchesBy, KeepsNodes}
+use Rattle.plan.specs.Plan.{watches, watchesBefore, watchesBy, KeepsNodes}
 
 and-none : (a : Bool) → (a && false) ≡ false
 and-none true = refl
