@@ -1,26 +1,29 @@
 -- What comes next at a node.
 -- Assumes nothing.
-use mathlib.Core.Path.{_≡_, ap, _∙_}
+use mathlib.Core.Path.{_≡_, sym, ap, _∙_}
 use mathlib.Core.Bool.{true, _&&_}
 use mathlib.Core.Logic.{inl, inr}
 use mathlib.Core.List.{List}
-use Prim.Native.Nat.{ℕ, _-_, _<_}
+use Prim.Native.Nat.{ℕ, _-_, _≤_, _<_}
 use native.Mathlib.Decide.{ℕ-discrete}
 use native.Mathlib.Omega.{arith}
 use lib.Dec.{eqb}
-use lib.ListN.{getD, drop}
+use lib.IntN.{ℤ}
+use lib.ListN.{getD, length, drop}
 use lib.Seq.{getD-take, getD-drop}
-use borrow.Author.Tests.{eqb-true, ne-eqb}
+use borrow.Author.Tests.{eqb-true}
 use Rattle.prelude.proofs.Bools.{and-left, and-right}
 use Rattle.language.specs.Syntax.{isNil}
 use Rattle.layout.specs.Entries.{partOf, node}
 use Rattle.plan.specs.declared.forms.Front.{Front}
-use Rattle.plan.specs.Forms.{gone, mover, formOf, frontOf, partIn}
+use Rattle.plan.specs.Forms.{gone, mover, frontOf, partIn}
 use Rattle.plan.proofs.Fronts.{front-form}
 use Rattle.residual.specs.Residual.{own}
 use Rattle.residual.specs.Nodes.{left}
 use Rattle.residual.proofs.Sights.{Sight, sees-gone, sees-mover, sees-alone, sees-before, sees-watched, sees-guarded, sees-beside}
+use Rattle.instants.proofs.Deciding.{Found, sees}
 use Rattle.moves.specs.Contracts.{isWriter, IsWriter}
+use Rattle.advance.specs.Contracts.{ownNext, Follows, nothing, itself}
 use Rattle.moves.proofs.Movers.{writer-is}
 
 pub nil-seen : {s : List ℕ} {k : ℕ} {st : List ℕ} {f : Front} → Sight s k st f → f .form ≡ gone → isNil (left s k st) ≡ true
@@ -34,6 +37,20 @@ nil-seen (sees-watched e x i r) q = absurd (omega (arith, e, q))
 nil-seen (sees-guarded e x a i r) q = absurd (omega (arith, e, q))
 nil-seen (sees-beside (inl e) o g p i j r) q = absurd (omega (arith, e, q))
 nil-seen (sees-beside (inr e) o g p i j r) q = absurd (omega (arith, e, q))
+
+-- a node with no part in front
+pub own-follows :
+    {s : List ℕ} {k : ℕ} {st : List ℕ} {vs : List ℤ} {form why : ℕ} →
+    Found s vs k st (frontOf s k (own st) (length st)) → form ≡ frontOf s k (own st) (length st) .form → form ≤ mover →
+    why ≡ ownNext form → Follows s k st vs why (record { form = form; child = k; from = 0; to = length st })
+own-follows {k = k} {st = st} {form = form} found e l w =
+    elim (ℕ-discrete form mover) [
+      | yes q ↦
+          itself (w ∙ ap ownNext q) (ap (λ n. record { form = n; child = k; from = 0; to = length st }) q) (sym e ∙ q)
+      | no n ↦
+          let z : form ≡ gone = omega (arith, l, n) in
+          nothing (w ∙ ap ownNext z) (nil-seen (sees found) (sym e ∙ z))
+    ]
 
 -- the first byte of a part is that part's own
 pub own-part : (f : Front) (st : List ℕ) → f .from < f .to → own (partIn f st) ≡ getD st (f .from) 0

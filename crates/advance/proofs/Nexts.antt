@@ -1,8 +1,7 @@
 -- What follows at a node, and what comes of it: the node itself has moved, or its part in front has been advanced.
 -- Assumes nothing.
-use mathlib.Core.Path.{_≡_, refl, sym, ap, _∙_, subst}
+use mathlib.Core.Path.{_≡_, sym, ap, _∙_, subst}
 use mathlib.Core.Bool.{Bool, true, cond}
-use mathlib.Core.Logic.{_⊎_}
 use mathlib.Core.List.{List, append-nil}
 use Prim.Native.Nat.{ℕ, _+_, _-_, _*_, _/_, _≤_, _<_}
 use native.Mathlib.Nat.{le-refl, sub-zero}
@@ -19,10 +18,9 @@ use Rattle.plan.specs.declared.forms.Front.{Front}
 use Rattle.plan.specs.Forms.{mover, frontOf, partIn}
 use Rattle.residual.specs.Residual.{own}
 use Rattle.residual.specs.Nodes.{Valued, At, left}
-use Rattle.residual.proofs.Sights.{part-length}
 use Rattle.instants.proofs.Deciding.{Found, Part, sees, front-part}
 use Rattle.moves.specs.declared.Done.{Done}
-use Rattle.moves.specs.Moves.{Running, isGone, isSuspended, isSpent, gone, waits}
+use Rattle.moves.specs.Moves.{Running, isSpent, gone, waits}
 use Rattle.moves.specs.Contracts.{Counted, IsWriter, runningAt, Advances}
 use Rattle.moves.proofs.Advancing.{ended}
 use Rattle.advance.specs.Contracts.{inside, into, moving, itselfOf, Alone, Follows, nothing, awaits, itself, stands, part, doneAt, Rests, Settles}

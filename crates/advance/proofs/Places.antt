@@ -1,6 +1,6 @@
 -- A part that stands alone takes the place of its node: what is left of the node is what is left of that part.
 -- Assumes nothing.
-use mathlib.Core.Path.{_≡_, refl, sym, ap, ap₂, _∙_, subst}
+use mathlib.Core.Path.{_≡_, sym, ap, ap₂, _∙_, subst}
 use mathlib.Core.Bool.{Bool}
 use mathlib.Core.Logic.{inl, inr}
 use mathlib.Core.List.{List, _++_, append-nil, append-assoc}
@@ -12,10 +12,9 @@ use lib.IntN.{ℤ}
 use lib.ListN.{length, take, drop, length-drop, take-append-drop}
 use lib.Seq.{length-take-le, take-length, drop-length, take-append-le, drop-append-le, take-add, drop-drop}
 use Rattle.plan.specs.declared.forms.Front.{Front}
-use Rattle.plan.specs.Forms.{mover, before, partIn}
 use Rattle.residual.specs.Frames.{alone}
 use Rattle.residual.specs.Nodes.{Valued, At, left}
-use Rattle.residual.proofs.Sights.{Inside, Sight, sees-gone, sees-mover, sees-alone, sees-before, sees-watched, sees-guarded, sees-beside, length-put, part-length, part-put}
+use Rattle.residual.proofs.Sights.{Inside, Sight, sees-gone, sees-mover, sees-alone, sees-before, sees-watched, sees-guarded, sees-beside, length-put, part-put}
 use Rattle.instants.proofs.Deciding.{Found, sees, front-part}
 use Rattle.moves.specs.declared.Counts.{Counts}
 use Rattle.moves.specs.Moves.{Running}

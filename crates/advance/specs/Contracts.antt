@@ -28,6 +28,10 @@ into = 6
 abbrev pub moving : ℕ
 moving = 7
 
+-- at a node with no part in front
+abbrev pub ownNext : ℕ → ℕ
+ownNext form = cond (eqb form mover) moving isGone
+
 -- the node itself as the part in front
 abbrev pub itselfOf : ℕ → ℕ → Front
 itselfOf k len = record { form = mover; child = k; from = 0; to = len }

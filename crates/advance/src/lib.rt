@@ -20,7 +20,7 @@ ghost use Rattle.layout.specs.Entries.{partOf, node};
 ghost use Rattle.reach.specs.Checked.{Checked};
 ghost use Rattle.moves.specs.Contracts.{mostSteps, Counted, seenIn, isWriter, IsWriter, runningAt, Advances};
 ghost use Rattle.residual.specs.Nodes.{Valued, At, left};
-ghost use Rattle.advance.specs.Contracts.{inside, Alone, Follows, doneAt, Byte, byteAfter, Rests, Settles};
+ghost use Rattle.advance.specs.Contracts.{inside, ownNext, Alone, Follows, doneAt, Byte, byteAfter, Rests, Settles};
 
 // What comes next at a node, beside that it is nil or suspended: the part that stands alone in its place; its part in front,
 // which is to be advanced; or one move, its own or that of its part in front, which needs no further call.
@@ -52,6 +52,16 @@ fn writes_next(s: &&[u8], plan: &[usize; Script::MAX_PARTS], k: usize, tag: u8) 
     moves::is_writer(plan::kind_at(s, plan, k))
 }
 
+// What comes next at a node with no part in front: it is nil, or its own move is next.
+fn own_next(form: u8) -> usize
+    ensures { λ r. ⌜ r ≡ ownNext form ⌝ }
+{
+    if form == forms::MOVER {
+        return MOVING;
+    }
+    moves::GONE
+}
+
 // What comes next at node k. Where its own move does, the node itself counts as the part in front.
 fn find_next(
     s: &&[u8],
@@ -63,47 +73,34 @@ fn find_next(
     requires { ⌜ Valued (now (now s)) (now values) × (KeepsPlan (now (now s)) (now plan) × At (now (now s)) k (now state)) ⌝ }
     ensures { λ r. ⌜ Follows (now (now (s .entry))) k (now (state .entry)) (now (values .entry)) (r .why) (r .front) ⌝ }
 {
-    let f = forms::find_front(s, plan, k, state[0], state.len());
-    if f.form == forms::GONE {
-        return Next {
-            why: moves::GONE,
-            front: f,
+    let tag = state[0];
+    let form = forms::form_at(s, plan, k, tag);
+    if form <= forms::MOVER {
+        let why = own_next(form);
+        let front = Front {
+            form,
+            child: k,
+            from: 0,
+            to: state.len(),
         };
+        return Next { why, front };
     }
-    if f.form == forms::MOVER {
-        return Next {
-            why: MOVING,
-            front: Front {
-                form: forms::MOVER,
-                child: k,
-                from: 0,
-                to: state.len(),
-            },
-        };
+    let front = forms::find_front(s, plan, k, tag, state.len());
+    if form == forms::GUARDED && !evaluation::signal_is_present(s, plan, values, k) {
+        let why = moves::SUSPENDED;
+        return Next { why, front };
     }
-    if f.form == forms::GUARDED && !evaluation::signal_is_present(s, plan, values, k) {
-        return Next {
-            why: moves::SUSPENDED,
-            front: f,
-        };
+    let from = front.from;
+    if writes_next(s, plan, front.child, state[from]) {
+        let why = MOVING;
+        return Next { why, front };
     }
-    let from = f.from;
-    if writes_next(s, plan, f.child, state[from]) {
-        return Next {
-            why: MOVING,
-            front: f,
-        };
+    if form < forms::BEFORE {
+        let why = INSIDE;
+        return Next { why, front };
     }
-    if f.form < forms::BEFORE {
-        return Next {
-            why: INSIDE,
-            front: f,
-        };
-    }
-    Next {
-        why: INTO,
-        front: f,
-    }
+    let why = INTO;
+    Next { why, front }
 }
 
 // The node's own byte after a move around a part that rests. A watching or a when is nil with its part. A part that
@@ -112,10 +109,13 @@ fn byte_after(form: u8, why: usize, tag: u8) -> u8
     requires { ⌜ Byte form tag ⌝ }
     ensures { λ r. ⌜ r ≡ byteAfter form why tag ⌝ }
 {
+    if form == forms::BEFORE {
+        return 1 - tag;
+    }
     if form == forms::WATCHED || form == forms::GUARDED {
         return forms::NIL;
     }
-    if why == moves::SUSPENDED || form == forms::BEFORE {
+    if why == moves::SUSPENDED {
         return 1 - tag;
     }
     3 - tag

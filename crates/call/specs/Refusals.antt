@@ -8,7 +8,7 @@ use lib.IntN.{ℤ, pos}
 use lib.ListN.{length}
 use Rattle.prelude.specs.declared.Refusal.{Refusal}
 use Rattle.prelude.specs.Search.{first}
-use Rattle.prelude.specs.Refusals.{refusedBy, notRefused, passes, orElse}
+use Rattle.prelude.specs.Refusals.{refusedBy, notRefused, orElse}
 use Rattle.book.specs.LevelBook.{count}
 use Rattle.arithmetic.specs.Values.{sameValue}
 use Rattle.language.specs.Steps.{held}

@@ -5,7 +5,7 @@ use mathlib.Core.List.{List}
 use Prim.Native.Nat.{ℕ}
 use lib.Dec.{ltb}
 use Rattle.prelude.specs.declared.Refusal.{Refusal}
-use Rattle.prelude.specs.Refusals.{refusedBy, notRefused, passes}
+use Rattle.prelude.specs.Refusals.{refusedBy, notRefused}
 use Rattle.book.specs.LevelBook.{count}
 use Rattle.lattice.specs.Refusals as books
 use Rattle.lattice.specs.Lattice.{Lattice, bookLattice}

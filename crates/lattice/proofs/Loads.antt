@@ -5,13 +5,11 @@ use mathlib.Core.Bool.{true, false, false≢true}
 use mathlib.Core.List.{List}
 use Prim.Native.Nat.{ℕ, _*_, _≤_, _<_}
 use native.Mathlib.Nat.{le-antisymm}
-use lib.Dec.{eqb}
 use borrow.Author.Tests.{eq-eqb, ne-eqb, lt-ltb, le-ltb}
 use Rattle.prelude.specs.declared.Refusal.{Refusal}
 use Rattle.prelude.specs.Refusals.{refusedBy, notRefused, passes}
 use Rattle.prelude.proofs.Searches.{first-within}
 use Rattle.book.specs.declared.Loaded.{Loaded}
-use Rattle.book.specs.declared.Book.{Book}
 use Rattle.book.specs.LevelBook.{mostLevels, count, rows, atOrBelow}
 use Rattle.order.specs.Rows.{InOrder}
 use Rattle.order.specs.Refusals as orders

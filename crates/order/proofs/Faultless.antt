@@ -1,11 +1,10 @@
 -- Refusal 2: the faults of a level on whole sets of levels, and the order of levels that have none.
 -- Assumes nothing.
 use mathlib.Core.Path.{_≡_, refl, sym, ap, _∙_}
-use mathlib.Core.Bool.{Bool, true, false, not, _&&_, _||_, true≢false, false≢true}
+use mathlib.Core.Bool.{Bool, true, false, not, _&&_, true≢false, false≢true}
 use mathlib.Core.List.{List}
 use Prim.Native.Nat.{ℕ, _-_, _/_, _^_, _≤_, _<_}
 use native.Mathlib.Decide.{ℕ-discrete}
-use native.Mathlib.Omega.{arith}
 use lib.Dec.{eqb, ltb}
 use lib.ListN.{getD}
 use borrow.Author.Tests.{eqb-true, eq-eqb, ne-eqb, not-true, not-false}
@@ -14,7 +13,7 @@ use Rattle.prelude.specs.Sets.{has, outside}
 use Rattle.prelude.proofs.Bools.{fails, and-intro, and-left, and-right, and-second, or-left, or-right, or-first, or-true, or-cases, same-truth}
 use Rattle.prelude.proofs.Searches.{NoneBelow, any-same, any-none, any-some, some-of-any, none-of-any}
 use Rattle.prelude.proofs.Sets.{none-beyond, out}
-use Rattle.order.specs.Order.{Relation, bothWays, gap, showsFault, PartialOrder}
+use Rattle.order.specs.Order.{bothWays, gap, showsFault, PartialOrder}
 use Rattle.book.specs.LevelBook.{mostLevels, atOrBelow}
 use Rattle.order.specs.Rows.{InOrder}
 use Rattle.order.specs.Refusals.{isFaulty}

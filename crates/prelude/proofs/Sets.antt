@@ -3,7 +3,7 @@
 use mathlib.Core.Path.{_≡_, refl, sym, ap, _∙_, subst}
 use mathlib.Core.Bool.{Bool, true, false, cond, not, _&&_, true≢false, false≢true}
 use Prim.Native.Nat.{ℕ, zero, suc, _+_, _*_, _-_, _/_, _%_, _^_, _≤_, _<_, min}
-use native.Mathlib.Nat.{zero-div, div-one, suc-mul, zero-lt-suc, pow-suc, min-zero, zero-min, min-le-left, le-of-suc-le-suc, mod-lt, mod-eq-of-lt, mod-one, mul-add-mod-self-right}
+use native.Mathlib.Nat.{zero-div, div-one, suc-mul, zero-lt-suc, pow-suc, zero-min, min-le-left, le-of-suc-le-suc, mod-lt, mod-eq-of-lt, mod-one, mul-add-mod-self-right}
 use native.Mathlib.Decide.{decLt, ℕ-discrete}
 use native.Mathlib.Omega.{arith}
 use lib.Dec.{eqb, ltb}
@@ -13,7 +13,7 @@ use lib.Bits.{bitAnd, and-shr, and-step}
 use borrow.Author.Tests.{ltb-false, eqb-true, eq-eqb, ne-eqb, not-true, not-false}
 use Rattle.prelude.specs.Search.{first}
 use Rattle.prelude.specs.Sets.{has, IsSet, outside, setOf}
-use Rattle.prelude.proofs.Bools.{fails, and-left, and-right}
+use Rattle.prelude.proofs.Bools.{fails}
 use Rattle.prelude.proofs.Searches.{first-is, first-none, first-holds, first-passed, first-within, first-at-end, any-none, none-of-any}
 
 two-pos : 0 < 2

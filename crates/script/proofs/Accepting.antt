@@ -3,16 +3,16 @@
 use mathlib.Core.Path.{_≡_, refl, ap, _∙_}
 use mathlib.Core.Bool.{true}
 use mathlib.Core.List.{List}
-use Prim.Native.Nat.{ℕ, _<_}
+use Prim.Native.Nat.{ℕ}
 use lib.Dec.{leb, ltb}
 use borrow.Author.Tests.{lt-ltb, ltb-true, le-leb, leb-true}
 use Rattle.prelude.specs.Refusals.{refusedBy, notRefused, passes, orElse}
 use Rattle.prelude.proofs.Bools.{and-intro, and-left, and-right}
 use Rattle.prelude.proofs.Refusing.{passes-test, past-test, passes-both, or-else-next}
-use Rattle.layout.specs.Layout.{tailIsRight, countsAreRight, layoutOf, nameCount}
+use Rattle.layout.specs.Layout.{tailIsRight, countsAreRight, layoutOf}
 use Rattle.layout.specs.Entries.{nameOf}
 use Rattle.layout.proofs.Layouts.{few-bounds, laid}
-use Rattle.faults.specs.Faults.{nameIsRight, faultRefusal}
+use Rattle.faults.specs.Faults.{faultRefusal}
 use Rattle.faults.proofs.Sounding.{Faultless, faultless, sound, no-fault}
 use Rattle.uses.specs.Uses.{useRefusal}
 use Rattle.uses.proofs.Counting.{each-once, none-loose}

@@ -26,7 +26,6 @@ use Rattle.call.specs.Refusals.{callRefusal, runRefusal}
 use Rattle.call.proofs.Passing.{run-accepted, run-bounds}
 use Rattle.engine.specs.Answers.{Left}
 use Rattle.engine.proofs.Leaving.{refused-left, by-check, by-call, few-lines, report-is, values-are, log-is}
-use borrow.Author.Needs.{needs}
 use Rattle.engine.proofs.run.Statement.{statement}
 use Rattle.engine.proofs.run.Tie as tie
 

@@ -6,7 +6,6 @@ use native.Mathlib.Nat.{sub-zero}
 use lib.ListN.{take, replicate}
 use Rattle.layout.proofs.Layouts.{few-bounds, nodes-are}
 use Rattle.residual.proofs.Residuals.{take-zeros}
-use borrow.Author.Needs.{needs}
 use Rattle.engine.proofs.run_seen.Statement.{statement}
 use Rattle.engine.proofs.run_seen.Tie as tie
 

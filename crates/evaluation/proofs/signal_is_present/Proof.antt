@@ -6,7 +6,6 @@ use lib.ListN.{length}
 use Rattle.language.specs.Steps.{present}
 use Rattle.layout.specs.Layout.{layoutOf}
 use Rattle.layout.proofs.Layouts.{few-bounds, names-are}
-use borrow.Author.Needs.{needs}
 use Rattle.evaluation.proofs.signal_is_present.Statement.{statement}
 use Rattle.evaluation.proofs.signal_is_present.Tie as tie
 

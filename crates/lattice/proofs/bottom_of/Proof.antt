@@ -1,12 +1,11 @@
 -- `bottom_of`: no level below t is the least.
 use mathlib.Core.Path.{_≡_, sym, ap, _∙_}
-use mathlib.Core.Bool.{Bool, true, false, not, _&&_}
+use mathlib.Core.Bool.{not}
 use Prim.Native.Nat.{ℕ, _-_, _^_, _≤_}
 use native.Mathlib.Nat.{le-antisymm}
 use native.Mathlib.Omega.{arith}
 use borrow.Author.Count.{below-none, below-more}
 use borrow.Author.Needs.{needs}
-use borrow.Author.Tests.{not-true, not-false}
 use Rattle.prelude.specs.Search.{all}
 use Rattle.prelude.specs.Sets.{has, outside}
 use Rattle.prelude.proofs.Bools.{and-second}

@@ -1,5 +1,5 @@
 -- `common`: what the rows below i share.
-use mathlib.Core.Path.{_≡_, sym, ap, _∙_, subst}
+use mathlib.Core.Path.{sym, ap, _∙_, subst}
 use mathlib.Core.Bool.{_&&_}
 use mathlib.Core.List.{List}
 use Prim.Native.Nat.{ℕ, _+_, _-_, _≤_}
@@ -9,7 +9,7 @@ use lib.Bits.{bitAnd}
 use borrow.Author.Count.{below-none}
 use borrow.Author.Needs.{needs}
 use Rattle.prelude.specs.Search.{all}
-use Rattle.prelude.specs.Sets.{has, IsSet}
+use Rattle.prelude.specs.Sets.{IsSet}
 use Rattle.prelude.proofs.Searches.{all-intro, all-more}
 use Rattle.prelude.proofs.Sets.{has-both, has-full}
 use Rattle.book.specs.LevelBook.{mostLevels, atOrBelow}

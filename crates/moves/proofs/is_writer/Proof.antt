@@ -1,5 +1,5 @@
 -- `is_writer`: by the kind.
-use mathlib.Core.Path.{refl, sym}
+use mathlib.Core.Path.{sym}
 use borrow.Author.Tests.{eq-eqb, ne-eqb}
 use Rattle.moves.proofs.is_writer.Statement.{statement}
 use Rattle.moves.proofs.is_writer.Tie as tie

@@ -1,5 +1,5 @@
 -- `sweep`: the own entries and the pairs up to the one at hand are done (`Sweeps`), and no level below k is the least common upper one.
-use mathlib.Core.Path.{_≡_, sym, _∙_, subst}
+use mathlib.Core.Path.{_≡_, sym, subst}
 use mathlib.Core.Logic.{⊎-elim}
 use Prim.Native.Nat.{ℕ, _+_, _*_, _-_, _≤_, _<_}
 use native.Mathlib.Omega.{arith}

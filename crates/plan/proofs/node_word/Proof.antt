@@ -1,6 +1,6 @@
 -- `node_word`: the entry, its children, the size of the first and the mark, packed.
 use mathlib.Core.Path.{_≡_, sym, ap, _∙_, subst}
-use Prim.Native.Nat.{_+_, _<_}
+use Prim.Native.Nat.{_<_}
 use native.Mathlib.Omega.{arith}
 use Rattle.layout.specs.declared.entries.Part.{Part}
 use Rattle.layout.specs.Layout.{mostNodes, nodeCount}

@@ -1,7 +1,5 @@
 -- `stop`: the ending by the reason, and the values given back.
-use mathlib.Core.Path.{ap}
 use borrow.Author.Needs.{needs}
-use Rattle.runner.specs.declared.Ran.{Ran}
 use Rattle.runner.proofs.stop.Statement.{statement}
 use Rattle.runner.proofs.stop.Tie as tie
 

@@ -1,5 +1,5 @@
 -- `any_outside`: two sets agree below n just if their remainders by a power of two do.
-use mathlib.Core.Path.{_≡_, sym, ap, _∙_}
+use mathlib.Core.Path.{_≡_, _∙_}
 use Prim.Native.Nat.{ℕ, _*_, _%_, _^_, _≤_}
 use native.Mathlib.Nat.{one-mul, le-refl}
 use native.Mathlib.Omega.{arith}

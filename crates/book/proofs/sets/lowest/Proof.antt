@@ -1,5 +1,4 @@
 -- `lowest`: the zeros below the lowest digit.
-use mathlib.Core.Path.{sym}
 use native.Mathlib.Omega.{arith}
 use lib.Count.{trailing-le}
 use Rattle.prelude.proofs.Sets.{trailing-is}

@@ -5,12 +5,11 @@ use mathlib.Core.List.{List}
 use Prim.Native.Nat.{ℕ, _-_, _^_, _<_, _≤_}
 use native.Mathlib.Decide.{ℕ-discrete}
 use native.Mathlib.Omega.{arith}
-use lib.Dec.{eqb}
 use lib.ListN.{getD}
 use lib.Pow.{pow-pos}
 use borrow.Author.Needs.{needs}
 use borrow.Author.Tests.{eq-eqb, ne-eqb}
-use Rattle.prelude.specs.Search.{first, any}
+use Rattle.prelude.specs.Search.{first}
 use Rattle.prelude.specs.Sets.{has, outside}
 use Rattle.prelude.proofs.Bools.{and-intro}
 use Rattle.prelude.proofs.Searches.{first-holds, any-some, any-none}

@@ -1,6 +1,6 @@
 -- `is_faulty`: each way out decides one test of the definition; the last goes by sets (`Faultless`).
-use mathlib.Core.Path.{_≡_, sym, ap, _∙_}
-use mathlib.Core.Bool.{true, _&&_}
+use mathlib.Core.Path.{sym, ap, _∙_}
+use mathlib.Core.Bool.{_&&_}
 use native.Mathlib.Omega.{arith}
 use lib.ListN.{getD}
 use borrow.Author.Needs.{needs}
@@ -8,7 +8,6 @@ use borrow.Author.Tests.{not-true, not-false}
 use Rattle.prelude.specs.Search.{any}
 use Rattle.prelude.specs.Sets.{has, outside}
 use Rattle.prelude.proofs.Sets.{none-beyond}
-use Rattle.book.specs.LevelBook.{atOrBelow}
 use Rattle.order.specs.Refusals.{isFaulty}
 use Rattle.order.proofs.Faultless.{faults-by-sets}
 use Rattle.order.proofs.disorder.is_faulty.Statement.{statement}

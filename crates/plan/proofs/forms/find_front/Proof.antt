@@ -5,17 +5,15 @@ use Prim.Native.Nat.{ℕ, _+_, _<_}
 use native.Mathlib.Decide.{decLt}
 use native.Mathlib.Omega.{arith}
 use lib.Dec.{eqb}
-use lib.ListN.{getD}
 use borrow.Author.Tests.{eq-eqb, ne-eqb}
 use Rattle.prelude.proofs.Bools.{or-first, or-true}
-use Rattle.layout.specs.Layout.{mostExpressions, layoutOf}
+use Rattle.layout.specs.Layout.{layoutOf}
 use Rattle.layout.specs.Entries.{partOf, node}
 use Rattle.fields.specs.Fields.{firstChild}
 use Rattle.tree.specs.Tree.{processOf, size}
 use Rattle.layout.proofs.Layouts.{few-bounds, nodes-are}
 use Rattle.tree.proofs.NodeSizes.{size-within}
-use Rattle.plan.specs.Forms.{mover, second, turned, formOf}
-use Rattle.plan.specs.Plan.{formIn, Planned}
+use Rattle.plan.specs.Forms.{mover, second, turned}
 use Rattle.plan.proofs.Fronts.{form-past, kind-known, child-known, second-known, front-none, front-second, front-first}
 use borrow.Author.Needs.{needs, fits-under}
 use Rattle.plan.proofs.forms.find_front.Statement.{statement}

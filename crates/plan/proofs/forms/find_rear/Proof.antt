@@ -2,15 +2,13 @@
 use mathlib.Core.Path.{_≡_, refl, sym, ap, _∙_}
 use Prim.Native.Nat.{_+_, _-_, _≤_, _<_}
 use native.Mathlib.Omega.{arith}
-use lib.ListN.{getD}
-use Rattle.layout.specs.Layout.{mostExpressions, layoutOf}
+use Rattle.layout.specs.Layout.{layoutOf}
 use Rattle.layout.specs.Entries.{partOf, node}
 use Rattle.fields.specs.Fields.{firstChild}
 use Rattle.tree.specs.Tree.{processOf, size}
 use Rattle.layout.proofs.Layouts.{few-bounds, nodes-are}
 use Rattle.tree.proofs.NodeSizes.{size-within}
 use Rattle.plan.specs.Forms.{beside, turned, formOf, fromSecond}
-use Rattle.plan.specs.Plan.{Planned}
 use Rattle.plan.proofs.Fronts.{kind-known, child-known, second-known, front-form, rear-form, front-second, front-first}
 use borrow.Author.Needs.{needs, fits-under}
 use Rattle.plan.proofs.forms.find_rear.Statement.{statement}

@@ -1,5 +1,5 @@
 -- `form_at`: what the word of the node tells; past all forms a node is nil.
-use mathlib.Core.Path.{_≡_, ap, _∙_}
+use mathlib.Core.Path.{ap, _∙_}
 use borrow.Author.Needs.{needs}
 use Rattle.plan.specs.Plan.{formIn}
 use Rattle.plan.proofs.Fronts.{form-past, kind-known}
