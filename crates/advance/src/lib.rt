@@ -173,7 +173,8 @@ fn turn(
     k: usize,
 ) -> Turned
     requires { ⌜ Valued (now (now s)) (now values) × (KeepsPlan (now (now s)) (now plan) × (At (now (now s)) k (now state) × Counted (limits .steps) (now log) (at .steps) (at .lines))) ⌝ }
-    ensures { λ r. ⌜ (r .done .why ≡ inside → Alone (now (now (s .entry))) k (now (state .entry)) (r .front) × ((r .done .at ≡ at) × ((now (values .exit) ≡ now (values .entry)) × ((now (state .exit) ≡ now (state .entry)) × (now (log .exit) ≡ now (log .entry)))))) × ((r .done .why ≡ inside → ⊥) → Advances (seenIn (now (seen .entry))) (limits .steps) (length (now (log .entry)) / 4) (runningAt (now (now (s .entry))) k (now (state .entry)) (now (values .entry)) (now (log .entry)) (at .steps) (limits .instant) (at .lines)) (runningAt (now (now (s .entry))) k (now (state .exit)) (now (values .exit)) (now (log .exit)) (r .done .at .steps) (limits .instant) (r .done .at .lines)) (r .done .why)) ⌝ }
+    ensures { λ r. ⌜ (r .done .why ≡ inside → Alone (now (now (s .entry))) k (now (state .entry)) (r .front) × ((r .done .at ≡ at) × ((now (values .exit) ≡ now (values .entry)) × ((now (state .exit) ≡ now (state .entry)) × (now (log .exit) ≡ now (log .entry)))))) ⌝ }
+    ensures { λ r. ⌜ ((r .done .why ≡ inside → ⊥) → Advances (seenIn (now (seen .entry))) (limits .steps) (length (now (log .entry)) / 4) (runningAt (now (now (s .entry))) k (now (state .entry)) (now (values .entry)) (now (log .entry)) (at .steps) (limits .instant) (at .lines)) (runningAt (now (now (s .entry))) k (now (state .exit)) (now (values .exit)) (now (log .exit)) (r .done .at .steps) (limits .instant) (r .done .at .lines)) (r .done .why)) ⌝ }
 {
     let next = find_next(s, plan, values, state, k);
     let f = next.front;
