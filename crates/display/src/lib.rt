@@ -1,5 +1,5 @@
-// What the programs have in common: they print what the calls answer, in the form that 01 gives, and read bytes that are
-// written down in hexadecimal.
+// What the programs have in common: they run a script and print what the calls answer, in the form that 01 gives, and read
+// bytes that are written down in hexadecimal.
 pub mod hex; // hex.rt: lines of hexadecimal digits
 
 use answers::Report;
@@ -67,9 +67,9 @@ pub fn say_refusal(number: u32, place: u32) {
     say_pair(b"refused ", number, place);
 }
 
-// Prints what the two calls answered of a script. A refusal is all that is printed of a refused call of run; else W and T,
+// What the two calls answered of a script. A refusal is all that is printed of a refused call of run; else W and T,
 // the lines, the ending, steps and instants.
-pub fn say_answers(v: Verdict, r: Report, log: &[u32]) {
+fn say_answers(v: Verdict, r: Report, log: &[u32]) {
     if r.number != 0 {
         say_refusal(r.number, r.place);
         return;
@@ -77,4 +77,12 @@ pub fn say_answers(v: Verdict, r: Report, log: &[u32]) {
     say_pair(b"accepted ", v.write, v.test);
     say_lines(log, r.lines);
     say_ending(r.ending, r.steps, r.instants);
+}
+
+// Checks and runs a script for the reader 0, with a log of 256 lines, and prints what comes of it.
+pub fn show_run(book: &[u8], script: &[u8], values: &mut [i32], limit: u32) {
+    let mut log = [0u32; 1024];
+    let v = engine::check(book, script);
+    let r = engine::run(book, script, 0, values, limit, &mut log);
+    say_answers(v, r, &log);
 }

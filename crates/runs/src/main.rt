@@ -27,18 +27,14 @@ fn numbers_of(bytes: &[u8]) -> [i32; CALL]
     numbers
 }
 
-// Runs a script by the bytes of a call, with a log of 256 lines.
+// Runs a script by the bytes of a call.
 fn call(script: &[u8], bytes: &[u8])
     requires { ⌜ (7 ≤ length (now bytes)) × (length (now bytes) ≤ 72) ⌝ }
 {
-    let mut log = [0u32; 1024];
     let mut numbers = numbers_of(bytes);
     let n = bytes.len();
     let limit = prelude::word_of(bytes[5], bytes[6]) as u32;
-    let book = &bytes[0..5];
-    let v = engine::check(book, script);
-    let r = engine::run(book, script, 0, &mut numbers[7..n], limit, &mut log);
-    display::say_answers(v, r, &log);
+    display::show_run(&bytes[0..5], script, &mut numbers[7..n], limit);
 }
 
 fn run(line: &[u8], script: &[u8]) {

@@ -20,18 +20,11 @@ fn load(path: &[u8; 10], buffer: &mut [u8; SIZE]) -> usize
     n
 }
 
-// Checks and runs a script for the reader 0, with 1000 steps and a log of 256 lines.
-fn run(book: &[u8], script: &[u8], values: &mut [i32]) {
-    let mut log = [0u32; 1024];
-    let v = engine::check(book, script);
-    let r = engine::run(book, script, 0, values, 1000, &mut log);
-    display::say_answers(v, r, &log);
-}
-
+// Runs a script from the values of a file, for 1000 steps.
 fn show(book: &[u8], script: &[u8], bytes: &[u8]) {
     let mut values = [0i32; Script::MAX_NAMES + 1];
     let n = values::read_values(bytes, &mut values);
-    run(book, script, &mut values[0..n]);
+    display::show_run(book, script, &mut values[0..n], 1000);
 }
 
 fn main() {

@@ -53,6 +53,7 @@ pub fn runs() -> Vec<Workload> {
         under_watchings(250).with_limit(FEWER_STEPS),
         waiting(64, Nesting::Left).with_limit(FEW_STEPS),
         waiting(64, Nesting::Right).with_limit(FEW_STEPS),
+        working(1, Nesting::Left).with_limit(FEWER_STEPS),
         working(64, Nesting::Left).with_limit(FEW_STEPS),
         working(64, Nesting::Right).with_limit(FEW_STEPS),
         exchange(),
