@@ -1,8 +1,6 @@
 // Operators on signed 32-bit values: worked in 64 bits, where every result is exact, then clamped.
-pub mod words; // words.rt: signed values and their words
-
 ghost use mathlib.Core.Path.{_≡_};
-ghost use Rattle.arithmetic.specs.Values.{clamped, sum, difference, product, quotient, lessThan, equalTo, negation};
+ghost use Rattle.arithmetic.specs.Values.{clamped, sum, difference, product, quotient};
 
 fn clamp(x: i64) -> i32
     ensures { λ r. ⌜ r ≡ clamped x ⌝ }
@@ -42,22 +40,4 @@ pub fn divide(a: i32, b: i32) -> i32
         return 0;
     }
     clamp((a as i64) / (b as i64))
-}
-
-pub fn less(a: i32, b: i32) -> i32
-    ensures { λ r. ⌜ r ≡ lessThan a b ⌝ }
-{
-    if a < b { 1 } else { 0 }
-}
-
-pub fn equal(a: i32, b: i32) -> i32
-    ensures { λ r. ⌜ r ≡ equalTo a b ⌝ }
-{
-    if a == b { 1 } else { 0 }
-}
-
-pub fn not(a: i32) -> i32
-    ensures { λ r. ⌜ r ≡ negation a ⌝ }
-{
-    if a == 0 { 1 } else { 0 }
 }

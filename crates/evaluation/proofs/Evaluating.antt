@@ -20,7 +20,8 @@ use Rattle.layout.specs.Entries.{partOf}
 use Rattle.tree.specs.Tree.{constantOf, expressionOf}
 use Rattle.reach.specs.Checked.{Checked}
 use Rattle.tree.proofs.Views.{code, ExpressionView, aConstant, aRegister, aBinary, aNegated, UsesExpression, expression-view}
-use Rattle.plan.specs.Plan.{kindIn, operandIn, laterIn, Spelled, KeepsPlan}
+use Rattle.packing.specs.Packing.{kindIn, operandIn, laterIn}
+use Rattle.plan.specs.Plan.{Spelled, KeepsPlan}
 use Rattle.evaluation.specs.Evaluation.{operatorOf, applied, leafValue}
 
 code-range : (o : Operator) → (2 ≤ code o) × (code o ≤ 7)

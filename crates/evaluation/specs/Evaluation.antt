@@ -13,7 +13,8 @@ use Rattle.language.specs.Steps.{held, value, apply}
 use Rattle.layout.specs.Layout.{nameCount, expressionCount}
 use Rattle.tree.specs.Tree.{expressionOf}
 use Rattle.reach.specs.Checked.{Checked}
-use Rattle.plan.specs.Plan.{kindIn, constantIn, operandIn, KeepsPlan}
+use Rattle.packing.specs.Packing.{kindIn, constantIn, operandIn}
+use Rattle.plan.specs.Plan.{KeepsPlan}
 
 -- the operators of expressions, by their kinds
 abbrev pub operatorOf : ℕ → Operator

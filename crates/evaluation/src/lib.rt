@@ -1,6 +1,5 @@
 // What the names hold, and the values of expressions.
 use layout::Script;
-use plan::words;
 ghost use mathlib.Core.Path.{_≡_};
 ghost use Prim.Native.Nat.{_<_};
 ghost use lib.ListN.{length};
@@ -9,7 +8,8 @@ ghost use Rattle.layout.specs.Layout.{nameCount, expressionCount, nodeCount};
 ghost use Rattle.layout.specs.Entries.{partOf, node};
 ghost use Rattle.tree.specs.Tree.{expressionOf};
 ghost use Rattle.reach.specs.Checked.{Checked};
-ghost use Rattle.plan.specs.Plan.{kindIn, operandIn, KeepsPlan};
+ghost use Rattle.packing.specs.Packing.{kindIn, operandIn};
+ghost use Rattle.plan.specs.Plan.{KeepsPlan};
 ghost use Rattle.evaluation.specs.Evaluation.{applied, leafValue, Evaluable, IsValue};
 
 pub fn is_present(values: &[i32], a: usize) -> bool
@@ -37,10 +37,10 @@ fn leaf_value(values: &[i32], w: usize) -> i32
     requires { ⌜ (0 < kindIn w → operandIn w < length (now values)) ⌝ }
     ensures { λ r. ⌜ r ≡ leafValue (now (values .entry)) w ⌝ }
 {
-    if words::kind_in(w) == 0 {
-        return arithmetic::words::value_of_word(words::constant_in(w) as u32);
+    if packing::kind_in(w) == 0 {
+        return signed::value_of_word(packing::constant_in(w) as u32);
     }
-    let x = words::operand_in(w);
+    let x = packing::operand_in(w);
     values[x]
 }
 
@@ -61,9 +61,9 @@ fn operate(kind: usize, a: i32, b: i32) -> i32
         return arithmetic::divide(a, b);
     }
     if kind == 6 {
-        return arithmetic::less(a, b);
+        return comparison::less(a, b);
     }
-    arithmetic::equal(a, b)
+    comparison::equal(a, b)
 }
 
 // The value of expression e as an operand. Most operands are constants and registers: they need no further call.
@@ -72,7 +72,7 @@ fn operand(plan: &[usize; Script::MAX_PARTS], values: &[i32], e: usize) -> i32
     ensures { λ r. ⌜ IsValue (now (plan .entry)) (now (values .entry)) e r ⌝ }
 {
     let w = plan[e];
-    if words::kind_in(w) <= 1 {
+    if packing::kind_in(w) <= 1 {
         return leaf_value(values, w);
     }
     value_of(plan, values, e)
@@ -84,15 +84,15 @@ pub fn value_of(plan: &[usize; Script::MAX_PARTS], values: &[i32], e: usize) -> 
     ensures { λ r. ⌜ IsValue (now (plan .entry)) (now (values .entry)) e r ⌝ }
 {
     let w = plan[e];
-    let kind = words::kind_in(w);
+    let kind = packing::kind_in(w);
     if kind <= 1 {
         return leaf_value(values, w);
     }
-    let a = operand(plan, values, words::operand_in(w));
+    let a = operand(plan, values, packing::operand_in(w));
     if kind == 8 {
-        return arithmetic::not(a);
+        return comparison::not(a);
     }
-    let b = operand(plan, values, words::later_in(w));
+    let b = operand(plan, values, packing::later_in(w));
     operate(kind, a, b)
 }
 

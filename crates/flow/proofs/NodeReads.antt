@@ -6,7 +6,7 @@ use mathlib.Core.List.{List}
 use Prim.Native.Nat.{ℕ, _<_}
 use native.Mathlib.Omega.{arith}
 use Rattle.book.specs.LevelBook.{mostLevels, atOrBelow}
-use Rattle.pairs.specs.Bounds.{kept}
+use Rattle.table.specs.Table.{kept}
 use Rattle.layout.specs.declared.Script.{Script}
 use Rattle.layout.specs.declared.entries.Part.{Part}
 use Rattle.layout.specs.Entries.{partOf, node}

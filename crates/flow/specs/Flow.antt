@@ -8,7 +8,7 @@ use Rattle.book.specs.declared.Book.{Book}
 use Rattle.order.specs.Order as orders
 use Rattle.order.specs.Order.{Relation, leastUpper, greatestLower, LevelLattice}
 use Rattle.book.specs.LevelBook.{mostLevels, atOrBelow}
-use Rattle.pairs.specs.Bounds.{Keeps}
+use Rattle.table.specs.Table.{Keeps}
 use Rattle.lattice.specs.Lattice.{Lattice, latticeOf}
 use Rattle.language.specs.Levels.{expLevel, writeLevel, testLevel, need}
 use Rattle.layout.specs.declared.Script.{Script}

@@ -3,8 +3,8 @@ use crate::kinds;
 use layout::Script;
 use layout::entries::name_at;
 use layout::entries::part_at;
-use pairs::PairTable;
-use pairs::level_at;
+use table::PairTable;
+use table::level_at;
 ghost use Prim.Native.Nat.{_<_};
 ghost use Rattle.flow.specs.Flow.{Levels, Reads, LevelAt};
 

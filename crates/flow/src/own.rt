@@ -6,7 +6,7 @@ use layout::entries::name_at;
 use levels::Own;
 use levels::kinds;
 use levels::kinds::is_either;
-use pairs::PairTable;
+use table::PairTable;
 ghost use Rattle.flow.specs.Flow.{Levels, Reads, IsNode, OwnOf};
 
 // What the node of part p brings itself.

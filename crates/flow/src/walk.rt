@@ -6,7 +6,7 @@ use fields::children::children_of;
 use layout::Script;
 use layout::entries::part_at;
 use levels::Flow;
-use pairs::PairTable;
+use table::PairTable;
 ghost use Prim.Native.Nat.{_<_};
 ghost use Rattle.flow.specs.Flow.{Levels, Walks, FlowAt};
 

@@ -42,7 +42,7 @@ pub fn note(
     if log.len() / 4 <= lines {
         return Noted { fits: false, lines };
     }
-    let word = arithmetic::words::word_of(value);
+    let word = signed::word_of(value);
     put_line(log, 4 * lines, (steps + 1) as u32, instant, x as u32, word);
     Noted {
         fits: true,

@@ -1,26 +1,13 @@
 -- 01, 'Level book': "Every pair has a least common upper and a greatest common lower level.
 -- Both are found once and kept for every pair of levels."
 use mathlib.Core.Path.{_≡_}
-use mathlib.Core.List.{List, []}
+use mathlib.Core.List.{List}
 use Prim.Native.Nat.{ℕ, _<_, _*_}
-use lib.ListN.{getD, length}
 use Rattle.prelude.specs.Search.{first}
 use Rattle.order.specs.Order.{Relation, leastUpper, greatestLower}
 use Rattle.book.specs.LevelBook.{mostLevels}
+use Rattle.table.specs.Table.{kept, Keeps}
 use Rattle.pairs.specs.Refusals.{lacksUpper, firstLacking}
-
--- what a table keeps for the pair of i and j
-abbrev pub kept : List (List ℕ) → ℕ → ℕ → ℕ
-kept t i j = getD (getD t i []) j 0
-
--- n rows of n entries each
-pub record Square (n : ℕ) (t : List (List ℕ)) : Type 0 where
-  pub rows : length t ≡ n
-  pub entries : (i : ℕ) → i < n → length (getD t i []) ≡ n
-
--- the table keeps f for every pair of the n levels
-abbrev pub Keeps : List (List ℕ) → ℕ → (ℕ → ℕ → ℕ) → Type 0
-Keeps t n f = (i j : ℕ) → i < n → j < n → kept t i j ≡ f i j
 
 -- What one sweep over the pairs finds: the first place of a pair that lacks a least common upper level;
 -- where there is none, the table keeps the least common upper level of every two levels, and each level for itself.

@@ -2,22 +2,13 @@
 use book::Book;
 use book::sets;
 use order::converse;
+use table::PairTable;
 ghost use mathlib.Core.Path.{_≡_};
 ghost use Prim.Native.Nat.{_<_};
 ghost use Rattle.book.specs.LevelBook.{mostLevels, atOrBelow};
 ghost use Rattle.order.specs.Rows.{InOrder};
-ghost use Rattle.pairs.specs.Bounds.{kept, Square, Swept, Paired};
-
-// A level for each pair of levels.
-pub type PairTable = [[u8; Book::MAX_LEVELS]; Book::MAX_LEVELS];
-
-// The level that a table keeps for the pair of i and j.
-pub fn level_at(t: &PairTable, i: usize, j: usize) -> usize
-    requires { ⌜ (i < mostLevels) × (j < mostLevels) ⌝ }
-    ensures { λ r. ⌜ r ≡ kept (now (t .entry)) i j ⌝ }
-{
-    prelude::wide(t[i][j])
-}
+ghost use Rattle.table.specs.Table.{Square};
+ghost use Rattle.pairs.specs.Bounds.{Swept, Paired};
 
 // Finds the least common upper level of each pair and keeps it at both entries of the pair, and each level at its own.
 // In an order it is the level whose row is what the rows of the pair share. The place of the first pair that lacks

@@ -1,9 +1,9 @@
 -- The words of a plan: what was packed into one is what it tells.
 -- Assumes nothing.
 use mathlib.Core.Path.{_≡_, refl, sym, ap, _∙_}
-use mathlib.Core.Bool.{Bool, true, false}
+use mathlib.Core.Bool.{Bool}
 use mathlib.Core.List.{List}
-use Prim.Native.Nat.{ℕ, zero, suc, _+_, _*_, _/_, _%_, _^_, _≤_, _<_}
+use Prim.Native.Nat.{ℕ, _+_, _*_, _%_, _^_, _≤_, _<_}
 use native.Mathlib.Decide.{ℕ-discrete}
 use native.Mathlib.Omega.{arith}
 use lib.Dec.{eqb, ltb}
@@ -19,7 +19,9 @@ use Rattle.layout.specs.Entries.{partOf, node}
 use Rattle.fields.specs.Fields.{firstChild, secondChild}
 use Rattle.tree.specs.Tree.{processOf, size}
 use Rattle.plan.specs.Forms.{formOf}
-use Rattle.plan.specs.Plan.{watches, formIn, aIn, bIn, firstIn, secondIn, sizeIn, nodeKindIn, watchesIn, packedFields, marked, packed, formsOf, spelled, Spelled, Planned, KeepsExpressions, KeepsNodes}
+use Rattle.packing.specs.Packing.{formIn, packedFields, marked, packed, spelled}
+use Rattle.packing.proofs.Words.{low, a-told, b-told, first-told, second-told, size-told, kind-told, mark-told}
+use Rattle.plan.specs.Plan.{watches, formsOf, Spelled, Planned, KeepsExpressions, KeepsNodes}
 
 pub forms-fit : (kind : ℕ) → kind < 11 → formsOf kind < 65536
 unfolding all any search-for.first firstFrom
@@ -32,52 +34,6 @@ forms-tell kind tag h l =
     (all-elim (λ t. eqb (formIn (formsOf kind) t) (formOf kind t)) 4
     (all-elim (λ k. all (λ t. eqb (formIn (formsOf k) t) (formOf k t)) 4) 11 refl kind h)
     tag l)
-
--- the forms are the lowest 16 bits
-low : (forms rest tag : ℕ) → tag < 4 → formIn (forms + 65536 * rest) tag ≡ formIn forms tag
-low forms rest zero l = omega arith
-low forms rest (suc zero) l = omega arith
-low forms rest (suc (suc zero)) l = omega arith
-low forms rest (suc (suc (suc zero))) l = omega arith
-low forms rest (suc (suc (suc (suc t)))) l = absurd (omega (arith, l))
-
--- the fields of a packed word, whatever its forms and its kind are
-module _ (forms kind a b first second size : ℕ) (few : forms < 65536) where
-  abbrev made : ℕ
-  made = packed forms (packedFields a b first second size) kind
-
-  a-told : aIn made ≡ a % 256
-  a-told = omega (arith, few)
-
-  b-told : bIn made ≡ b % 256
-  b-told = omega (arith, few)
-
-  first-told : firstIn made ≡ first % 256
-  first-told = omega (arith, few)
-
-  second-told : secondIn made ≡ second % 256
-  second-told = omega (arith, few)
-
-  size-told : sizeIn made ≡ size % 256
-  size-told = omega (arith, few)
-
-pub mark-fits : (kind : ℕ) → kind < 128 → (w : Bool) → marked kind w < 256
-mark-fits kind h true = omega (arith, h)
-mark-fits kind h false = omega (arith, h)
-
--- its kind, and its mark
-module _ (forms a b first second size kind : ℕ) (few : forms < 65536) (fits : kind < 128) where
-  kind-told : (w : Bool) → nodeKindIn (made forms (marked kind w) a b first second size few) ≡ kind
-  kind-told true = omega (arith, few, fits)
-  kind-told false = omega (arith, few, fits)
-
-  mark-told : (w : Bool) → watchesIn (made forms (marked kind w) a b first second size few) ≡ w
-  mark-told true =
-      let e : made forms (kind + 128) a b first second size few / 2 ^ 63 ≡ 1 = omega (arith, few, fits) in
-      rw e
-  mark-told false =
-      let e : made forms kind a b first second size few / 2 ^ 63 ≡ 0 = omega (arith, few, fits) in
-      rw e
 
 -- the word that is packed for node k
 module _ (s : List ℕ) (k : ℕ) where

@@ -1,33 +1,17 @@
 -- The plan of a run: a word for each expression and for each node, with what the run goes by.
 use mathlib.Core.Path.{_≡_}
-use mathlib.Core.Bool.{Bool, true, false, cond, _&&_, _||_}
+use mathlib.Core.Bool.{Bool, true, false, _&&_, _||_}
 use mathlib.Core.List.{List}
-use Prim.Native.Nat.{ℕ, _+_, _*_, _/_, _%_, _^_, _<_}
+use Prim.Native.Nat.{ℕ, _+_, _*_, _^_, _<_}
 use lib.Dec.{eqb, ltb}
 use lib.ListN.{getD}
+use Rattle.packing.specs.Packing.{kindIn, constantIn, operandIn, laterIn, formIn, aIn, bIn, firstIn, secondIn, sizeIn, nodeKindIn, watchesIn}
 use Rattle.language.specs.Syntax.{Proc, nil, assign, letIn, ifThenElse, while, sequence, emit, local, watching, when, parallel}
 use Rattle.layout.specs.Layout.{mostExpressions, expressionCount, nodeCount}
 use Rattle.layout.specs.Entries.{partOf, node}
 use Rattle.fields.specs.Fields.{firstChild, secondChild}
 use Rattle.tree.specs.Tree.{processOf, size}
 use Rattle.plan.specs.Forms.{formOf}
-
--- what the word of an expression tells: its kind; a constant's word; its name or first operand; its second operand
-abbrev pub kindIn : ℕ → ℕ
-kindIn w = w / 2 ^ 32
-
-abbrev pub constantIn : ℕ → ℕ
-constantIn w = w % 2 ^ 32
-
-abbrev pub operandIn : ℕ → ℕ
-operandIn w = w % 2 ^ 16
-
-abbrev pub laterIn : ℕ → ℕ
-laterIn w = w / 2 ^ 16 % 2 ^ 16
-
--- a word that tells these
-abbrev pub spelled : ℕ → ℕ → ℕ → ℕ
-spelled kind later operand = 2 ^ 32 * kind + (2 ^ 16 * later + operand)
 
 -- the word of expression e
 pub record Spelled (s : List ℕ) (e w : ℕ) : Type 0 where
@@ -50,43 +34,7 @@ watches (watching a p) = true
 watches (when a p) = watches p
 watches (parallel p q) = watches p || watches q
 
--- what the word of a node tells: the form by its own byte, fields a and b, the first and the second child, the size of
--- the first, the kind, and whether a watching stands in the node
-abbrev pub formIn : ℕ → ℕ → ℕ
-formIn w tag = w / 2 ^ (4 * tag) % 16
-
-abbrev pub aIn : ℕ → ℕ
-aIn w = w / 2 ^ 16 % 256
-
-abbrev pub bIn : ℕ → ℕ
-bIn w = w / 2 ^ 24 % 256
-
-abbrev pub firstIn : ℕ → ℕ
-firstIn w = w / 2 ^ 32 % 256
-
-abbrev pub secondIn : ℕ → ℕ
-secondIn w = w / 2 ^ 40 % 256
-
-abbrev pub sizeIn : ℕ → ℕ
-sizeIn w = w / 2 ^ 48 % 256
-
-abbrev pub nodeKindIn : ℕ → ℕ
-nodeKindIn w = w / 2 ^ 56 % 128
-
-abbrev pub watchesIn : ℕ → Bool
-watchesIn w = eqb (w / 2 ^ 63) 1
-
--- a word that tells these, and the forms of a kind, as they stand in it
-abbrev pub packedFields : ℕ → ℕ → ℕ → ℕ → ℕ → ℕ
-packedFields a b first second size =
-    a % 256 + 256 * (b % 256 + 256 * (first % 256 + 256 * (second % 256 + 256 * (size % 256))))
-
-abbrev pub marked : ℕ → Bool → ℕ
-marked kind watches = cond watches (kind + 128) kind
-
-abbrev pub packed : ℕ → ℕ → ℕ → ℕ
-packed forms fields kind = forms + 2 ^ 16 * (fields + 2 ^ 40 * kind)
-
+-- the forms of a kind, as they stand in a word
 abbrev pub formsOf : ℕ → ℕ
 formsOf kind = formOf kind 0 + 16 * formOf kind 1 + 256 * formOf kind 2 + 4096 * formOf kind 3
 

@@ -1,5 +1,4 @@
 // The form that a node has come to: what is in front, and what stands around it.
-use crate::words;
 use layout::Script;
 ghost use mathlib.Core.Path.{_≡_};
 ghost use Prim.Native.Nat.{_-_, _≤_, _<_};
@@ -94,7 +93,7 @@ pub fn form_at(s: &&[u8], plan: &[usize; Script::MAX_PARTS], k: usize, tag: u8) 
     if NIL <= tag {
         return GONE;
     }
-    words::form_in(crate::word_at(s, plan, k), prelude::wide(tag)) as u8
+    packing::form_in(crate::word_at(s, plan, k), prelude::wide(tag)) as u8
 }
 
 // The form of node k whose own byte is `tag` and which has so many bytes, with the part in front.
@@ -118,18 +117,18 @@ pub fn find_front(
         };
     }
     let w = crate::word_at(s, plan, k);
-    let middle = 1 + words::size_in(w);
+    let middle = 1 + packing::size_in(w);
     if form == SECOND || form == TURNED {
         return Front {
             form,
-            child: words::second_in(w),
+            child: packing::second_in(w),
             from: middle,
             to: len,
         };
     }
     Front {
         form,
-        child: words::first_in(w),
+        child: packing::first_in(w),
         from: 1,
         to: middle,
     }
@@ -149,18 +148,18 @@ pub fn find_rear(
     ensures { λ r. ⌜ r ≡ frontOf (now (now (s .entry))) k (1 - tag) len ⌝ }
 {
     let w = crate::word_at(s, plan, k);
-    let middle = 1 + words::size_in(w);
+    let middle = 1 + packing::size_in(w);
     if form == BESIDE {
         return Front {
             form: TURNED,
-            child: words::second_in(w),
+            child: packing::second_in(w),
             from: middle,
             to: len,
         };
     }
     Front {
         form: BESIDE,
-        child: words::first_in(w),
+        child: packing::first_in(w),
         from: 1,
         to: middle,
     }

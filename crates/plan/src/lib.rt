@@ -1,5 +1,4 @@
 // The plan of a run: what it goes by of each expression and of each node, in one word, found once for a call.
-pub mod words; // words.rt: what the words tell, and how they are made
 pub mod forms; // forms.rt: the form that a node has come to
 
 use fields::children::Children;
@@ -26,7 +25,7 @@ fn watches_before(plan: &[usize; Script::MAX_PARTS], k: usize, j: usize) -> bool
     requires { ⌜ k < mostNodes ⌝ }
     ensures { λ r. ⌜ r ≡ watchesBefore (now (plan .entry)) k j ⌝ }
 {
-    j < k && words::watches_in(plan[Script::MAX_EXPRESSIONS + j])
+    j < k && packing::watches_in(plan[Script::MAX_EXPRESSIONS + j])
 }
 
 // A watching stands in node k, which is of this kind and has these children: it is one, or one stands in a child. A
@@ -55,9 +54,9 @@ fn node_word(
     let p = layout::entries::part_at(s, c, c.expressions + k);
     let parts = fields::children::children_of(p);
     let first = parts.first % 256;
-    let fields = words::pack_fields(p.a, p.b, first, parts.second, wide(sizes[first]));
-    let kind = words::mark(p.kind, has_watching(plan, k, p.kind, parts));
-    words::pack(forms::forms_of(p.kind), fields, kind)
+    let fields = packing::pack_fields(p.a, p.b, first, parts.second, wide(sizes[first]));
+    let kind = packing::mark(p.kind, has_watching(plan, k, p.kind, parts));
+    packing::pack(forms::forms_of(p.kind), fields, kind)
 }
 
 // The word of expression e.
@@ -67,9 +66,9 @@ fn expression_word(s: &[u8], c: Script, e: usize) -> usize
 {
     let p = layout::entries::part_at(s, c, e);
     if p.kind == 0 {
-        return words::spell(0, p.b, p.c);
+        return packing::spell(0, p.b, p.c);
     }
-    words::spell(p.kind, p.b, p.a)
+    packing::spell(p.kind, p.b, p.a)
 }
 
 // The words of the expressions.
@@ -116,7 +115,7 @@ pub fn kind_at(s: &&[u8], plan: &[usize; Script::MAX_PARTS], k: usize) -> usize
     requires { ⌜ Checked (now (now s)) × (KeepsPlan (now (now s)) (now plan) × (k < nodeCount (now (now s)))) ⌝ }
     ensures { λ r. ⌜ r ≡ partOf (now (now (s .entry))) (node (now (now (s .entry))) k) .kind ⌝ }
 {
-    words::node_kind_in(word_at(s, plan, k))
+    packing::node_kind_in(word_at(s, plan, k))
 }
 
 // Whether a watching stands in node k.
@@ -124,19 +123,19 @@ pub fn watches_at(s: &&[u8], plan: &[usize; Script::MAX_PARTS], k: usize) -> boo
     requires { ⌜ Checked (now (now s)) × (KeepsPlan (now (now s)) (now plan) × (k < nodeCount (now (now s)))) ⌝ }
     ensures { λ r. ⌜ r ≡ watches (processOf (now (now (s .entry))) k) ⌝ }
 {
-    words::watches_in(word_at(s, plan, k))
+    packing::watches_in(word_at(s, plan, k))
 }
 
 pub fn a_at(s: &&[u8], plan: &[usize; Script::MAX_PARTS], k: usize) -> usize
     requires { ⌜ Checked (now (now s)) × (KeepsPlan (now (now s)) (now plan) × ((k < nodeCount (now (now s))) × (partOf (now (now s)) (node (now (now s)) k) .a < 256))) ⌝ }
     ensures { λ r. ⌜ r ≡ partOf (now (now (s .entry))) (node (now (now (s .entry))) k) .a ⌝ }
 {
-    words::a_in(word_at(s, plan, k))
+    packing::a_in(word_at(s, plan, k))
 }
 
 pub fn b_at(s: &&[u8], plan: &[usize; Script::MAX_PARTS], k: usize) -> usize
     requires { ⌜ Checked (now (now s)) × (KeepsPlan (now (now s)) (now plan) × ((k < nodeCount (now (now s))) × (partOf (now (now s)) (node (now (now s)) k) .b < 256))) ⌝ }
     ensures { λ r. ⌜ r ≡ partOf (now (now (s .entry))) (node (now (now (s .entry))) k) .b ⌝ }
 {
-    words::b_in(word_at(s, plan, k))
+    packing::b_in(word_at(s, plan, k))
 }

@@ -12,7 +12,8 @@ use Rattle.layout.specs.Layout.{layoutOf, expressionCount}
 use Rattle.tree.specs.Tree.{expressionOf}
 use Rattle.reach.specs.Checked.{Checked}
 use Rattle.layout.proofs.Layouts.{few-bounds, expressions-are}
-use Rattle.plan.specs.Plan.{kindIn, operandIn, laterIn, KeepsPlan}
+use Rattle.packing.specs.Packing.{kindIn, operandIn, laterIn}
+use Rattle.plan.specs.Plan.{KeepsPlan}
 use Rattle.evaluation.specs.Evaluation.{applied, Evaluable}
 use Rattle.evaluation.proofs.Evaluating.{Tells, word-tells}
 use borrow.Author.Needs.{fits-under}
@@ -24,12 +25,12 @@ use Rattle.evaluation.proofs.+operand+value_of.Lts-operand as operand-l
 use Rattle.evaluation.proofs.value_of.Reads as value-of
 use Rattle.evaluation.proofs.value_of.Kinds as value-of-kinds
 use Rattle.evaluation.proofs.+operand+value_of.Lts-value_of as value-of-lts
-use Rattle.arithmetic.proofs.not.Reads as not-reads
+use Rattle.comparison.proofs.not.Reads as not-reads
 use Rattle.evaluation.proofs.leaf_value.Reads as leaf-value-reads
 use Rattle.evaluation.proofs.operate.Reads as operate-reads
-use Rattle.plan.proofs.words.kind_in.Reads as kind-in-reads
-use Rattle.plan.proofs.words.operand_in.Reads as operand-in-reads
-use Rattle.plan.proofs.words.later_in.Reads as later-in-reads
+use Rattle.packing.proofs.kind_in.Reads as kind-in-reads
+use Rattle.packing.proofs.operand_in.Reads as operand-in-reads
+use Rattle.packing.proofs.later_in.Reads as later-in-reads
 use Rattle.evaluation.proofs.+operand+value_of.{statement}
 use Rattle.evaluation.proofs.+operand+value_of.Tie.{close}
 

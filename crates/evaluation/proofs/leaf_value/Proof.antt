@@ -8,7 +8,7 @@ use mir.Val.{toZ}
 use borrow.Author.Tests.{eq-eqb, ne-eqb}
 use Rattle.arithmetic.proofs.Bits.{given-back}
 use Rattle.language.specs.Steps.{held}
-use Rattle.plan.specs.Plan.{kindIn, operandIn}
+use Rattle.packing.specs.Packing.{kindIn, operandIn}
 use borrow.Author.Needs.{needs, fits-under}
 use Rattle.evaluation.proofs.leaf_value.Statement.{statement}
 use Rattle.evaluation.proofs.leaf_value.Tie as tie

@@ -13,7 +13,8 @@ use Rattle.plan.specs.Plan.{watches}
 use Rattle.plan.proofs.Reading.{node-read}
 use Rattle.plan.proofs.Fronts.{kind-known}
 use Rattle.plan.proofs.Watching.{watches-told}
-use Rattle.plan.proofs.Plans.{forms-fit, mark-fits, planned}
+use Rattle.packing.proofs.Words.{mark-fits}
+use Rattle.plan.proofs.Plans.{forms-fit, planned}
 use borrow.Author.Needs.{needs}
 use Rattle.plan.proofs.node_word.Statement.{statement}
 use Rattle.plan.proofs.node_word.Tie as tie

@@ -3,7 +3,7 @@ use mathlib.Core.Path.{sym, ap, _∙_, subst}
 use native.Mathlib.Omega.{arith}
 use borrow.Author.Needs.{fits-under}
 use Rattle.book.specs.LevelBook.{atOrBelow}
-use Rattle.pairs.specs.Bounds.{kept}
+use Rattle.table.specs.Table.{kept}
 use Rattle.fields.specs.Roles.{nodeKinds}
 use Rattle.layout.specs.Layout.{Laid}
 use Rattle.layout.specs.Entries.{partOf}

@@ -1,7 +1,7 @@
 -- `form_at`: what the word of the node tells; past all forms a node is nil.
 use mathlib.Core.Path.{ap, _∙_}
 use borrow.Author.Needs.{needs}
-use Rattle.plan.specs.Plan.{formIn}
+use Rattle.packing.specs.Packing.{formIn}
 use Rattle.plan.proofs.Fronts.{form-past, kind-known}
 use Rattle.plan.proofs.forms.form_at.Statement.{statement}
 use Rattle.plan.proofs.forms.form_at.Tie as tie

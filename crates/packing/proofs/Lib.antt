@@ -1,0 +1,2 @@
+-- Laws that callers use.
+pub mod Words

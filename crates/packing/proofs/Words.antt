@@ -1,0 +1,53 @@
+-- What was packed into a word is what it tells.
+-- Assumes nothing.
+use mathlib.Core.Path.{_≡_}
+use mathlib.Core.Bool.{Bool, true, false}
+use Prim.Native.Nat.{ℕ, zero, suc, _+_, _*_, _/_, _%_, _^_, _<_}
+use native.Mathlib.Omega.{arith}
+use Rattle.packing.specs.Packing.{formIn, aIn, bIn, firstIn, secondIn, sizeIn, nodeKindIn, watchesIn, packedFields, marked, packed}
+
+-- the forms are the lowest 16 bits
+pub low : (forms rest tag : ℕ) → tag < 4 → formIn (forms + 65536 * rest) tag ≡ formIn forms tag
+low forms rest zero l = omega arith
+low forms rest (suc zero) l = omega arith
+low forms rest (suc (suc zero)) l = omega arith
+low forms rest (suc (suc (suc zero))) l = omega arith
+low forms rest (suc (suc (suc (suc t)))) l = absurd (omega (arith, l))
+
+-- the fields of a packed word, whatever its forms and its kind are
+module _ (forms kind a b first second size : ℕ) (few : forms < 65536) where
+  abbrev pub made : ℕ
+  made = packed forms (packedFields a b first second size) kind
+
+  pub a-told : aIn made ≡ a % 256
+  a-told = omega (arith, few)
+
+  pub b-told : bIn made ≡ b % 256
+  b-told = omega (arith, few)
+
+  pub first-told : firstIn made ≡ first % 256
+  first-told = omega (arith, few)
+
+  pub second-told : secondIn made ≡ second % 256
+  second-told = omega (arith, few)
+
+  pub size-told : sizeIn made ≡ size % 256
+  size-told = omega (arith, few)
+
+pub mark-fits : (kind : ℕ) → kind < 128 → (w : Bool) → marked kind w < 256
+mark-fits kind h true = omega (arith, h)
+mark-fits kind h false = omega (arith, h)
+
+-- its kind, and its mark
+module _ (forms a b first second size kind : ℕ) (few : forms < 65536) (fits : kind < 128) where
+  pub kind-told : (w : Bool) → nodeKindIn (made forms (marked kind w) a b first second size few) ≡ kind
+  kind-told true = omega (arith, few, fits)
+  kind-told false = omega (arith, few, fits)
+
+  pub mark-told : (w : Bool) → watchesIn (made forms (marked kind w) a b first second size few) ≡ w
+  mark-told true =
+      let e : made forms (kind + 128) a b first second size few / 2 ^ 63 ≡ 1 = omega (arith, few, fits) in
+      rw e
+  mark-told false =
+      let e : made forms kind a b first second size few / 2 ^ 63 ≡ 0 = omega (arith, few, fits) in
+      rw e

@@ -1,0 +1,2 @@
+-- The words of a plan, as numbers.
+pub mod Packing

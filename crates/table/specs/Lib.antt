@@ -1,0 +1,2 @@
+-- Tables of the pairs of levels.
+pub mod Table
