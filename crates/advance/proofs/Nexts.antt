@@ -2,7 +2,7 @@
 -- Assumes nothing.
 use mathlib.Core.Path.{_≡_, sym, ap, _∙_, subst}
 use mathlib.Core.Bool.{Bool, true, cond}
-use mathlib.Core.List.{List, append-nil}
+use mathlib.Core.List.{List}
 use Prim.Native.Nat.{ℕ, _+_, _-_, _*_, _/_, _≤_, _<_}
 use native.Mathlib.Nat.{le-refl, sub-zero}
 use native.Mathlib.Omega.{arith}
@@ -10,7 +10,6 @@ use borrow.Rule.Slice.PartMut.{putMid}
 use lib.Dec.{eqb}
 use lib.IntN.{ℤ}
 use lib.ListN.{length}
-use lib.Seq.{take-length, drop-length}
 use borrow.Author.Tests.{eq-eqb, eqb-true}
 use Rattle.prelude.proofs.Bools.{by-cases}
 use Rattle.layout.specs.Entries.{partOf, node}
@@ -25,14 +24,8 @@ use Rattle.moves.specs.Contracts.{Counted, IsWriter, runningAt, Advances}
 use Rattle.moves.proofs.Advancing.{ended}
 use Rattle.advance.specs.Contracts.{inside, into, moving, itselfOf, Alone, Follows, nothing, awaits, itself, stands, part, doneAt, Rests, Settles}
 use Rattle.advance.proofs.Entries.{writer-moves}
+use Rattle.advance.proofs.Places.{mid-whole, put-whole}
 use Rattle.advance.proofs.Turning.{Going, going, Turn, begins, turns-on, turns-to, part-turn, part-ends, part-rests, front-kept, settled}
-
--- the bytes of the node itself are all
-whole-part : (k : ℕ) (st : List ℕ) → partIn (itselfOf k (length st)) st ≡ st
-whole-part k st = rw (sub-zero (length st)) (take-length st)
-
-whole-put : (st ys : List ℕ) → putMid 0 (length st - 0) st ys ≡ ys
-whole-put st ys = rw (sub-zero (length st), drop-length st) (append-nil ys)
 
 -- the two ways to go on
 pub data Way (s : List ℕ) (k : ℕ) (st : List ℕ) (vs : List ℤ) (why : ℕ) (f : Front) : Type 0 where
@@ -63,14 +56,14 @@ module _ (s : List ℕ) (k : ℕ) (st : List ℕ) (vs : List ℤ) (why : ℕ) (f
 
     pub at-front : Way s k st vs why f → At s (f .child) (partIn f st)
     at-front (byItself e q m) =
-        subst (λ (h : Front). At s (h .child) (partIn h st)) (sym q) (subst (At s k) (sym (whole-part k st)) a)
+        subst (λ (h : Front). At s (h .child) (partIn h st)) (sym q) (subst (At s k) (sym (mid-whole st)) a)
     at-front (byPart g p m q w) = p .at
 
     pub moves-next :
         Way s k st vs why f → eqb why moving ≡ true → frontOf s (f .child) (own (partIn f st)) (length (partIn f st)) .form ≡ mover
     moves-next (byItself e q m) t =
         subst (λ (h : Front). frontOf s (h .child) (own (partIn h st)) (length (partIn h st)) .form ≡ mover) (sym q)
-        (subst (λ (z : List ℕ). frontOf s k (own z) (length z) .form ≡ mover) (sym (whole-part k st)) m)
+        (subst (λ (z : List ℕ). frontOf s k (own z) (length z) .form ≡ mover) (sym (mid-whole st)) m)
     moves-next (byPart g p m q w) t =
         let x = w (eqb-true why moving t) in
         writer-moves s (f .child) (length (partIn f st)) (partIn f st) (x .0) (x .1)
@@ -97,12 +90,12 @@ module _ (s : List ℕ) (k : ℕ) (st : List ℕ) (vs : List ℤ) (why : ℕ) (f
         (λ (z : List ℕ).
         Advances seen limit (length log / 4) (runningAt s k st vs log steps instant lines)
         (runningAt s k z ws log′ steps′ instant lines′) why′)
-        (sym (rw q (whole-put st ys)))
+        (sym (rw q (put-whole st ys)))
         (subst
         (λ (z : List ℕ).
         Advances seen limit (length log / 4) (runningAt s k z vs log steps instant lines)
         (runningAt s k ys ws log′ steps′ instant lines′) why′)
-        (whole-part k st)
+        (mid-whole st)
         (subst
         (λ (h : Front).
         Advances seen limit (length log / 4) (runningAt s (h .child) (partIn h st) vs log steps instant lines)
@@ -112,7 +105,7 @@ module _ (s : List ℕ) (k : ℕ) (st : List ℕ) (vs : List ℤ) (why : ℕ) (f
 
     own-long : f ≡ itselfOf k (length st) → length (reached f st ys) ≡ length st
     own-long q =
-        let same : reached f st ys ≡ ys = rw q (whole-put st ys) in
+        let same : reached f st ys ≡ ys = rw q (put-whole st ys) in
         let long : f .to - f .from ≡ length st = rw q (sub-zero (length st)) in
         ap length same ∙ l ∙ long
 

@@ -67,6 +67,13 @@ put-over a b st ys zs h w l =
     ap₂ (λ y z. y ++ (zs ++ z)) (take-put a (b - a) st ys (omega arith))
     (post-is a b (putMid a (b - a) st ys) h ∙ drop-put a b st ys h w l ∙ sym (post-is a b st h))
 
+-- all elements are a part
+pub mid-whole : (st : List ℕ) → midOf 0 (length st - 0) st ≡ st
+mid-whole st = rw (sub-zero (length st)) (take-length st)
+
+pub put-whole : (st ys : List ℕ) → putMid 0 (length st - 0) st ys ≡ ys
+put-whole st ys = rw (sub-zero (length st), drop-length st) (append-nil ys)
+
 -- Node j stands in the place of node k, which has the bytes st: its own are those from a up to b.
 pub record Stands (s : List ℕ) (k : ℕ) (st : List ℕ) (j a b : ℕ) : Type 0 where
   pub earlier : j ≤ k
@@ -82,8 +89,8 @@ itself-stands s k st at =
       earlier = le-refl k;
       order = omega arith;
       within = le-refl (length st);
-      at = rw (sub-zero (length st), take-length st) at;
-      after = λ ys l. ap (left s k) (rw (sub-zero (length st), drop-length st) (append-nil ys));
+      at = subst (At s k) (sym (mid-whole st)) at;
+      after = λ ys l. ap (left s k) (put-whole st ys);
     }
 
 module _ {s : List ℕ} {k : ℕ} {st : List ℕ} {j a b : ℕ} (p : Stands s k st j a b) where

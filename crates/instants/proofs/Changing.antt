@@ -11,23 +11,23 @@ use native.Mathlib.Decide.{decLt}
 use native.Mathlib.Omega.{arith}
 use borrow.Author.Tests.{ltb-true}
 use borrow.Rule.Slice.PartMut.{putMid, take-put, drop-put}
-use lib.Dec.{ltb, leb}
+use lib.Dec.{ltb}
 use lib.IntN.{ℤ}
 use lib.ListN.{getD, length, take, drop}
 use lib.Seq.{take-nil, take-take, drop-drop}
 use Rattle.prelude.specs.Search.{firstFrom, first as firstOf, any, all}
-use Rattle.prelude.proofs.Bools.{and-left, and-right, by-cases}
+use Rattle.prelude.proofs.Bools.{and-left, and-right}
 use Rattle.prelude.proofs.Searches.{all-elim}
 use Rattle.language.specs.Syntax.{parallel}
 use Rattle.language.specs.Steps.{present, change}
 use Rattle.layout.specs.Entries.{partOf, node}
 use Rattle.plan.specs.declared.forms.Front.{Front}
 use Rattle.residual.specs.Residual.{own}
-use Rattle.plan.specs.Forms.{gone, mover, watched, guarded, beside, formRows, formOf, fromSecond, frontOf, partIn}
+use Rattle.plan.specs.Forms.{gone, mover, watched, guarded, beside, formRows, formOf, frontOf, partIn}
 use Rattle.residual.specs.Frames.{around}
 use Rattle.residual.specs.Nodes.{left}
 use Rattle.residual.proofs.Sights.{signalAt, own-put, length-put, part-length, part-put}
-use Rattle.plan.proofs.Fronts.{kind-known}
+use Rattle.plan.proofs.Fronts.{kind-known, front-form}
 use Rattle.instants.proofs.Deciding.{Found, Part, rearOf, Rear, front-part, rear-part, ahead}
 
 -- what lies in the middle of a list lies in its front
@@ -94,12 +94,6 @@ module _ (s : List ℕ) (k len : ℕ) where
   abbrev kind : ℕ
   kind = partOf s (node s k) .kind
 
-  front-form : (tag : ℕ) → frontOf s k tag len .form ≡ formOf kind tag
-  unfolding frontOf
-  front-form tag =
-      by-cases (λ (f : Front). f .form ≡ formOf kind tag) (leb (formOf kind tag) mover) (λ _. refl)
-      (λ _. by-cases (λ (f : Front). f .form ≡ formOf kind tag) (fromSecond (formOf kind tag)) (λ _. refl) (λ _. refl))
-
   apart : kind ≡ 10 → (tag : ℕ) → tag ≤ 1 → Apart (frontOf s k tag len) (frontOf s k (1 - tag) len)
   unfolding frontOf
   apart e zero h = rw e (inl (le-refl _))
@@ -140,7 +134,7 @@ module _ {s : List ℕ} {values : List ℤ} {k : ℕ} {st : List ℕ} {f : Front
 
     parts-apart : Apart f g
     parts-apart =
-        let form = ap (λ (f : Front). f .form) (found .front) ∙ front-form s k (length st) (own st) in
+        let form = ap (λ (f : Front). f .form) (found .front) ∙ front-form s k (own st) (length st) in
         let known = kind-known s (found .valued .checked) k (found .at .known) in
         let kind = is-parallel (partOf s (node s k) .kind) (own st) known (omega (arith, form)) in
         rw (found .front, u) (apart s k (length st) kind (own st) (rear .byte))

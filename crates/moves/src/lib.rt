@@ -27,8 +27,8 @@ pub const SPENT: usize = 3;
 
 pub const FULL: usize = 4;
 
-// The steps and the lines that are counted. These structs are copied at each call: whole words leave no gaps in them, which
-// would be copied too.
+// The steps and the lines that are counted. What a call returns is copied from each call to the one above: whole words
+// leave no gaps, which would be copied too.
 pub struct Counts {
     pub steps: usize,
     pub lines: usize,

@@ -2,7 +2,7 @@
 -- a node tell it.
 -- Assumes nothing.
 use mathlib.Core.Path.{_≡_, refl, sym, ap, ap₂, _∙_}
-use mathlib.Core.Bool.{Bool, true, false, _&&_, _||_}
+use mathlib.Core.Bool.{Bool, true, false, _&&_, _||_, and-false, or-false}
 use mathlib.Core.List.{List}
 use Prim.Native.Nat.{ℕ, _<_}
 use native.Mathlib.Omega.{arith}
@@ -20,14 +20,6 @@ use Rattle.reach.specs.Checked.{Checked}
 use Rattle.tree.specs.Tree.{processOf}
 use Rattle.tree.proofs.Views.{NodeView, aNil, anAssign, aLet, anIf, aWhile, aSequence, anEmit, aLocal, aWatching, aWhen, aParallel, node-view, role}
 use Rattle.plan.specs.Plan.{watches, watchesBefore, watchesBy, KeepsNodes}
-
-and-none : (a : Bool) → (a && false) ≡ false
-and-none true = refl
-and-none false = refl
-
-or-none : (a : Bool) → (a || false) ≡ a
-or-none true = refl
-or-none false = refl
 
 -- a conjunction's second test counts where the first holds
 and-same : (a b c : Bool) → (a ≡ true → b ≡ c) → (a && b) ≡ (a && c)
@@ -67,7 +59,7 @@ module _ (s : List ℕ) (ok : Checked s) where
 
     -- nothing where the field is unused
     none : {j : ℕ} → j ≡ 0 → told j ≡ false
-    none e = ap told e ∙ ap (λ b. ltb 0 k && b) (first-view (node-view s ok 0 (omega arith))) ∙ and-none (ltb 0 k)
+    none e = ap told e ∙ ap (λ b. ltb 0 k && b) (first-view (node-view s ok 0 (omega arith))) ∙ and-false (ltb 0 k)
 
     empty : (n f : ℕ) → f < fieldCount → entry .kind ≡ n → roleIn nodeRows n f ≡ unused → fieldOf s (node s k) f .value ≡ 0
     empty n f l e u =
@@ -77,7 +69,7 @@ module _ (s : List ℕ) (ok : Checked s) where
 
     -- a first child alone, and two
     alone : {i j : ℕ} → i < k → j ≡ 0 → (told i || told j) ≡ watches (processOf s i)
-    alone {i} l e = ap₂ (λ a b. a || b) (child l) (none e) ∙ or-none (watches (processOf s i))
+    alone {i} l e = ap₂ (λ a b. a || b) (child l) (none e) ∙ or-false (watches (processOf s i))
 
     both : {i j : ℕ} → i < k → j < k → (told i || told j) ≡ (watches (processOf s i) || watches (processOf s j))
     both l m = ap₂ (λ a b. a || b) (child l) (child m)

@@ -16,8 +16,7 @@ use Rattle.language.specs.Syntax.{Names, Proc, nil, assign, letIn, ifThenElse, 
 use Rattle.language.specs.Scope.{withName, Scoped}
 use Rattle.language.specs.Steps.{held, present, suspended, change, instantStart}
 use Rattle.residual.specs.Residual.{residual}
-use Rattle.residual.proofs.Staying.{Still}
-use Rattle.residual.proofs.Staying as staying
+use Rattle.residual.proofs.Staying.{Still, residual-stays}
 use Rattle.moves.specs.Moves.{Running}
 use Rattle.runner.specs.Outcome.{outcome}
 use Rattle.instants.specs.Contracts.{isPresentSignal, someSignalPresent}
@@ -52,10 +51,10 @@ module _ (names : Names ℕ) (values : List ℤ) (none : someSignalPresent names
   scoped-still scope (when x p) w = scoped-still scope p (w .1)
   scoped-still scope (parallel p q) w = (scoped-still scope p (w .0), scoped-still scope q (w .1))
 
-  pub residual-stays :
+  pub idle-stays :
       (scope : ℕ → Bool) (p : Proc ℕ) → Scoped names scope p → (st : List ℕ) →
       change (residual p st) values ≡ residual p st
-  residual-stays scope p w = staying.residual-stays values p (scoped-still scope p w)
+  idle-stays scope p w = residual-stays values p (scoped-still scope p w)
 
   -- and so do the values
   abbrev starts : ℕ → ℤ

@@ -23,7 +23,7 @@ use Rattle.residual.specs.Nodes.{At}
 use Rattle.moves.specs.Contracts.{seenIn, runningAt}
 use Rattle.runner.specs.Contracts.{starting}
 use Rattle.runner.proofs.Whole.{Comes, counted, valued, comes-on, comes-ends, comes-changed, comes-idle, stops, gives, fresh}
-use Rattle.runner.proofs.Idling.{residual-stays, values-stay}
+use Rattle.runner.proofs.Idling.{idle-stays, values-stay}
 use Rattle.advance.proofs.Turning.{ended-waits}
 use Rattle.runner.proofs.run.Statement.{statement}
 use Rattle.runner.proofs.run.Tie as tie
@@ -158,7 +158,7 @@ returns-2 c =
     let w = ended-waits (r .ensures .0 .ends (λ e. omega (arith, e, r .ensures .1))) (c .before .before .before .before .before .before .before .if1 .left) in
     gives _ _ _ (starting s (now (a .values)) (now (a .log)))
     (stops _ _ _ (waits (c .before .before .before .before .before .before .before .if1 .left) w) (λ e. refl))
-    (comes-idle _ _ _ u w (residual-stays _ _ none _ _ scoped _) (values-stay _ _ none) refl)
+    (comes-idle _ _ _ u w (idle-stays _ _ none _ _ scoped _) (values-stay _ _ none) refl)
     (c .before .stop2 .ensures .0) (c .before .stop2 .ensures .1)
 
 begin-instant-requires : tie.Need-begin-instant-requires Inv-loop μ-loop
