@@ -14,10 +14,10 @@ use lib.Seq.{getD-take, getD-drop}
 use borrow.Author.Tests.{eqb-true}
 use Rattle.prelude.proofs.Bools.{and-left, and-right}
 use Rattle.language.specs.Syntax.{isNil}
-use Rattle.layout.specs.Entries.{partOf, node}
-use Rattle.plan.specs.declared.forms.Front.{Front}
-use Rattle.plan.specs.Forms.{gone, mover, frontOf, partIn}
-use Rattle.plan.proofs.Fronts.{front-form}
+use Rattle.program.specs.Program.{kindAt, aAt}
+use Rattle.program.specs.declared.forms.Front.{Front}
+use Rattle.program.specs.Forms.{gone, mover, frontOf, partIn}
+use Rattle.program.proofs.Fronts.{front-form}
 use Rattle.residual.specs.Residual.{own}
 use Rattle.residual.specs.Nodes.{left}
 use Rattle.residual.proofs.Sights.{Sight, sees-gone, sees-mover, sees-alone, sees-before, sees-watched, sees-guarded, sees-beside}
@@ -26,7 +26,7 @@ use Rattle.moves.specs.Contracts.{isWriter, IsWriter}
 use Rattle.advance.specs.Contracts.{ownNext, Follows, nothing, itself}
 use Rattle.moves.proofs.Movers.{writer-is}
 
-pub nil-seen : {s : List ℕ} {k : ℕ} {st : List ℕ} {f : Front} → Sight s k st f → f .form ≡ gone → isNil (left s k st) ≡ true
+pub nil-seen : {words : List ℕ} {k : ℕ} {st : List ℕ} {f : Front} → Sight words k st f → f .form ≡ gone → isNil (left words k st) ≡ true
 unfolding isNil
 nil-seen (sees-gone e r) q = ap isNil r
 nil-seen (sees-mover e o m) q = absurd (omega (arith, e, q))
@@ -40,9 +40,9 @@ nil-seen (sees-beside (inr e) o g p i j r) q = absurd (omega (arith, e, q))
 
 -- a node with no part in front
 pub own-follows :
-    {s : List ℕ} {k : ℕ} {st : List ℕ} {vs : List ℤ} {form why : ℕ} →
-    Found s vs k st (frontOf s k (own st) (length st)) → form ≡ frontOf s k (own st) (length st) .form → form ≤ mover →
-    why ≡ ownNext form → Follows s k st vs why (record { form = form; child = k; from = 0; to = length st })
+    {words : List ℕ} {k : ℕ} {st : List ℕ} {vs : List ℤ} {form why : ℕ} →
+    Found words vs k st (frontOf words k (own st) (length st)) → form ≡ frontOf words k (own st) (length st) .form → form ≤ mover →
+    why ≡ ownNext form → Follows words k st vs why (record { form = form; child = k; from = 0; to = length st })
 own-follows {k = k} {st = st} {form = form} found e l w =
     elim (ℕ-discrete form mover) [
       | yes q ↦
@@ -62,7 +62,7 @@ writes-both tag kind e = (writer-is kind (and-right (eqb tag 0) (isWriter kind) 
 
 -- one whose move is next has it as its form
 pub writer-moves :
-    (s : List ℕ) (k len : ℕ) (st : List ℕ) → IsWriter (partOf s (node s k) .kind) → own st ≡ 0 →
-    frontOf s k (own st) len .form ≡ mover
-writer-moves s k len st (inl e) z = front-form s k (own st) len ∙ rw (e, z)
-writer-moves s k len st (inr e) z = front-form s k (own st) len ∙ rw (e, z)
+    (words : List ℕ) (k len : ℕ) (st : List ℕ) → IsWriter (kindAt words k) → own st ≡ 0 →
+    frontOf words k (own st) len .form ≡ mover
+writer-moves words k len st (inl e) z = front-form words k (own st) len ∙ rw (e, z)
+writer-moves words k len st (inr e) z = front-form words k (own st) len ∙ rw (e, z)

@@ -11,7 +11,7 @@ use borrow.Rule.Slice.PartMut.{midOf, postOf, putMid, mid-len, put-same, take-pu
 use lib.IntN.{ℤ}
 use lib.ListN.{length, take, drop, length-drop, take-append-drop}
 use lib.Seq.{length-take-le, take-length, drop-length, take-append-le, drop-append-le, take-add, drop-drop}
-use Rattle.plan.specs.declared.forms.Front.{Front}
+use Rattle.program.specs.declared.forms.Front.{Front}
 use Rattle.residual.specs.Frames.{alone}
 use Rattle.residual.specs.Nodes.{Valued, At, left}
 use Rattle.residual.proofs.Sights.{Inside, Sight, sees-gone, sees-mover, sees-alone, sees-before, sees-watched, sees-guarded, sees-beside, length-put, part-put}
@@ -75,31 +75,31 @@ pub put-whole : (st ys : List ℕ) → putMid 0 (length st - 0) st ys ≡ ys
 put-whole st ys = rw (sub-zero (length st), drop-length st) (append-nil ys)
 
 -- Node j stands in the place of node k, which has the bytes st: its own are those from a up to b.
-pub record Stands (s : List ℕ) (k : ℕ) (st : List ℕ) (j a b : ℕ) : Type 0 where
+pub record Stands (words : List ℕ) (k : ℕ) (st : List ℕ) (j a b : ℕ) : Type 0 where
   pub earlier : j ≤ k
   pub order : a ≤ b
   pub within : b ≤ length st
-  pub at : At s j (midOf a (b - a) st)
-  pub after : (ys : List ℕ) → length ys ≡ b - a → left s k (putMid a (b - a) st ys) ≡ left s j ys
+  pub at : At words j (midOf a (b - a) st)
+  pub after : (ys : List ℕ) → length ys ≡ b - a → left words k (putMid a (b - a) st ys) ≡ left words j ys
 
 -- the node itself
-pub itself-stands : (s : List ℕ) (k : ℕ) (st : List ℕ) → At s k st → Stands s k st k 0 (length st)
-itself-stands s k st at =
+pub itself-stands : (words : List ℕ) (k : ℕ) (st : List ℕ) → At words k st → Stands words k st k 0 (length st)
+itself-stands words k st at =
     record {
       earlier = le-refl k;
       order = omega arith;
       within = le-refl (length st);
-      at = subst (At s k) (sym (mid-whole st)) at;
-      after = λ ys l. ap (left s k) (put-whole st ys);
+      at = subst (At words k) (sym (mid-whole st)) at;
+      after = λ ys l. ap (left words k) (put-whole st ys);
     }
 
-module _ {s : List ℕ} {k : ℕ} {st : List ℕ} {j a b : ℕ} (p : Stands s k st j a b) where
+module _ {words : List ℕ} {k : ℕ} {st : List ℕ} {j a b : ℕ} (p : Stands words k st j a b) where
   pub long : length (midOf a (b - a) st) ≡ b - a
   long = mid-len a b st (p .within)
 
   -- what is left of it is what is left of the node
-  pub same-left : left s k st ≡ left s j (midOf a (b - a) st)
-  same-left = ap (left s k) (sym (put-same a (b - a) st)) ∙ p .after (midOf a (b - a) st) long
+  pub same-left : left words k st ≡ left words j (midOf a (b - a) st)
+  same-left = ap (left words k) (sym (put-same a (b - a) st)) ∙ p .after (midOf a (b - a) st) long
 
   -- its own bytes have changed
   module _ (ys : List ℕ) (l : length ys ≡ b - a) where
@@ -109,31 +109,31 @@ module _ {s : List ℕ} {k : ℕ} {st : List ℕ} {j a b : ℕ} (p : Stands s k 
     put-back : midOf a (b - a) (putMid a (b - a) st ys) ≡ ys
     put-back = part-put (record { form = 0; child = 0; from = a; to = b }) st ys (p .order) (p .within) l
 
-    pub stands-on : Stands s k (putMid a (b - a) st ys) j a b
+    pub stands-on : Stands words k (putMid a (b - a) st ys) j a b
     stands-on =
         record {
           earlier = p .earlier;
           order = p .order;
           within = omega (arith, p .within, bytes-kept);
           at = record { known = p .at .known; whole = ap length put-back ∙ l ∙ sym long ∙ p .at .whole };
-          after = λ zs m. ap (left s k) (put-over a b st ys zs (p .order) (p .within) l) ∙ p .after zs m;
+          after = λ zs m. ap (left words k) (put-over a b st ys zs (p .order) (p .within) l) ∙ p .after zs m;
         }
 
     -- and its moves are those of the node
     pub advances-there :
         {seen : ℕ → Bool} {limit room : ℕ} {vs ws : List ℤ} {log log′ : List ℕ} {steps steps′ instant lines lines′ why : ℕ} →
-        Advances seen limit room (runningAt s j (midOf a (b - a) st) vs log steps instant lines)
-        (runningAt s j ys ws log′ steps′ instant lines′) why →
-        Advances seen limit room (runningAt s k st vs log steps instant lines)
-        (runningAt s k (putMid a (b - a) st ys) ws log′ steps′ instant lines′) why
+        Advances seen limit room (runningAt words j (midOf a (b - a) st) vs log steps instant lines)
+        (runningAt words j ys ws log′ steps′ instant lines′) why →
+        Advances seen limit room (runningAt words k st vs log steps instant lines)
+        (runningAt words k (putMid a (b - a) st ys) ws log′ steps′ instant lines′) why
     advances-there r = rw (same-left, p .after ys l) r
 
   -- its part that stands alone stands there
-  module _ {vs : List ℤ} (v : Valued s vs) {f : Front} (o : Alone s j (midOf a (b - a) st) f) where
-    found : Found s vs j (midOf a (b - a) st) f
+  module _ {vs : List ℤ} (v : Valued words vs) {f : Front} (o : Alone words j (midOf a (b - a) st) f) where
+    found : Found words vs j (midOf a (b - a) st) f
     found = record { valued = v; at = p .at; front = o .0 }
 
-    stays-alone : Sight s j (midOf a (b - a) st) f → Inside s j (midOf a (b - a) st) f alone
+    stays-alone : Sight words j (midOf a (b - a) st) f → Inside words j (midOf a (b - a) st) f alone
     stays-alone (sees-gone e r) = absurd (omega (arith, e, o .1 .0))
     stays-alone (sees-mover e z m) = absurd (omega (arith, e, o .1 .0))
     stays-alone (sees-alone e i) = i
@@ -146,9 +146,9 @@ module _ {s : List ℕ} {k : ℕ} {st : List ℕ} {j a b : ℕ} (p : Stands s k 
     pub part-falls : f .child < j
     part-falls = stays-alone (sees found) .earlier
 
-    pub part-stands : Stands s k st (f .child) (a + f .from) (a + f .to)
+    pub part-stands : Stands words k st (f .child) (a + f .from) (a + f .to)
     part-stands =
-        let i : Inside s j (midOf a (b - a) st) f alone = stays-alone (sees found) in
+        let i : Inside words j (midOf a (b - a) st) f alone = stays-alone (sees found) in
         let n : (a + f .to) - (a + f .from) ≡ f .to - f .from = omega arith in
         let h : f .from + (f .to - f .from) ≤ b - a = omega (arith, i .order, i .within, long) in
         let w : a + (b - a) ≤ length st = omega (arith, p .order, p .within) in
@@ -158,14 +158,14 @@ module _ {s : List ℕ} {k : ℕ} {st : List ℕ} {j a b : ℕ} (p : Stands s k 
           within = omega (arith, i .within, long, p .order, p .within);
           at =
               rw n
-              (subst (At s (f .child)) (mid-mid a (b - a) (f .from) (f .to - f .from) st h w)
+              (subst (At words (f .child)) (mid-mid a (b - a) (f .from) (f .to - f .from) st h w)
               (front-part found (o .1 .0) .at));
           after =
               rw n
               (λ ys l.
               let d : length (putMid (f .from) (f .to - f .from) (midOf a (b - a) st) ys) ≡ b - a =
               length-put (f .from) (f .to - f .from) (midOf a (b - a) st) ys (omega (arith, i .order, i .within)) l ∙ long in
-              ap (left s k) (put-mid a (b - a) (f .from) (f .to - f .from) st h w ys)
+              ap (left words k) (put-mid a (b - a) (f .from) (f .to - f .from) st h w ys)
               ∙ p .after (putMid (f .from) (f .to - f .from) (midOf a (b - a) st) ys) d
               ∙ i .after ys l);
         }
@@ -173,25 +173,25 @@ module _ {s : List ℕ} {k : ℕ} {st : List ℕ} {j a b : ℕ} (p : Stands s k 
 -- Node k has come from `at`, with the bytes st₀, to here, and node j stands in its place.
 abbrev pub Placed :
     (ℕ → Bool) → ℕ → Running ℕ → List ℕ → List ℕ → ℕ → List ℕ → List ℤ → List ℕ → Counts → ℕ → ℕ → ℕ → ℕ → Type 0
-Placed seen limit at st₀ s k st vs log d instant j a b =
-    Turn seen limit at (runningAt s k st vs log (d .steps) instant (d .lines)) st₀ st × Stands s k st j a b
+Placed seen limit at st₀ words k st vs log d instant j a b =
+    Turn seen limit at (runningAt words k st vs log (d .steps) instant (d .lines)) st₀ st × Stands words k st j a b
 
 -- its next turn: node j has made moves, or its part takes its place
-module _ {seen : ℕ → Bool} {limit : ℕ} {at : Running ℕ} {st₀ : List ℕ} {s : List ℕ} {k : ℕ} {st : List ℕ} {j a b : ℕ}
-    {vs : List ℤ} {log : List ℕ} {c : Counts} {instant : ℕ} (u : Placed seen limit at st₀ s k st vs log c instant j a b)
+module _ {seen : ℕ → Bool} {limit : ℕ} {at : Running ℕ} {st₀ : List ℕ} {words : List ℕ} {k : ℕ} {st : List ℕ} {j a b : ℕ}
+    {vs : List ℤ} {log : List ℕ} {c : Counts} {instant : ℕ} (u : Placed seen limit at st₀ words k st vs log c instant j a b)
     (ys : List ℕ) {ws : List ℤ} {log′ : List ℕ} {d : Counts} {j′ a′ b′ : ℕ} where
   pub placed-on :
       {why : ℕ} (l : length ys ≡ b - a) →
-      Advances seen limit (length log / 4) (runningAt s k st vs log (c .steps) instant (c .lines))
-      (runningAt s k (putMid a (b - a) st ys) ws log′ (d .steps) instant (d .lines)) why →
+      Advances seen limit (length log / 4) (runningAt words k st vs log (c .steps) instant (c .lines))
+      (runningAt words k (putMid a (b - a) st ys) ws log′ (d .steps) instant (d .lines)) why →
       length ws ≡ length vs → length log′ ≡ length log → j′ ≡ j → a′ ≡ a → b′ ≡ b →
-      Placed seen limit at st₀ s k (putMid a (b - a) st ys) ws log′ d instant j′ a′ b′
+      Placed seen limit at st₀ words k (putMid a (b - a) st ys) ws log′ d instant j′ a′ b′
   placed-on l r named logged x y z =
       (turns-on (u .0) r named logged (bytes-kept (u .1) ys l), rw (x, y, z) (stands-on (u .1) ys l))
 
   pub placed-inside :
-      {f : Front} → Valued s vs → Alone s j (midOf a (b - a) st) f → d ≡ c → ws ≡ vs → ys ≡ midOf a (b - a) st →
+      {f : Front} → Valued words vs → Alone words j (midOf a (b - a) st) f → d ≡ c → ws ≡ vs → ys ≡ midOf a (b - a) st →
       log′ ≡ log → j′ ≡ f .child → a′ ≡ a + f .from → b′ ≡ a + f .to →
-      Placed seen limit at st₀ s k (putMid a (b - a) st ys) ws log′ d instant j′ a′ b′
+      Placed seen limit at st₀ words k (putMid a (b - a) st ys) ws log′ d instant j′ a′ b′
   placed-inside v o t q e g x y z =
       rw (e, put-same a (b - a) st, t, q, g, x, y, z) (u .0, part-stands (u .1) v o)

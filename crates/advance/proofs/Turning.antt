@@ -13,9 +13,9 @@ use lib.IntN.{ℤ}
 use lib.ListN.{length}
 use Rattle.language.specs.Syntax.{Proc, isNil}
 use Rattle.language.specs.Steps.{present, suspended}
-use Rattle.plan.specs.declared.forms.Front.{Front}
+use Rattle.program.specs.declared.forms.Front.{Front}
 use Rattle.residual.specs.Residual.{own}
-use Rattle.plan.specs.Forms.{mover, guarded, frontOf, partIn}
+use Rattle.program.specs.Forms.{mover, guarded, frontOf, partIn}
 use Rattle.residual.specs.Frames.{Frame, alone, beforeThe, watchedBy, guardedBy, besideThe, Open}
 use Rattle.moves.specs.Moves.{Running, isGone, isSuspended, isSpent, isFull, Path, stays, Ends, gone, waits, spent, full}
 use Rattle.moves.specs.Contracts.{mostSteps, Counted, runningAt, Advances}
@@ -49,16 +49,16 @@ pub not-inside :
     {seen : ℕ → Bool} {limit room : ℕ} {at to : Running ℕ} {why : ℕ} → Advances seen limit room at to why → why ≡ inside → ⊥
 not-inside a e = omega (arith, e, ended-known (a .ends (λ z. omega (arith, z, e))))
 
-module _ (s : List ℕ) (k : ℕ) (st : List ℕ) (f : Front) (vs : List ℤ) where
+module _ (words : List ℕ) (k : ℕ) (st : List ℕ) (f : Front) (vs : List ℤ) where
   -- the part in front goes on in an open frame
   pub record Going : Type 0 where
     pub frame : Frame ℕ
-    pub inside : Inside s k st f frame
-    pub opened : Open frame (left s (f .child) (partIn f st)) vs
-    pub shown : (ys : List ℕ) (ws : List ℤ) → Open frame (left s (f .child) ys) ws → f .form ≡ guarded → present ws (signalAt s k) ≡ true
+    pub inside : Inside words k st f frame
+    pub opened : Open frame (left words (f .child) (partIn f st)) vs
+    pub shown : (ys : List ℕ) (ws : List ℤ) → Open frame (left words (f .child) ys) ws → f .form ≡ guarded → present ws (signalAt words k) ≡ true
 
   pub going :
-      Sight s k st f → mover < f .form → (f .form ≡ guarded → present vs (signalAt s k) ≡ true) → Going
+      Sight words k st f → mover < f .form → (f .form ≡ guarded → present vs (signalAt words k) ≡ true) → Going
   going (sees-gone e r) h p = absurd (omega (arith, e))
   going (sees-mover e o m) h p = absurd (omega (arith, e))
   going (sees-alone (inl e) i) h p =
@@ -68,15 +68,15 @@ module _ (s : List ℕ) (k : ℕ) (st : List ℕ) (f : Front) (vs : List ℤ) wh
   going (sees-before e o q i r) h p =
       record { frame = beforeThe q; inside = i; opened = tt; shown = λ ys ws o q. absurd (omega (arith, e, q)) }
   going (sees-watched e x i r) h p =
-      record { frame = watchedBy (signalAt s k); inside = i; opened = tt; shown = λ ys ws o q. absurd (omega (arith, e, q)) }
+      record { frame = watchedBy (signalAt words k); inside = i; opened = tt; shown = λ ys ws o q. absurd (omega (arith, e, q)) }
   going (sees-guarded e x a i r) h p =
-      record { frame = guardedBy (signalAt s k); inside = i; opened = (p e, a (partIn f st)); shown = λ ys ws o q. o .0 }
+      record { frame = guardedBy (signalAt words k); inside = i; opened = (p e, a (partIn f st)); shown = λ ys ws o q. o .0 }
   going (sees-beside (inl e) o g q i j r) h p =
-      record { frame = besideThe (left s (g .child) (partIn g st)); inside = i; opened = tt; shown = λ ys ws o q. absurd (omega (arith, e, q)) }
+      record { frame = besideThe (left words (g .child) (partIn g st)); inside = i; opened = tt; shown = λ ys ws o q. absurd (omega (arith, e, q)) }
   going (sees-beside (inr e) o g q i j r) h p =
-      record { frame = besideThe (left s (g .child) (partIn g st)); inside = i; opened = tt; shown = λ ys ws o q. absurd (omega (arith, e, q)) }
+      record { frame = besideThe (left words (g .child) (partIn g st)); inside = i; opened = tt; shown = λ ys ws o q. absurd (omega (arith, e, q)) }
 
-module _ {s : List ℕ} {k : ℕ} {st : List ℕ} {f : Front} {vs : List ℤ} (g : Going s k st f vs) where
+module _ {words : List ℕ} {k : ℕ} {st : List ℕ} {f : Front} {vs : List ℤ} (g : Going words k st f vs) where
   -- the bytes with those of the part put back
   abbrev put : List ℕ → List ℕ
   put ys = putMid (f .from) (f .to - f .from) st ys
@@ -93,35 +93,35 @@ module _ {s : List ℕ} {k : ℕ} {st : List ℕ} {f : Front} {vs : List ℤ} (g
     length-kept = length-put (f .from) (f .to - f .from) st ys (omega (arith, g .inside .order, g .inside .within)) l
 
     pub front-kept :
-        f ≡ frontOf s k (own st) (length st) → f ≡ frontOf s k (own (put ys)) (length (put ys))
+        f ≡ frontOf words k (own st) (length st) → f ≡ frontOf words k (own (put ys)) (length (put ys))
     front-kept e = rw (own-kept, length-kept) e
 
     module _ {seen : ℕ → Bool} {limit room : ℕ} {log : List ℕ} {steps instant lines : ℕ} {ws : List ℤ} {log′ : List ℕ}
         {steps′ lines′ why : ℕ}
         (r :
-        Advances seen limit room (runningAt s (f .child) (partIn f st) vs log steps instant lines)
-        (runningAt s (f .child) ys ws log′ steps′ instant lines′) why)
+        Advances seen limit room (runningAt words (f .child) (partIn f st) vs log steps instant lines)
+        (runningAt words (f .child) ys ws log′ steps′ instant lines′) why)
         (some : 0 < why) where
       goes :
-          Path seen limit room (runningAt s k st vs log steps instant lines)
-          (runningAt s k (put ys) ws log′ steps′ instant lines′)
+          Path seen limit room (runningAt words k st vs log steps instant lines)
+          (runningAt words k (put ys) ws log′ steps′ instant lines′)
       goes = rw (g .inside .whole, g .inside .after ys l) (lift (g .frame) (g .opened) (r .path))
 
-      stays-open : Open (g .frame) (left s (f .child) ys) ws
+      stays-open : Open (g .frame) (left words (f .child) ys) ws
       stays-open = open-path (g .frame) (g .opened) (r .path)
 
-      stopped : Ends seen limit room (runningAt s (f .child) ys ws log′ steps′ instant lines′) why
+      stopped : Ends seen limit room (runningAt words (f .child) ys ws log′ steps′ instant lines′) why
       stopped = r .ends (λ e. omega (arith, some, e))
 
-      halts : isSpent ≤ why → Ends seen limit room (runningAt s k (put ys) ws log′ steps′ instant lines′) why
+      halts : isSpent ≤ why → Ends seen limit room (runningAt words k (put ys) ws log′ steps′ instant lines′) why
       halts h = rw (g .inside .after ys l) (ends-around (g .frame) stays-open stopped h)
 
-      rests : mover < f .form → why < isSpent → Rests s k (put ys) ws f why
+      rests : mover < f .form → why < isSpent → Rests words k (put ys) ws f why
       rests m h =
           record {
             known = one-or-two why some h;
-            gone = λ e. ap (λ z. isNil (left s (f .child) z)) put-back ∙ ended-gone stopped e;
-            waits = λ e. ap (λ z. suspended (left s (f .child) z) ws) put-back ∙ ended-waits stopped e;
+            gone = λ e. ap (λ z. isNil (left words (f .child) z)) put-back ∙ ended-gone stopped e;
+            waits = λ e. ap (λ z. suspended (left words (f .child) z) ws) put-back ∙ ended-waits stopped e;
             part = m;
             shown = g .shown ys ws stays-open;
           }
@@ -165,10 +165,10 @@ module _ {seen : ℕ → Bool} {limit : ℕ} {at to : Running ℕ} {st₀ st : L
   pub counted : limit ≤ mostSteps → Counted limit (to .log) (to .steps) (to .lines)
   counted m = record { time = u .time; most = m; space = omega (arith, u .space, u .logged) }
 
-  pub valued : {s : List ℕ} → Valued s (at .values) → Valued s (to .values)
-  valued v = record { checked = v .checked; named = u .named ∙ v .named }
+  pub valued : {words : List ℕ} → Valued words (at .values) → Valued words (to .values)
+  valued v = record { runnable = v .runnable; named = u .named ∙ v .named }
 
-  pub at-node : {s : List ℕ} {k : ℕ} → At s k st₀ → At s k st
+  pub at-node : {words : List ℕ} {k : ℕ} → At words k st₀ → At words k st
   at-node a = record { known = a .known; whole = u .bytes ∙ a .whole }
 
   -- more moves
@@ -202,27 +202,27 @@ module _ {seen : ℕ → Bool} {limit : ℕ} {at to : Running ℕ} {st₀ st : L
         }
 
 -- its part in front has been advanced
-module _ {seen : ℕ → Bool} {limit : ℕ} {at : Running ℕ} {st₀ : List ℕ} {s : List ℕ} {k : ℕ} {st : List ℕ} {f : Front}
+module _ {seen : ℕ → Bool} {limit : ℕ} {at : Running ℕ} {st₀ : List ℕ} {words : List ℕ} {k : ℕ} {st : List ℕ} {f : Front}
     {vs : List ℤ} {log : List ℕ} {steps instant lines : ℕ}
-    (g : Going s k st f vs) (u : Turn seen limit at (runningAt s k st vs log steps instant lines) st₀ st)
+    (g : Going words k st f vs) (u : Turn seen limit at (runningAt words k st vs log steps instant lines) st₀ st)
     (ys : List ℕ) (l : length ys ≡ f .to - f .from) {ws : List ℤ} {log′ : List ℕ} {steps′ lines′ why : ℕ}
     (r :
-    Advances seen limit (length log / 4) (runningAt s (f .child) (partIn f st) vs log steps instant lines)
-    (runningAt s (f .child) ys ws log′ steps′ instant lines′) why × (0 < why)) where
+    Advances seen limit (length log / 4) (runningAt words (f .child) (partIn f st) vs log steps instant lines)
+    (runningAt words (f .child) ys ws log′ steps′ instant lines′) why × (0 < why)) where
   here-too :
-      Advances seen limit (length (at .log) / 4) (runningAt s (f .child) (partIn f st) vs log steps instant lines)
-      (runningAt s (f .child) ys ws log′ steps′ instant lines′) why
+      Advances seen limit (length (at .log) / 4) (runningAt words (f .child) (partIn f st) vs log steps instant lines)
+      (runningAt words (f .child) ys ws log′ steps′ instant lines′) why
   here-too =
       subst
       (λ n.
-      Advances seen limit (n / 4) (runningAt s (f .child) (partIn f st) vs log steps instant lines)
-      (runningAt s (f .child) ys ws log′ steps′ instant lines′) why)
+      Advances seen limit (n / 4) (runningAt words (f .child) (partIn f st) vs log steps instant lines)
+      (runningAt words (f .child) ys ws log′ steps′ instant lines′) why)
       (u .logged)
       (r .0)
 
   pub part-turn :
       length ws ≡ length vs → length log′ ≡ length log →
-      Turn seen limit at (runningAt s k (put g ys) ws log′ steps′ instant lines′) st₀ (put g ys)
+      Turn seen limit at (runningAt words k (put g ys) ws log′ steps′ instant lines′) st₀ (put g ys)
   part-turn named logged =
       record {
         path = joined (u .path) (goes g ys l here-too (r .1));
@@ -236,7 +236,7 @@ module _ {seen : ℕ → Bool} {limit : ℕ} {at : Running ℕ} {st₀ : List �
 
   pub part-ends :
       isSpent ≤ why →
-      Advances seen limit (length (at .log) / 4) at (runningAt s k (put g ys) ws log′ steps′ instant lines′) why
+      Advances seen limit (length (at .log) / 4) at (runningAt words k (put g ys) ws log′ steps′ instant lines′) why
   part-ends h =
       record {
         path = joined (u .path) (goes g ys l here-too (r .1));
@@ -247,7 +247,7 @@ module _ {seen : ℕ → Bool} {limit : ℕ} {at : Running ℕ} {st₀ : List �
         ends = λ _. halts g ys l here-too (r .1) h;
       }
 
-  pub part-rests : mover < f .form → why < isSpent → Rests s k (put g ys) ws f why
+  pub part-rests : mover < f .form → why < isSpent → Rests words k (put g ys) ws f why
   part-rests = rests g ys l here-too (r .1)
 
 -- what is left of a node settles

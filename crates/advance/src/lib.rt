@@ -1,26 +1,21 @@
 // A node is run as far as it goes within the instant: what comes next is found, the node or its part in front is advanced,
 // and the node is left, or it goes on.
 use instants::suspension;
-use layout::Script;
 use moves::Counts;
 use moves::Done;
 use moves::Limits;
-use plan::forms;
-use plan::forms::Front;
+use program::MAX_NAMES;
+use program::WORDS;
+use program::forms;
+use program::forms::Front;
 ghost use mathlib.Core.Path.{_≡_};
 ghost use mathlib.Core.Bool.{true, _&&_};
 ghost use lib.Dec.{eqb};
-ghost use Prim.Native.Nat.{_/_, _≤_, _<_};
-ghost use lib.ListN.{length};
-ghost use Rattle.residual.specs.Residual.{own};
-ghost use Rattle.plan.specs.Forms.{mover, frontOf};
-ghost use Rattle.plan.specs.Plan.{KeepsPlan};
-ghost use Rattle.layout.specs.Layout.{nodeCount};
-ghost use Rattle.layout.specs.Entries.{partOf, node};
-ghost use Rattle.reach.specs.Checked.{Checked};
-ghost use Rattle.moves.specs.Contracts.{mostSteps, Counted, seenIn, isWriter, IsWriter, runningAt, Advances};
-ghost use Rattle.residual.specs.Nodes.{Valued, At, left};
-ghost use Rattle.advance.specs.Contracts.{inside, ownNext, Alone, Follows, doneAt, Byte, byteAfter, Rests, Settles};
+ghost use Prim.Native.Nat.{_<_};
+ghost use Rattle.program.specs.Program.{mostNodes, kindAt};
+ghost use Rattle.moves.specs.Contracts.{isWriter, IsWriter, CanMove, Makes};
+ghost use Rattle.residual.specs.Nodes.{NodeIn};
+ghost use Rattle.advance.specs.Contracts.{ownNext, Follows, Byte, byteAfter, CanLeave, Leaves, CanMoveFront, TurnMade};
 
 // What comes next at a node, beside that it is nil or suspended: the part that stands alone in its place; its part in front,
 // which is to be advanced; or one move, its own or that of its part in front, which needs no further call.
@@ -42,14 +37,14 @@ pub struct Turned {
 }
 
 // Node k, whose own byte is `tag`, is an assignment or an emission, and that is next.
-fn writes_next(s: &&[u8], plan: &[usize; Script::MAX_PARTS], k: usize, tag: u8) -> bool
-    requires { ⌜ Checked (now (now s)) × (KeepsPlan (now (now s)) (now plan) × (k < nodeCount (now (now s)))) ⌝ }
-    ensures { λ r. ⌜ r ≡ (eqb tag 0 && isWriter (partOf (now (now (s .entry))) (node (now (now (s .entry))) k) .kind)) ⌝ }
+fn writes_next(program: &[usize; WORDS], k: usize, tag: u8) -> bool
+    requires { ⌜ k < mostNodes ⌝ }
+    ensures { λ r. ⌜ r ≡ (eqb tag 0 && isWriter (kindAt (now (program .entry)) k)) ⌝ }
 {
     if tag != 0 {
         return false;
     }
-    moves::is_writer(plan::kind_at(s, plan, k))
+    moves::is_writer(program::kind_at(program, k))
 }
 
 // What comes next at a node with no part in front: it is nil, or its own move is next.
@@ -63,18 +58,12 @@ fn own_next(form: u8) -> usize
 }
 
 // What comes next at node k. Where its own move does, the node itself counts as the part in front.
-fn find_next(
-    s: &&[u8],
-    plan: &[usize; Script::MAX_PARTS],
-    values: &[i32],
-    state: &[u8],
-    k: usize,
-) -> Next
-    requires { ⌜ Valued (now (now s)) (now values) × (KeepsPlan (now (now s)) (now plan) × At (now (now s)) k (now state)) ⌝ }
-    ensures { λ r. ⌜ Follows (now (now (s .entry))) k (now (state .entry)) (now (values .entry)) (r .why) (r .front) ⌝ }
+fn find_next(program: &[usize; WORDS], values: &[i32], state: &[u8], k: usize) -> Next
+    requires { ⌜ NodeIn (now program) k (now state) (now values) ⌝ }
+    ensures { λ r. ⌜ Follows (now (program .entry)) k (now (state .entry)) (now (values .entry)) (r .why) (r .front) ⌝ }
 {
     let tag = state[0];
-    let form = forms::form_at(s, plan, k, tag);
+    let form = forms::form_at(program, k, tag);
     if form <= forms::MOVER {
         let why = own_next(form);
         let front = Front {
@@ -85,13 +74,13 @@ fn find_next(
         };
         return Next { why, front };
     }
-    let front = forms::find_front(s, plan, k, tag, state.len());
-    if form == forms::GUARDED && !evaluation::signal_is_present(s, plan, values, k) {
+    let front = forms::find_front(program, k, tag, state.len());
+    if form == forms::GUARDED && !evaluation::signal_is_present(program, values, k) {
         let why = moves::SUSPENDED;
         return Next { why, front };
     }
     let from = front.from;
-    if writes_next(s, plan, front.child, state[from]) {
+    if writes_next(program, front.child, state[from]) {
         let why = MOVING;
         return Next { why, front };
     }
@@ -123,8 +112,7 @@ fn byte_after(form: u8, why: usize, tag: u8) -> u8
 
 // The part in front of node k rests: it is nil, or it is suspended. Or the node itself has moved, and that is all.
 fn leave(
-    s: &&[u8],
-    plan: &[usize; Script::MAX_PARTS],
+    program: &[usize; WORDS],
     values: &[i32],
     state: &mut [u8],
     limits: Limits,
@@ -133,15 +121,14 @@ fn leave(
     f: Front,
     why: usize,
 ) -> Done
-    requires { ⌜ Valued (now (now s)) (now values) × (KeepsPlan (now (now s)) (now plan) × (At (now (now s)) k (now state) × ((at .steps ≤ limits .steps) × (limits .steps ≤ mostSteps)))) ⌝ }
-    requires { ⌜ (mover < f .form → (f ≡ frontOf (now (now s)) k (own (now state)) (length (now state))) × Rests (now (now s)) k (now state) (now values) f why) ⌝ }
-    ensures { λ r. ⌜ (f .form ≤ mover → (r ≡ doneAt why (at .steps) (at .lines)) × (now (state .exit) ≡ now (state .entry))) × (mover < f .form → Settles (limits .steps) (left (now (now (s .entry))) k (now (state .entry))) (now (values .entry)) (left (now (now (s .entry))) k (now (state .exit))) (at .steps) (at .lines) why (r .why) (r .at .steps) (r .at .lines)) ⌝ }
+    requires { ⌜ CanLeave (now program) k (now state) (now values) (limits .steps) at f why ⌝ }
+    ensures { λ r. ⌜ Leaves (now (program .entry)) k (now (state .entry)) (now (values .entry)) (limits .steps) at f why (now (state .exit)) r ⌝ }
 {
     let form = f.form;
     if form < forms::BEFORE {
         return Done { why, at };
     }
-    if why == moves::SUSPENDED && suspension::rear_waits(s, plan, values, state, k, form) {
+    if why == moves::SUSPENDED && suspension::rear_waits(program, values, state, k, form) {
         return Done { why, at };
     }
     if limits.steps <= at.steps {
@@ -162,9 +149,8 @@ fn leave(
 
 // One turn of node k: what comes next is found, and made. Where its part stands alone nothing is made: it is that part's turn.
 fn turn(
-    s: &&[u8],
-    plan: &[usize; Script::MAX_PARTS],
-    seen: &[u8; Script::MAX_NAMES],
+    program: &[usize; WORDS],
+    seen: &[u8; MAX_NAMES],
     values: &mut [i32],
     state: &mut [u8],
     log: &mut [u32],
@@ -172,11 +158,10 @@ fn turn(
     at: Counts,
     k: usize,
 ) -> Turned
-    requires { ⌜ Valued (now (now s)) (now values) × (KeepsPlan (now (now s)) (now plan) × (At (now (now s)) k (now state) × Counted (limits .steps) (now log) (at .steps) (at .lines))) ⌝ }
-    ensures { λ r. ⌜ (r .done .why ≡ inside → Alone (now (now (s .entry))) k (now (state .entry)) (r .front) × ((r .done .at ≡ at) × ((now (values .exit) ≡ now (values .entry)) × ((now (state .exit) ≡ now (state .entry)) × (now (log .exit) ≡ now (log .entry)))))) ⌝ }
-    ensures { λ r. ⌜ ((r .done .why ≡ inside → ⊥) → Advances (seenIn (now (seen .entry))) (limits .steps) (length (now (log .entry)) / 4) (runningAt (now (now (s .entry))) k (now (state .entry)) (now (values .entry)) (now (log .entry)) (at .steps) (limits .instant) (at .lines)) (runningAt (now (now (s .entry))) k (now (state .exit)) (now (values .exit)) (now (log .exit)) (r .done .at .steps) (limits .instant) (r .done .at .lines)) (r .done .why)) ⌝ }
+    requires { ⌜ CanMove (now program) k (now state) (now values) (now log) (limits .steps) at ⌝ }
+    ensures { λ r. ⌜ TurnMade (now (program .entry)) (now (seen .entry)) limits k (now (state .entry)) (now (values .entry)) (now (log .entry)) at (now (state .exit)) (now (values .exit)) (now (log .exit)) r ⌝ }
 {
-    let next = find_next(s, plan, values, state, k);
+    let next = find_next(program, values, state, k);
     let f = next.front;
     if next.why <= INSIDE {
         return Turned {
@@ -189,8 +174,7 @@ fn turn(
     let part = &mut state[from..to];
     let moving = next.why == MOVING;
     let r = advance_front(
-        s,
-        plan,
+        program,
         seen,
         values,
         part,
@@ -204,15 +188,14 @@ fn turn(
         return Turned { done: r, front: f };
     }
     let reached = r.at;
-    let l = leave(s, plan, values, state, limits, reached, k, f, r.why);
+    let l = leave(program, values, state, limits, reached, k, f, r.why);
     Turned { done: l, front: f }
 }
 
 // Runs node k as far as it goes within the instant. A part that stands alone takes its place, with no further call.
 pub fn advance(
-    s: &&[u8],
-    plan: &[usize; Script::MAX_PARTS],
-    seen: &[u8; Script::MAX_NAMES],
+    program: &[usize; WORDS],
+    seen: &[u8; MAX_NAMES],
     values: &mut [i32],
     state: &mut [u8],
     log: &mut [u32],
@@ -220,8 +203,8 @@ pub fn advance(
     at: Counts,
     k: usize,
 ) -> Done
-    requires { ⌜ Valued (now (now s)) (now values) × (KeepsPlan (now (now s)) (now plan) × (At (now (now s)) k (now state) × Counted (limits .steps) (now log) (at .steps) (at .lines))) ⌝ }
-    ensures { λ r. ⌜ Advances (seenIn (now (seen .entry))) (limits .steps) (length (now (log .entry)) / 4) (runningAt (now (now (s .entry))) k (now (state .entry)) (now (values .entry)) (now (log .entry)) (at .steps) (limits .instant) (at .lines)) (runningAt (now (now (s .entry))) k (now (state .exit)) (now (values .exit)) (now (log .exit)) (r .at .steps) (limits .instant) (r .at .lines)) (r .why) × (0 < r .why) ⌝ }
+    requires { ⌜ CanMove (now program) k (now state) (now values) (now log) (limits .steps) at ⌝ }
+    ensures { λ r. ⌜ Makes (now (program .entry)) (now (seen .entry)) limits k (now (state .entry)) (now (values .entry)) (now (log .entry)) at (now (state .exit)) (now (values .exit)) (now (log .exit)) r (Unit {0}) ⌝ }
 {
     let mut now = at;
     let mut node = k;
@@ -229,7 +212,7 @@ pub fn advance(
     let mut end = state.len();
     loop {
         let part = &mut state[start..end];
-        let r = turn(s, plan, seen, values, part, log, limits, now, node);
+        let r = turn(program, seen, values, part, log, limits, now, node);
         let d = r.done;
         if d.why == INSIDE {
             let f = r.front;
@@ -245,9 +228,8 @@ pub fn advance(
 
 // The part in front, node k: one move, or as far as it goes.
 fn advance_front(
-    s: &&[u8],
-    plan: &[usize; Script::MAX_PARTS],
-    seen: &[u8; Script::MAX_NAMES],
+    program: &[usize; WORDS],
+    seen: &[u8; MAX_NAMES],
     values: &mut [i32],
     state: &mut [u8],
     log: &mut [u32],
@@ -256,12 +238,11 @@ fn advance_front(
     k: usize,
     moving: bool,
 ) -> Done
-    requires { ⌜ Valued (now (now s)) (now values) × (KeepsPlan (now (now s)) (now plan) × (At (now (now s)) k (now state) × Counted (limits .steps) (now log) (at .steps) (at .lines))) ⌝ }
-    requires { ⌜ (moving ≡ true → frontOf (now (now s)) k (own (now state)) (length (now state)) .form ≡ mover) ⌝ }
-    ensures { λ r. ⌜ Advances (seenIn (now (seen .entry))) (limits .steps) (length (now (log .entry)) / 4) (runningAt (now (now (s .entry))) k (now (state .entry)) (now (values .entry)) (now (log .entry)) (at .steps) (limits .instant) (at .lines)) (runningAt (now (now (s .entry))) k (now (state .exit)) (now (values .exit)) (now (log .exit)) (r .at .steps) (limits .instant) (r .at .lines)) (r .why) × ((moving ≡ true → IsWriter (partOf (now (now (s .entry))) (node (now (now (s .entry))) k) .kind)) → 0 < r .why) ⌝ }
+    requires { ⌜ CanMoveFront (now program) k (now state) (now values) (now log) (limits .steps) at moving ⌝ }
+    ensures { λ r. ⌜ Makes (now (program .entry)) (now (seen .entry)) limits k (now (state .entry)) (now (values .entry)) (now (log .entry)) at (now (state .exit)) (now (values .exit)) (now (log .exit)) r (moving ≡ true → IsWriter (kindAt (now (program .entry)) k)) ⌝ }
 {
     if moving {
-        return moves::move_own(s, plan, seen, values, state, log, limits, at, k);
+        return moves::move_own(program, seen, values, state, log, limits, at, k);
     }
-    advance(s, plan, seen, values, state, log, limits, at, k)
+    advance(program, seen, values, state, log, limits, at, k)
 }

@@ -2,6 +2,7 @@
 use book::Book;
 use layout::Script;
 use prelude::Refusal;
+use program::MAX_NAMES;
 ghost use mathlib.Core.Path.{_≡_};
 ghost use Prim.Native.Nat.{_≤_, _<_};
 ghost use lib.ListN.{length};
@@ -104,11 +105,11 @@ pub fn call_refusal(
 pub const MAX_STEPS: u32 = 1000000;
 
 // For each name 1 if the reader sees it, else 0.
-pub fn find_seen(s: &[u8], c: Script, b: Book, reader: usize) -> [u8; Script::MAX_NAMES]
+pub fn find_seen(s: &[u8], c: Script, b: Book, reader: usize) -> [u8; MAX_NAMES]
     requires { ⌜ Laid (now s) c × (Levelled (now s) (b .count) × ((b .count ≤ mostLevels) × (reader < b .count))) ⌝ }
     ensures { λ r. ⌜ Sees b (now (s .entry)) reader r ⌝ }
 {
-    let mut seen = [0u8; Script::MAX_NAMES];
+    let mut seen = [0u8; MAX_NAMES];
     let n = c.names;
     let mut x: usize = 0;
     while x < n {

@@ -4,7 +4,6 @@ use mathlib.Core.Path.{_≡_, sym, ap, _∙_, subst}
 use mathlib.Core.Bool.{true, false}
 use mathlib.Core.List.{List}
 use Prim.Native.Nat.{ℕ, _/_, _≤_, _<_}
-use native.Mathlib.Nat.{sub-zero, zero-add}
 use native.Mathlib.Omega.{arith}
 use lib.IntN.{ℤ}
 use lib.ListN.{length}
@@ -12,21 +11,21 @@ use Rattle.prelude.specs.declared.Refusal.{Refusal}
 use Rattle.prelude.specs.Refusals.{passes}
 use Rattle.book.specs.LevelBook.{count}
 use Rattle.lattice.specs.Lattice.{bookLattice}
-use Rattle.language.specs.Calls.{starts, readable}
+use Rattle.language.specs.Calls.{starts, readable, run}
+use Rattle.language.specs.Paths.{IsRun}
 use Rattle.language.proofs.Theorems.{runs-agree}
 use Rattle.layout.specs.Layout.{nameCount}
 use Rattle.reach.specs.Checked.{Checked}
 use Rattle.tree.specs.Tree.{namesOf, tree}
 use Rattle.runner.specs.declared.Ran.{Ran}
-use Rattle.runner.specs.Outcome.{outcome, recorded}
 use Rattle.moves.specs.Contracts.{seenIn}
-use Rattle.runner.specs.Contracts.{starting, Gives}
 use Rattle.runner.proofs.Outcomes.{written-is}
 use Rattle.checker.specs.Refusals.{checkRefusal}
 use Rattle.call.specs.Refusals.{callRefusal, runRefusal}
 use Rattle.call.proofs.Seen.{run-seen, run-few}
 use Rattle.answers.specs.Reports.{reportBy}
 use Rattle.engine.specs.Answers.{runOf, Left, leftBy, refusedLeft, left}
+use Rattle.engine.specs.Contracts.{Returns}
 
 module _ (b s : List ℕ) (reader : ℕ) (values : List ℤ) (limit : ℕ) (log : List ℕ) where
   -- a refused call
@@ -49,21 +48,21 @@ module _ (b s : List ℕ) (reader : ℕ) (values : List ℤ) (limit : ℕ) (log 
   -- a call that is not refused: what the runner leaves
   module _ (ok : Checked s) (seen : List ℕ)
       (agree : (x : ℕ) → x < nameCount s → seenIn seen x ≡ readable (bookLattice b) (namesOf s) reader x) where
-    outcome-is :
-        outcome (namesOf s) (seenIn seen) limit (length log / 4) (starting s values log)
-        ≡ recorded 0 log (runOf b s reader values limit log)
-    unfolding outcome
-    outcome-is =
-        rw (sub-zero limit, sub-zero (length log / 4))
-        (ap (recorded 0 log) (run-seen s ok (seenIn seen) _ agree limit (length log / 4) values))
-
     module _ {r : Ran} {values′ : List ℤ} {log′ : List ℕ}
         (g :
-        Gives (outcome (namesOf s) (seenIn seen) limit (length log / 4) (starting s values log)) r values′ log′) where
-      given : Gives (recorded 0 log (runOf b s reader values limit log)) r values′ log′
-      given = subst (λ o. Gives o r values′ log′) outcome-is g
+        Returns (run (namesOf s) (seenIn seen) limit (length log / 4) (starts (tree s) values)) log r values′ log′) where
+      given : Returns (runOf b s reader values limit log) log r values′ log′
+      given =
+          subst (λ o. Returns o log r values′ log′)
+          (run-seen s ok (seenIn seen) _ agree limit (length log / 4) values) g
 
-      pub few-lines : r .lines ≤ limit
+      path : IsRun (namesOf s) (readable (bookLattice b) (namesOf s) reader) limit (length log / 4) (starts (tree s) values) (runOf b s reader values limit log)
+      path = runs-agree (namesOf s) (readable (bookLattice b) (namesOf s) reader) limit (length log / 4) (starts (tree s) values) .path
+
+      pub few-steps : r .at .steps ≤ limit
+      few-steps = omega (arith, given .steps, path .steps, path .inLimit)
+
+      pub few-lines : r .at .lines ≤ limit
       few-lines =
           omega
           (arith, given .lines, run-few (namesOf s) (readable (bookLattice b) (namesOf s) reader) limit (length log / 4) (starts (tree s) values))
@@ -73,7 +72,7 @@ module _ (b s : List ℕ) (reader : ℕ) (values : List ℤ) (limit : ℕ) (log 
         unfolding left
         is = sym (rw p)
 
-        pub report-is : reportBy (r .ending) (r .steps) (r .instants) (r .lines) ≡ left b s reader values limit log .report
+        pub report-is : reportBy (r .ending) (r .at .steps) (r .at .instants) (r .at .lines) ≡ left b s reader values limit log .report
         report-is =
             (λ i.
             record {
@@ -82,7 +81,7 @@ module _ (b s : List ℕ) (reader : ℕ) (values : List ℤ) (limit : ℕ) (log 
               ending = given .ending i;
               steps = given .steps i;
               instants = given .instants i;
-              lines = (given .lines ∙ zero-add (length (runOf b s reader values limit log .lines))) i;
+              lines = given .lines i;
             })
             ∙ ap (λ (l : Left). l .report) is
 
@@ -93,6 +92,5 @@ module _ (b s : List ℕ) (reader : ℕ) (values : List ℤ) (limit : ℕ) (log 
         log-is =
             given .logged
             ∙ written-is (runOf b s reader values limit log .lines) log
-            (omega
-            (arith, runs-agree (namesOf s) (readable (bookLattice b) (namesOf s) reader) limit (length log / 4) (starts (tree s) values) .path .inRoom))
+            (omega (arith, path .inRoom))
             ∙ ap (λ (l : Left). l .log) is

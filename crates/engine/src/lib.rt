@@ -6,17 +6,20 @@ use answers::Verdict;
 use answers::refused;
 use answers::report_of;
 use layout::Script;
+use program::MAX_NAMES;
 use runner::Ran;
+use runner::Tally;
 ghost use mathlib.Core.Path.{_≡_};
 ghost use Prim.Native.Nat.{_/_, _≤_};
 ghost use lib.ListN.{length};
-ghost use Rattle.layout.specs.Layout.{Laid};
-ghost use Rattle.tree.specs.Tree.{namesOf};
-ghost use Rattle.runner.specs.Outcome.{outcome};
+ghost use Rattle.layout.specs.Layout.{nameCount, Laid};
+ghost use Rattle.reach.specs.Checked.{Checked};
+ghost use Rattle.language.specs.Calls.{starts};
+ghost use Rattle.language.specs.Calls as calls;
+ghost use Rattle.tree.specs.Tree.{namesOf, tree};
 ghost use Rattle.moves.specs.Contracts.{mostSteps, seenIn};
-ghost use Rattle.residual.specs.Nodes.{Valued};
-ghost use Rattle.runner.specs.Contracts.{starting, Gives};
 ghost use Rattle.engine.specs.Answers.{verdict, left};
+ghost use Rattle.engine.specs.Contracts.{Returns};
 
 // Checks a script under a book.
 pub fn check(book: &[u8], script: &[u8]) -> Verdict
@@ -31,22 +34,31 @@ pub fn check(book: &[u8], script: &[u8]) -> Verdict
     }
 }
 
-// Runs a script that no row of the table refuses; `seen` has 1 for each name that the reader sees.
+// Runs a script that no row of the table refuses, from its start; `seen` has 1 for each name that the reader sees. Owned
+// names are then 0.
 fn run_seen(
     s: &[u8],
     c: Script,
-    seen: [u8; Script::MAX_NAMES],
+    seen: [u8; MAX_NAMES],
     values: &mut [i32],
     limit: u32,
     log: &mut [u32],
 ) -> Ran
-    requires { ⌜ Laid (now s) c × (Valued (now s) (now values) × (limit ≤ mostSteps)) ⌝ }
-    ensures { λ r. ⌜ Gives (outcome (namesOf (now (s .entry))) (seenIn seen) limit (length (now (log .entry)) / 4) (starting (now (s .entry)) (now (values .entry)) (now (log .entry)))) r (now (values .exit)) (now (log .exit)) ⌝ }
+    requires { ⌜ Laid (now s) c × (Checked (now s) × ((length (now values) ≡ nameCount (now s)) × (limit ≤ mostSteps))) ⌝ }
+    ensures { λ r. ⌜ Returns (calls.run (namesOf (now (s .entry))) (seenIn seen) limit (length (now (log .entry)) / 4) (starts (tree (now (s .entry))) (now (values .entry)))) (now (log .entry)) r (now (values .exit)) (now (log .exit)) ⌝ }
 {
-    let plan = plan::find_plan(s, c);
+    let program = plan::find_plan(s, c);
     let mut state = [0u8; Script::MAX_NODES];
     let n = c.nodes;
-    runner::run(s, c, &plan, &seen, values, &mut state[0..n], log, limit)
+    let from = Tally {
+        steps: 0,
+        instants: 0,
+        lines: 0,
+    };
+    let most = limit as usize;
+    let r = runner::run(&program, &seen, values, &mut state[0..n], log, most, from);
+    instants::clear_owned(&program, values);
+    r
 }
 
 // Runs a script under a book for a reader, from these values, for at most `limit` steps. A refused call changes nothing.
@@ -73,5 +85,6 @@ pub fn run(
     }
     let seen = call::find_seen(script, p.script, p.book, reader as usize);
     let r = run_seen(script, p.script, seen, values, limit, log);
-    report_of(r.ending, r.steps, r.instants, r.lines)
+    let t = r.at;
+    report_of(r.ending, t.steps as u32, t.instants, t.lines)
 }

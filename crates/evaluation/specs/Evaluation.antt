@@ -9,12 +9,10 @@ use lib.ListN.{getD, length}
 use mir.Syntax.{w32}
 use mir.Val.{toZ}
 use Rattle.language.specs.Syntax.{Operator, add, subtract, multiply, divide, less, equal}
-use Rattle.language.specs.Steps.{held, value, apply}
-use Rattle.layout.specs.Layout.{nameCount, expressionCount}
-use Rattle.tree.specs.Tree.{expressionOf}
-use Rattle.reach.specs.Checked.{Checked}
+use Rattle.language.specs.Steps.{held, apply}
 use Rattle.packing.specs.Packing.{kindIn, constantIn, operandIn}
-use Rattle.plan.specs.Plan.{KeepsPlan}
+use Rattle.program.specs.Program.{nameCount, expressionCount}
+use Rattle.program.specs.Runnable.{Runnable}
 
 -- the operators of expressions, by their kinds
 abbrev pub operatorOf : ℕ → Operator
@@ -27,15 +25,8 @@ applied kind a b = apply (operatorOf kind) a b
 abbrev pub leafValue : List ℤ → ℕ → ℤ
 leafValue values w = cond (eqb (kindIn w) 0) (toZ w32 (constantIn w)) (held values (operandIn w))
 
--- expression e of a checked script that has this plan, with a value for each name
-pub record Evaluable (plan : List ℕ) (values : List ℤ) (e : ℕ) : Type 0 where
-  pub script : List ℕ
-  pub checked : Checked script
-  pub kept : KeepsPlan script plan
-  pub named : length values ≡ nameCount script
-  pub known : e < expressionCount script
-
--- v is the value of expression e, whatever checked script has this plan
-abbrev pub IsValue : List ℕ → List ℤ → ℕ → ℤ → Type 0
-IsValue plan values e v =
-    (s : List ℕ) → Checked s → KeepsPlan s plan → e < expressionCount s → v ≡ value (expressionOf s e) values
+-- expression e of a program that can be run, with a value for each name
+pub record Evaluable (words : List ℕ) (values : List ℤ) (e : ℕ) : Type 0 where
+  pub runnable : Runnable words
+  pub named : length values ≡ nameCount words
+  pub known : e < expressionCount words

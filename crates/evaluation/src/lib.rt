@@ -1,16 +1,12 @@
 // What the names hold, and the values of expressions.
-use layout::Script;
+use program::WORDS;
 ghost use mathlib.Core.Path.{_≡_};
 ghost use Prim.Native.Nat.{_<_};
 ghost use lib.ListN.{length};
-ghost use Rattle.language.specs.Steps.{present, test};
-ghost use Rattle.layout.specs.Layout.{nameCount, expressionCount, nodeCount};
-ghost use Rattle.layout.specs.Entries.{partOf, node};
-ghost use Rattle.tree.specs.Tree.{expressionOf};
-ghost use Rattle.reach.specs.Checked.{Checked};
+ghost use Rattle.language.specs.Steps.{value, present, test};
 ghost use Rattle.packing.specs.Packing.{kindIn, operandIn};
-ghost use Rattle.plan.specs.Plan.{KeepsPlan};
-ghost use Rattle.evaluation.specs.Evaluation.{applied, leafValue, Evaluable, IsValue};
+ghost use Rattle.program.specs.Program.{mostNodes, aAt, expressionOf};
+ghost use Rattle.evaluation.specs.Evaluation.{applied, leafValue, Evaluable};
 
 pub fn is_present(values: &[i32], a: usize) -> bool
     requires { ⌜ a < length (now values) ⌝ }
@@ -20,16 +16,11 @@ pub fn is_present(values: &[i32], a: usize) -> bool
 }
 
 // Whether the signal in field a of node k is present.
-pub fn signal_is_present(
-    s: &&[u8],
-    plan: &[usize; Script::MAX_PARTS],
-    values: &[i32],
-    k: usize,
-) -> bool
-    requires { ⌜ Checked (now (now s)) × (KeepsPlan (now (now s)) (now plan) × ((k < nodeCount (now (now s))) × ((length (now values) ≡ nameCount (now (now s))) × (partOf (now (now s)) (node (now (now s)) k) .a < length (now values))))) ⌝ }
-    ensures { λ r. ⌜ r ≡ present (now (values .entry)) (partOf (now (now (s .entry))) (node (now (now (s .entry))) k) .a) ⌝ }
+pub fn signal_is_present(program: &[usize; WORDS], values: &[i32], k: usize) -> bool
+    requires { ⌜ (k < mostNodes) × (aAt (now program) k < length (now values)) ⌝ }
+    ensures { λ r. ⌜ r ≡ present (now (values .entry)) (aAt (now (program .entry)) k) ⌝ }
 {
-    is_present(values, plan::a_at(s, plan, k))
+    is_present(values, program::a_at(program, k))
 }
 
 // A constant, or what a register holds.
@@ -67,39 +58,39 @@ fn operate(kind: usize, a: i32, b: i32) -> i32
 }
 
 // The value of expression e as an operand. Most operands are constants and registers: they need no further call.
-fn operand(plan: &[usize; Script::MAX_PARTS], values: &[i32], e: usize) -> i32
-    requires { ⌜ Evaluable (now plan) (now values) e ⌝ }
-    ensures { λ r. ⌜ IsValue (now (plan .entry)) (now (values .entry)) e r ⌝ }
+fn operand(program: &[usize; WORDS], values: &[i32], e: usize) -> i32
+    requires { ⌜ Evaluable (now program) (now values) e ⌝ }
+    ensures { λ r. ⌜ r ≡ value (expressionOf (now (program .entry)) e) (now (values .entry)) ⌝ }
 {
-    let w = plan[e];
+    let w = program[program::EXPRESSIONS + e];
     if packing::kind_in(w) <= 1 {
         return leaf_value(values, w);
     }
-    value_of(plan, values, e)
+    value_of(program, values, e)
 }
 
 // The value of expression e.
-pub fn value_of(plan: &[usize; Script::MAX_PARTS], values: &[i32], e: usize) -> i32
-    requires { ⌜ Evaluable (now plan) (now values) e ⌝ }
-    ensures { λ r. ⌜ IsValue (now (plan .entry)) (now (values .entry)) e r ⌝ }
+pub fn value_of(program: &[usize; WORDS], values: &[i32], e: usize) -> i32
+    requires { ⌜ Evaluable (now program) (now values) e ⌝ }
+    ensures { λ r. ⌜ r ≡ value (expressionOf (now (program .entry)) e) (now (values .entry)) ⌝ }
 {
-    let w = plan[e];
+    let w = program[program::EXPRESSIONS + e];
     let kind = packing::kind_in(w);
     if kind <= 1 {
         return leaf_value(values, w);
     }
-    let a = operand(plan, values, packing::operand_in(w));
+    let a = operand(program, values, packing::operand_in(w));
     if kind == 8 {
         return comparison::not(a);
     }
-    let b = operand(plan, values, packing::later_in(w));
+    let b = operand(program, values, packing::later_in(w));
     operate(kind, a, b)
 }
 
 // Whether the test of expression e holds.
-pub fn test_holds(s: &&[u8], plan: &[usize; Script::MAX_PARTS], values: &[i32], e: usize) -> bool
-    requires { ⌜ Checked (now (now s)) × (KeepsPlan (now (now s)) (now plan) × ((length (now values) ≡ nameCount (now (now s))) × (e < expressionCount (now (now s))))) ⌝ }
-    ensures { λ r. ⌜ r ≡ test (expressionOf (now (now (s .entry))) e) (now (values .entry)) ⌝ }
+pub fn test_holds(program: &[usize; WORDS], values: &[i32], e: usize) -> bool
+    requires { ⌜ Evaluable (now program) (now values) e ⌝ }
+    ensures { λ r. ⌜ r ≡ test (expressionOf (now (program .entry)) e) (now (values .entry)) ⌝ }
 {
-    value_of(plan, values, e) != 0
+    value_of(program, values, e) != 0
 }

@@ -20,14 +20,14 @@ use Rattle.prelude.proofs.Bools.{and-left, and-right}
 use Rattle.prelude.proofs.Searches.{all-elim}
 use Rattle.language.specs.Syntax.{parallel}
 use Rattle.language.specs.Steps.{present, change}
-use Rattle.layout.specs.Entries.{partOf, node}
-use Rattle.plan.specs.declared.forms.Front.{Front}
+use Rattle.program.specs.Program.{kindAt}
+use Rattle.program.specs.declared.forms.Front.{Front}
 use Rattle.residual.specs.Residual.{own}
-use Rattle.plan.specs.Forms.{gone, mover, watched, guarded, beside, formRows, formOf, frontOf, partIn}
+use Rattle.program.specs.Forms.{gone, mover, watched, guarded, beside, formRows, formOf, frontOf, partIn}
 use Rattle.residual.specs.Frames.{around}
 use Rattle.residual.specs.Nodes.{left}
 use Rattle.residual.proofs.Sights.{signalAt, own-put, length-put, part-length, part-put}
-use Rattle.plan.proofs.Fronts.{kind-known, front-form}
+use Rattle.program.proofs.Fronts.{front-form}
 use Rattle.instants.proofs.Deciding.{Found, Part, rearOf, Rear, front-part, rear-part, ahead}
 
 -- what lies in the middle of a list lies in its front
@@ -90,19 +90,19 @@ is-parallel kind tag k h =
     ]
 
 -- its parts lie one after the other
-module _ (s : List ℕ) (k len : ℕ) where
+module _ (words : List ℕ) (k len : ℕ) where
   abbrev kind : ℕ
-  kind = partOf s (node s k) .kind
+  kind = kindAt words k
 
-  apart : kind ≡ 10 → (tag : ℕ) → tag ≤ 1 → Apart (frontOf s k tag len) (frontOf s k (1 - tag) len)
+  apart : kind ≡ 10 → (tag : ℕ) → tag ≤ 1 → Apart (frontOf words k tag len) (frontOf words k (1 - tag) len)
   unfolding frontOf
   apart e zero h = rw e (inl (le-refl _))
   apart e (suc zero) h = rw e (inr (le-refl _))
   apart e (suc (suc t)) h = absurd (omega arith)
 
-module _ {s : List ℕ} {values : List ℤ} {k : ℕ} {st : List ℕ} {f : Front}
-    (found : Found s values k st f) (some : mover < f .form) (ys : List ℕ) (l : length ys ≡ length (partIn f st)) where
-  abbrev one : Part s k st f
+module _ {words : List ℕ} {values : List ℤ} {k : ℕ} {st : List ℕ} {f : Front}
+    (found : Found words values k st f) (some : mover < f .form) (ys : List ℕ) (l : length ys ≡ length (partIn f st)) where
+  abbrev one : Part words k st f
   one = front-part found some
 
   count : length ys ≡ f .to - f .from
@@ -113,36 +113,36 @@ module _ {s : List ℕ} {values : List ℤ} {k : ℕ} {st : List ℕ} {f : Front
 
   -- the part in front has changed
   pub one-changed :
-      f .form < beside → (f .form ≡ watched → present values (signalAt s k) ≡ false) →
-      (f .form ≡ guarded → present values (signalAt s k) ≡ true) →
-      left s (f .child) ys ≡ change (left s (f .child) (partIn f st)) values →
-      left s k (put f st ys) ≡ change (left s k st) values
+      f .form < beside → (f .form ≡ watched → present values (signalAt words k) ≡ false) →
+      (f .form ≡ guarded → present values (signalAt words k) ≡ true) →
+      left words (f .child) ys ≡ change (left words (f .child) (partIn f st)) values →
+      left words k (put f st ys) ≡ change (left words k st) values
   one-changed b off on h =
       let a = ahead found some b in
       a .inside .after ys count
       ∙ ap (around (a .frame)) h
-      ∙ sym (a .changes off on (left s (f .child) (partIn f st)))
+      ∙ sym (a .changes off on (left words (f .child) (partIn f st)))
       ∙ ap (λ p. change p values) (sym (a .inside .whole))
 
   -- and then, of a parallel, the part behind it
-  module _ {g : Front} (b : beside ≤ f .form) (u : g ≡ rearOf s k st) where
-    abbrev rear : Rear s k st f
+  module _ {g : Front} (b : beside ≤ f .form) (u : g ≡ rearOf words k st) where
+    abbrev rear : Rear words k st f
     rear = rear-part found b
 
-    two : Part s k st g
+    two : Part words k st g
     two = rw u (rear .part)
 
     parts-apart : Apart f g
     parts-apart =
-        let form = ap (λ (f : Front). f .form) (found .front) ∙ front-form s k (own st) (length st) in
-        let known = kind-known s (found .valued .checked) k (found .at .known) in
-        let kind = is-parallel (partOf s (node s k) .kind) (own st) known (omega (arith, form)) in
-        rw (found .front, u) (apart s k (length st) kind (own st) (rear .byte))
+        let form = ap (λ (f : Front). f .form) (found .front) ∙ front-form words k (own st) (length st) in
+        let known = found .valued .runnable .nodes k (found .at .known) .kind in
+        let kind = is-parallel (kindAt words k) (own st) known (omega (arith, form)) in
+        rw (found .front, u) (apart words k (length st) kind (own st) (rear .byte))
 
     rear-kept : partIn g (put f st ys) ≡ partIn g st
     rear-kept = part-kept f st ys (one .order) (one .within) count g (two .order) parts-apart
 
-    pub rear-after : Part s k (put f st ys) g
+    pub rear-after : Part words k (put f st ys) g
     rear-after =
         record {
           earlier = two .earlier;
@@ -176,7 +176,7 @@ module _ {s : List ℕ} {values : List ℤ} {k : ℕ} {st : List ℕ} {f : Front
           (⊎-elim (λ h. inr h) (λ h. inl h) parts-apart)
           ∙ part-put f st ys (one .order) (one .within) count
 
-      found-after : Found s values k after f
+      found-after : Found words values k after f
       found-after =
           record {
             valued = found .valued;
@@ -184,21 +184,21 @@ module _ {s : List ℕ} {values : List ℤ} {k : ℕ} {st : List ℕ} {f : Front
             front = rw (own-two, length-two) (found .front);
           }
 
-      whole-after : left s k after ≡ parallel (left s (f .child) ys) (left s (g .child) zs)
+      whole-after : left words k after ≡ parallel (left words (f .child) ys) (left words (g .child) zs)
       whole-after =
-          let behind : rearOf s k after ≡ g = rw (own-two, length-two) (sym u) in
+          let behind : rearOf words k after ≡ g = rw (own-two, length-two) (sym u) in
           rear-part found-after b .whole
-          ∙ ap₂ parallel (ap (left s (f .child)) front-after)
-          (ap (λ (g : Front). left s (g .child) (partIn g after)) behind
-          ∙ ap (left s (g .child)) (part-put g (put f st ys) zs (two .order) (rear-after .within) count-two))
+          ∙ ap₂ parallel (ap (left words (f .child)) front-after)
+          (ap (λ (g : Front). left words (g .child) (partIn g after)) behind
+          ∙ ap (left words (g .child)) (part-put g (put f st ys) zs (two .order) (rear-after .within) count-two))
 
       pub two-changed :
-          left s (f .child) ys ≡ change (left s (f .child) (partIn f st)) values →
-          left s (g .child) zs ≡ change (left s (g .child) (partIn g (put f st ys))) values →
-          left s k after ≡ change (left s k st) values
+          left words (f .child) ys ≡ change (left words (f .child) (partIn f st)) values →
+          left words (g .child) zs ≡ change (left words (g .child) (partIn g (put f st ys))) values →
+          left words k after ≡ change (left words k st) values
       unfolding change
       two-changed h i =
-          let behind = ap (λ (g : Front). change (left s (g .child) (partIn g st)) values) u in
+          let behind = ap (λ (g : Front). change (left words (g .child) (partIn g st)) values) u in
           whole-after
-          ∙ ap₂ parallel h (i ∙ ap (λ z. change (left s (g .child) z) values) rear-kept ∙ behind)
+          ∙ ap₂ parallel h (i ∙ ap (λ z. change (left words (g .child) z) values) rear-kept ∙ behind)
           ∙ ap (λ p. change p values) (sym (rear .whole))

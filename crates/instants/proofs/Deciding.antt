@@ -12,12 +12,11 @@ use lib.ListN.{length, set, length-set}
 use lib.Seq.{set-getD}
 use Rattle.language.specs.Syntax.{Proc, parallel}
 use Rattle.language.specs.Steps.{present, suspended, change}
-use Rattle.layout.specs.Layout.{nameCount}
-use Rattle.layout.specs.Entries.{partOf, node}
-use Rattle.tree.proofs.Views.{NodeView, aNil, anAssign, aLet, anIf, aWhile, aSequence, anEmit, aLocal, aWatching, aWhen, aParallel, node-view}
-use Rattle.plan.specs.declared.forms.Front.{Front}
+use Rattle.program.specs.Program.{nameCount, kindAt}
+use Rattle.program.proofs.Views.{NodeView, aNil, anAssign, aLet, anIf, aWhile, aSequence, anEmit, aLocal, aWatching, aWhen, aParallel, node-view}
+use Rattle.program.specs.declared.forms.Front.{Front}
 use Rattle.residual.specs.Residual.{own, residual}
-use Rattle.plan.specs.Forms.{mover, first, second, before, watched, guarded, beside, turned, frontOf, partIn}
+use Rattle.program.specs.Forms.{mover, first, second, before, watched, guarded, beside, turned, frontOf, partIn}
 use Rattle.residual.specs.Frames.{Frame, around}
 use Rattle.residual.specs.Nodes.{Valued, At, left}
 use Rattle.instants.specs.Contracts.{RearWaits}
@@ -31,30 +30,30 @@ beside-above : {n : ℕ} → (n ≡ beside) ⊎ (n ≡ turned) → guarded < n
 beside-above = ⊎-elim (λ e. omega arith) (λ e. omega arith)
 
 -- node k with its bytes, and its front
-pub record Found (s : List ℕ) (values : List ℤ) (k : ℕ) (st : List ℕ) (f : Front) : Type 0 where
-  pub valued : Valued s values
-  pub at : At s k st
-  pub front : f ≡ frontOf s k (own st) (length st)
+pub record Found (words : List ℕ) (values : List ℤ) (k : ℕ) (st : List ℕ) (f : Front) : Type 0 where
+  pub valued : Valued words values
+  pub at : At words k st
+  pub front : f ≡ frontOf words k (own st) (length st)
 
 -- a part of it, which is a node with its own bytes
-pub record Part (s : List ℕ) (k : ℕ) (st : List ℕ) (f : Front) : Type 0 where
+pub record Part (words : List ℕ) (k : ℕ) (st : List ℕ) (f : Front) : Type 0 where
   pub earlier : f .child < k
   pub starts : 1 ≤ f .from
   pub order : f .from ≤ f .to
   pub within : f .to ≤ length st
-  pub at : At s (f .child) (partIn f st)
+  pub at : At words (f .child) (partIn f st)
 
 -- the part of a parallel that is not in front
 abbrev pub rearOf : List ℕ → ℕ → List ℕ → Front
-rearOf s k st = frontOf s k (1 - own st) (length st)
+rearOf words k st = frontOf words k (1 - own st) (length st)
 
 -- node k is a parallel
-pub record Rear (s : List ℕ) (k : ℕ) (st : List ℕ) (f : Front) : Type 0 where
+pub record Rear (words : List ℕ) (k : ℕ) (st : List ℕ) (f : Front) : Type 0 where
   pub byte : own st ≤ 1
-  pub part : Part s k st (rearOf s k st)
+  pub part : Part words k st (rearOf words k st)
   pub whole :
-      left s k st
-      ≡ parallel (left s (f .child) (partIn f st)) (left s (rearOf s k st .child) (partIn (rearOf s k st) st))
+      left words k st
+      ≡ parallel (left words (f .child) (partIn f st)) (left words (rearOf words k st .child) (partIn (rearOf words k st) st))
 
 -- p is suspended or not, and an instant change leaves it as it is
 pub record Stays (p : Proc ℕ) (values : List ℤ) (waiting : Bool) : Type 0 where
@@ -62,27 +61,27 @@ pub record Stays (p : Proc ℕ) (values : List ℤ) (waiting : Bool) : Type 0 wh
   pub same : change p values ≡ p
 
 -- a frame that asks the part in front alone, if no signal ends it or shuts it
-pub record Ahead (s : List ℕ) (k : ℕ) (st : List ℕ) (f : Front) (values : List ℤ) : Type 0 where
+pub record Ahead (words : List ℕ) (k : ℕ) (st : List ℕ) (f : Front) (values : List ℤ) : Type 0 where
   pub frame : Frame ℕ
-  pub inside : Inside s k st f frame
+  pub inside : Inside words k st f frame
   pub waits :
-      (f .form ≡ guarded → present values (signalAt s k) ≡ true) →
+      (f .form ≡ guarded → present values (signalAt words k) ≡ true) →
       (p : Proc ℕ) → suspended (around frame p) values ≡ suspended p values
   pub changes :
-      (f .form ≡ watched → present values (signalAt s k) ≡ false) →
-      (f .form ≡ guarded → present values (signalAt s k) ≡ true) →
+      (f .form ≡ watched → present values (signalAt words k) ≡ false) →
+      (f .form ≡ guarded → present values (signalAt words k) ≡ true) →
       (p : Proc ℕ) → change (around frame p) values ≡ around frame (change p values)
 
 -- a frame with a signal
-record Signalled (s : List ℕ) (k : ℕ) (st : List ℕ) (f : Front) (values : List ℤ) : Type 0 where
-  pub known : signalAt s k < nameCount s
+record Signalled (words : List ℕ) (k : ℕ) (st : List ℕ) (f : Front) (values : List ℤ) : Type 0 where
+  pub known : signalAt words k < nameCount words
   pub ends :
-      f .form ≡ watched → present values (signalAt s k) ≡ true → left s k (set st 0 4) ≡ change (left s k st) values
-  pub shuts : f .form ≡ guarded → present values (signalAt s k) ≡ false → Stays (left s k st) values true
+      f .form ≡ watched → present values (signalAt words k) ≡ true → left words k (set st 0 4) ≡ change (left words k st) values
+  pub shuts : f .form ≡ guarded → present values (signalAt words k) ≡ false → Stays (left words k st) values true
 
 -- the bytes of a part, whatever the node's own byte is
-module _ {s : List ℕ} {k : ℕ} {st : List ℕ} (at : At s k st) (f : Front) (F : Frame ℕ) where
-  inside-part : (v : ℕ) → Inside s k (set st 0 v) f F → Part s k st f
+module _ {words : List ℕ} {k : ℕ} {st : List ℕ} (at : At words k st) (f : Front) (F : Frame ℕ) where
+  inside-part : (v : ℕ) → Inside words k (set st 0 v) f F → Part words k st f
   inside-part v i =
       let within : f .to ≤ length st = rw (length-set st 0 v) at (i .within) in
       record {
@@ -93,12 +92,12 @@ module _ {s : List ℕ} {k : ℕ} {st : List ℕ} (at : At s k st) (f : Front) (
         at = record { known = omega (arith, i .earlier, at .known); whole = part-length f st within ∙ i .fits };
       }
 
-  part-of : Inside s k st f F → Part s k st f
+  part-of : Inside words k st f F → Part words k st f
   part-of i = inside-part (own st) (rw (set-getD st 0 0) i)
 
 mover-stays :
-    {s : List ℕ} {k : ℕ} (st : List ℕ) (values : List ℤ) → NodeView s k → own st ≡ 0 →
-    Mover (partOf s (node s k) .kind) → Stays (left s k st) values false
+    {words : List ℕ} {k : ℕ} (st : List ℕ) (values : List ℤ) → NodeView words k → own st ≡ 0 →
+    Mover (kindAt words k) → Stays (left words k st) values false
 unfolding residual suspended change
 mover-stays st values (aNil e q) o m = rw q (record { waits = refl; same = refl })
 mover-stays st values (anAssign e q x y) o m = rw (q, o) (record { waits = refl; same = refl })
@@ -108,21 +107,21 @@ mover-stays st values (aWhile e q y p) o m = rw (q, o) (record { waits = refl; s
 mover-stays st values (aSequence e q p r) o m = absurd (no-mover m e (inr (inl refl)))
 mover-stays st values (anEmit e q x) o m = rw (q, o) (record { waits = refl; same = refl })
 mover-stays st values (aLocal e q x p) o m = rw (q, o) (record { waits = refl; same = refl })
-mover-stays st values (aWatching e q x p) o m = absurd (no-mover m e (inr (inr (omega arith))))
-mover-stays st values (aWhen e q x p) o m = absurd (no-mover m e (inr (inr (omega arith))))
+mover-stays st values (aWatching e q x p g) o m = absurd (no-mover m e (inr (inr (omega arith))))
+mover-stays st values (aWhen e q x p l) o m = absurd (no-mover m e (inr (inr (omega arith))))
 mover-stays st values (aParallel e q p r) o m = absurd (no-mover m e (inr (inr (omega arith))))
 
-module _ {s : List ℕ} {values : List ℤ} {k : ℕ} {st : List ℕ} {f : Front}
-    (found : Found s values k st f) where
-  pub sees : Sight s k st f
+module _ {words : List ℕ} {values : List ℤ} {k : ℕ} {st : List ℕ} {f : Front}
+    (found : Found words values k st f) where
+  pub sees : Sight words k st f
   sees =
       let at = found .at in
-      subst (Sight s k st) (sym (found .front)) (sight s (found .valued .checked) k (at .known) st (at .whole))
+      subst (Sight words k st) (sym (found .front)) (sight words (found .valued .runnable) k (at .known) st (at .whole))
 
-  pub front-part : mover < f .form → Part s k st f
+  pub front-part : mover < f .form → Part words k st f
   front-part = part sees
     where
-      part : Sight s k st f → mover < f .form → Part s k st f
+      part : Sight words k st f → mover < f .form → Part words k st f
       part (sees-gone e q) h = absurd (omega arith)
       part (sees-mover e o m) h = absurd (omega arith)
       part (sees-alone e i) h = part-of (found .at) f _ i
@@ -131,10 +130,10 @@ module _ {s : List ℕ} {values : List ℤ} {k : ℕ} {st : List ℕ} {f : Front
       part (sees-guarded e n l i z) h = part-of (found .at) f _ i
       part (sees-beside e o g u i j z) h = part-of (found .at) f _ i
 
-  pub rear-part : beside ≤ f .form → Rear s k st f
+  pub rear-part : beside ≤ f .form → Rear words k st f
   rear-part = part sees
     where
-      part : Sight s k st f → beside ≤ f .form → Rear s k st f
+      part : Sight words k st f → beside ≤ f .form → Rear words k st f
       part (sees-gone e q) h = absurd (omega arith)
       part (sees-mover e o m) h = absurd (omega arith)
       part (sees-alone e i) h = absurd (omega (arith, alone-within e))
@@ -144,11 +143,11 @@ module _ {s : List ℕ} {values : List ℤ} {k : ℕ} {st : List ℕ} {f : Front
       part (sees-beside e o g u i j z) h =
           record { byte = o; part = rw (← u) (inside-part (found .at) g _ (1 - own st) j); whole = rw (← u) (i .whole) }
 
-  pub ahead : mover < f .form → f .form < beside → Ahead s k st f values
+  pub ahead : mover < f .form → f .form < beside → Ahead words k st f values
   unfolding suspended change
   ahead = part sees
     where
-      part : Sight s k st f → mover < f .form → f .form < beside → Ahead s k st f values
+      part : Sight words k st f → mover < f .form → f .form < beside → Ahead words k st f values
       part (sees-gone e q) h l = absurd (omega arith)
       part (sees-mover e o m) h l = absurd (omega arith)
       part (sees-alone e i) h l =
@@ -161,11 +160,11 @@ module _ {s : List ℕ} {values : List ℤ} {k : ℕ} {st : List ℕ} {f : Front
           record { frame = _; inside = i; waits = λ on p. rw (on e); changes = λ off on p. rw (on e) }
       part (sees-beside e o g u i j z) h l = absurd (omega (arith, beside-above e))
 
-  signalled : watched ≤ f .form → f .form ≤ guarded → Signalled s k st f values
+  signalled : watched ≤ f .form → f .form ≤ guarded → Signalled words k st f values
   unfolding suspended change
   signalled = part sees
     where
-      part : Sight s k st f → watched ≤ f .form → f .form ≤ guarded → Signalled s k st f values
+      part : Sight words k st f → watched ≤ f .form → f .form ≤ guarded → Signalled words k st f values
       part (sees-gone e q) h l = absurd (omega arith)
       part (sees-mover e o m) h l = absurd (omega arith)
       part (sees-alone e i) h l = absurd (omega (arith, alone-within e))
@@ -180,24 +179,24 @@ module _ {s : List ℕ} {values : List ℤ} {k : ℕ} {st : List ℕ} {f : Front
           }
       part (sees-beside e o g u i j z) h l = absurd (omega (arith, beside-above e))
 
-  pub signal-known : watched ≤ f .form → f .form ≤ guarded → signalAt s k < length values
+  pub signal-known : watched ≤ f .form → f .form ≤ guarded → signalAt words k < length values
   signal-known h l = omega (arith, signalled h l .known, found .valued .named)
 
   pub ends :
-      f .form ≡ watched → present values (signalAt s k) ≡ true → left s k (set st 0 4) ≡ change (left s k st) values
+      f .form ≡ watched → present values (signalAt words k) ≡ true → left words k (set st 0 4) ≡ change (left words k st) values
   ends e = signalled (omega arith) (omega arith) .ends e
 
-  pub shuts : f .form ≡ guarded → present values (signalAt s k) ≡ false → Stays (left s k st) values true
+  pub shuts : f .form ≡ guarded → present values (signalAt words k) ≡ false → Stays (left words k st) values true
   shuts e = signalled (omega arith) (omega arith) .shuts e
 
-  pub stays : f .form ≤ mover → Stays (left s k st) values false
+  pub stays : f .form ≤ mover → Stays (left words k st) values false
   unfolding suspended change
   stays = part sees
     where
-      part : Sight s k st f → f .form ≤ mover → Stays (left s k st) values false
+      part : Sight words k st f → f .form ≤ mover → Stays (left words k st) values false
       part (sees-gone e q) h = rw q (record { waits = refl; same = refl })
       part (sees-mover e o m) h =
-          mover-stays st values (node-view s (found .valued .checked) k (found .at .known)) o m
+          mover-stays st values (node-view words (found .valued .runnable) k (found .at .known)) o m
       part (sees-alone e i) h = absurd (omega (arith, alone-within e))
       part (sees-before e o q i z) h = absurd (omega arith)
       part (sees-watched e n i z) h = absurd (omega arith)
@@ -205,14 +204,14 @@ module _ {s : List ℕ} {values : List ℤ} {k : ℕ} {st : List ℕ} {f : Front
       part (sees-beside e o g u i j z) h = absurd (omega (arith, beside-above e))
 
   -- whether it is suspended, where no when is shut
-  module _ (h : mover < f .form) (on : f .form ≡ guarded → present values (signalAt s k) ≡ true) where
+  module _ (h : mover < f .form) (on : f .form ≡ guarded → present values (signalAt words k) ≡ true) where
     abbrev front : Proc ℕ
-    front = left s (f .child) (partIn f st)
+    front = left words (f .child) (partIn f st)
 
     -- it waits, and so does the node if nothing behind it could move
     pub waiting-front :
-        {waits : Bool} → suspended front values ≡ true → RearWaits s k st values (f .form) waits →
-        waits ≡ suspended (left s k st) values
+        {waits : Bool} → suspended front values ≡ true → RearWaits words k st values (f .form) waits →
+        waits ≡ suspended (left words k st) values
     unfolding suspended
     waiting-front w b =
         elim (decLt (f .form) beside) [
@@ -221,7 +220,7 @@ module _ {s : List ℕ} {values : List ℤ} {k : ℕ} {st : List ℕ} {f : Front
         ]
 
     -- behind it is a part that could move
-    pub awake-rear : RearWaits s k st values (f .form) false → suspended (left s k st) values ≡ false
+    pub awake-rear : RearWaits words k st values (f .form) false → suspended (left words k st) values ≡ false
     unfolding suspended
     awake-rear b =
         elim (decLt (f .form) beside) [
@@ -230,7 +229,7 @@ module _ {s : List ℕ} {values : List ℤ} {k : ℕ} {st : List ℕ} {f : Front
         ]
 
     -- nothing behind it could move: the part in front decides
-    pub waiting-rear : RearWaits s k st values (f .form) true → suspended front values ≡ suspended (left s k st) values
+    pub waiting-rear : RearWaits words k st values (f .form) true → suspended front values ≡ suspended (left words k st) values
     unfolding suspended
     waiting-rear b =
         elim (decLt (f .form) beside) [

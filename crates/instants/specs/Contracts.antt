@@ -8,18 +8,24 @@ use lib.ListN.{length}
 use Rattle.prelude.specs.Search.{any}
 use Rattle.language.specs.Syntax.{Names}
 use Rattle.language.specs.Steps.{present, suspended}
-use Rattle.plan.specs.Forms.{beside, frontOf, partIn}
+use Rattle.program.specs.Forms.{beside, frontOf, partIn}
 use Rattle.residual.specs.Residual.{own}
-use Rattle.residual.specs.Nodes.{left}
+use Rattle.residual.specs.Nodes.{Valued, At, left}
+
+-- a node that has come to this form
+pub record RearAsked (words : List ℕ) (k : ℕ) (st : List ℕ) (values : List ℤ) (n : ℕ) : Type 0 where
+  pub valued : Valued words values
+  pub node : At words k st
+  pub form : n ≡ frontOf words k (own st) (length st) .form
 
 -- Of a node with this form nothing behind the part in front could move in its place.
-pub record RearWaits (s : List ℕ) (k : ℕ) (st : List ℕ) (values : List ℤ) (form : ℕ) (waits : Bool) : Type 0 where
+pub record RearWaits (words : List ℕ) (k : ℕ) (st : List ℕ) (values : List ℤ) (form : ℕ) (waits : Bool) : Type 0 where
   pub none : form < beside → waits ≡ true
   pub other :
       beside ≤ form →
       waits
       ≡ suspended
-      (left s (frontOf s k (1 - own st) (length st) .child) (partIn (frontOf s k (1 - own st) (length st)) st))
+      (left words (frontOf words k (1 - own st) (length st) .child) (partIn (frontOf words k (1 - own st) (length st)) st))
       values
 
 -- a signal that is present, and whether there is one

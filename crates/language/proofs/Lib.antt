@@ -5,6 +5,8 @@ pub mod NameKinds
 pub mod Typing
 pub mod Figures
 pub mod Executions
+pub mod Stopping
+pub mod Naming
 pub mod Stores
 pub mod Safe
 pub mod Lockstep

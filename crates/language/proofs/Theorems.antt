@@ -13,11 +13,12 @@ use Rattle.language.specs.Levels.{writeLevel, testLevel, needs}
 use Rattle.language.specs.Steps.{held}
 use Rattle.language.specs.Calls.{System, starts, readable, run}
 use Rattle.language.specs.Typing.{environment, Below, Typed}
-use Rattle.language.specs.Results.{upTo, StepsAgree, RunsAgree, LevelsAgree, StartsAgree, NonInterference}
+use Rattle.language.specs.Results.{upTo, StepsAgree, RunsAgree, RunsJoin, LevelsAgree, StartsAgree, NonInterference}
 use Rattle.language.proofs.Needs.{Needs, needs-hold, hold-needs}
 use Rattle.language.proofs.Typing.{derives, derived, environment-covers, environment-agrees}
 use Rattle.language.proofs.Figures.{step-is, step-only, nil-rests}
 use Rattle.language.proofs.Executions.{run-is, run-only}
+use Rattle.language.proofs.Stopping.{run-returns, reach-onward}
 use Rattle.language.proofs.Safe.{Safe}
 use Rattle.language.proofs.Lockstep.{Twins}
 use Rattle.language.proofs.Noninterference.{Agree, agree}
@@ -35,6 +36,14 @@ steps-agree names at =
 pub runs-agree :
     {L : Type 0} (names : Names L) (seen : ℕ → Bool) (n room : ℕ) (at : System L) → RunsAgree names seen n room at
 runs-agree names seen n room at = record { path = run-is names seen n room at; only = run-only names seen n room at }
+
+pub runs-join :
+    {L : Type 0} (names : Names L) (seen : ℕ → Bool) (n room : ℕ) (at : System L) → RunsJoin names seen n room at
+runs-join names seen n room at =
+    record {
+      returns = run-returns names seen n room at;
+      joins = λ limit h. reach-onward names seen n limit room at h;
+    }
 
 module _
     {L : Type 0} (𝓛 : Lattice L) (laws : Laws 𝓛) (names : Names L) (p : Proc L) (scope : ℕ → Bool)

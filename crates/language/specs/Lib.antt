@@ -1,10 +1,12 @@
 -- The language of scripts: 01, 'Script file' to 'Calls', then the figures of RR-5594, then what is proved.
 pub mod Syntax
+pub mod Shapes
 pub mod NameKinds
 pub mod Scope
 pub mod Levels
 pub mod Steps
 pub mod Calls
+pub mod Stops
 pub mod Suspension
 pub mod Moves
 pub mod Instants

@@ -1,5 +1,5 @@
 -- What is proved of the language: demands 2 and 3, over trees. The proofs are in proofs/Theorems.antt.
-use Prim.Native.Nat.{ℕ, _≤_}
+use Prim.Native.Nat.{ℕ, _+_, _-_, _≤_}
 use mathlib.Core.Path.{_≡_}
 use mathlib.Core.Bool.{Bool, true, false, cond}
 use mathlib.Core.Logic.{_↔_}
@@ -12,6 +12,7 @@ use Rattle.language.specs.Syntax.{Names, Proc, isNil}
 use Rattle.language.specs.Levels.{writeLevel, testLevel, needs}
 use Rattle.language.specs.Steps.{held, Output}
 use Rattle.language.specs.Calls.{Line, System, Run, starts, readable, output, next, run}
+use Rattle.language.specs.Stops.{reach, onward, returned}
 use Rattle.language.specs.Instants.{Step}
 use Rattle.language.specs.Typing.{Environment, Below, Typed}
 use Rattle.language.specs.Paths.{IsRun}
@@ -26,6 +27,14 @@ pub record StepsAgree {L : Type 0} (names : Names L) (at : System L) : Type 0 wh
 pub record RunsAgree {L : Type 0} (names : Names L) (seen : ℕ → Bool) (n room : ℕ) (at : System L) : Type 0 where
   pub path : IsRun names seen n room at (run names seen n room at)
   pub only : (r : Run) → IsRun names seen n room at r → r ≡ run names seen n room at
+
+-- A run returns from where it stops; and under a limit on all steps it goes on from wherever a run of n of them stopped,
+-- however that ended.
+pub record RunsJoin {L : Type 0} (names : Names L) (seen : ℕ → Bool) (n room : ℕ) (at : System L) : Type 0 where
+  pub returns : run names seen n room at ≡ returned names (reach names seen n room at)
+  pub joins :
+      (limit : ℕ) → at .steps + n ≤ limit →
+      reach names seen (limit - at .steps) room at ≡ onward names seen limit room (reach names seen n room at)
 
 -- Demand 2, the checker: the needs hold exactly when the rules give some pair; then (W, T) is one, and the tightest.
 pub record LevelsAgree {L : Type 0} (𝓛 : Lattice L) (names : Names L) (Γ : Environment L) (p : Proc L) : Type 0 where

@@ -15,7 +15,8 @@ use Rattle.prelude.proofs.Bools.{fails, and-intro, and-left, and-right, by-case
 use Rattle.language.specs.Syntax.{Proc, nil, assign, letIn, ifThenElse, while, sequence, emit, local, watching, when, parallel, isNil}
 use Rattle.language.specs.Steps.{present, test, value, Outcome, inside, suspended, move}
 use Rattle.language.specs.Calls.{calledFor}
-use Rattle.residual.specs.Frames.{Frame, alone, beforeThe, watchedBy, guardedBy, besideThe, around, leavesAlone, Open}
+use Rattle.language.specs.Shapes.{leavesAlone}
+use Rattle.residual.specs.Frames.{Frame, alone, beforeThe, watchedBy, guardedBy, besideThe, around, Open}
 use Rattle.moves.specs.Moves.{Running, withProcess, nextLine, hasRoom, moved, Live, Silent, isSpent, Path, stays, moves, Ends, gone, waits, spent, full}
 
 parts : (b c : Bool) → (b && c) ≡ true → (b ≡ true) × (c ≡ true)

@@ -15,14 +15,13 @@ use lib.Seq.{length-take-le, drop-set-lt}
 use Rattle.language.specs.Syntax.{Proc, assign, letIn, ifThenElse, while, emit, local, isNil}
 use Rattle.language.specs.Steps.{value, test, suspended, move}
 use Rattle.language.specs.Calls.{calledFor}
-use Rattle.layout.specs.Layout.{nameCount, expressionCount, nodeCount, layoutOf}
-use Rattle.layout.specs.Entries.{nameOf, partOf, node}
-use Rattle.reach.specs.Checked.{Checked}
-use Rattle.tree.specs.Tree.{expressionOf, processOf, size}
-use Rattle.layout.proofs.Layouts.{few-bounds}
-use Rattle.tree.proofs.Views.{UsesExpression, NodeView, aNil, anAssign, aLet, anIf, aWhile, aSequence, anEmit, aLocal, aWatching, aWhen, aParallel, node-view}
-use Rattle.plan.specs.declared.forms.Front.{Front}
-use Rattle.plan.specs.Forms.{mover}
+use Rattle.packing.specs.Packing.{levelIn}
+use Rattle.program.specs.Program.{nameCount, expressionCount, nodeCount, nameWord, bAt, firstAt, secondAt, kindAt, aAt, expressionOf, processOf}
+use Rattle.program.specs.Runnable.{Runnable}
+use Rattle.language.specs.Shapes.{size}
+use Rattle.program.proofs.Views.{NodeView, aNil, anAssign, aLet, anIf, aWhile, aSequence, anEmit, aLocal, aWatching, aWhen, aParallel, node-view}
+use Rattle.program.specs.declared.forms.Front.{Front}
+use Rattle.program.specs.Forms.{mover}
 use Rattle.residual.specs.Residual.{own, firstOf, secondOf, residual}
 use Rattle.moves.specs.Moves.{Live, Silent}
 use Rattle.residual.specs.Nodes.{left}
@@ -31,66 +30,62 @@ use Rattle.residual.proofs.Residuals.{zeros}
 use Rattle.residual.proofs.Residuals.{own-set-at}
 use Rattle.residual.proofs.Sights.{Mover, no-mover, Sight, sees-gone, sees-mover, sees-alone, sees-before, sees-watched, sees-guarded, sees-beside, own-put, length-put, first-put}
 
-module _ (s : List ℕ) (k : ℕ) where
+module _ (words : List ℕ) (k : ℕ) where
   abbrev kind : ℕ
-  kind = partOf s (node s k) .kind
+  kind = kindAt words k
 
   abbrev a : ℕ
-  a = partOf s (node s k) .a
+  a = aAt words k
 
   abbrev b : ℕ
-  b = partOf s (node s k) .b
+  b = bAt words k
 
-  abbrev c : ℕ
-  c = partOf s (node s k) .c
+  abbrev one : Proc ℕ
+  one = processOf words (firstAt words k)
+
+  abbrev two : Proc ℕ
+  two = processOf words (secondAt words k)
 
   abbrev Is : Proc ℕ → Type 0
-  Is p = processOf s k ≡ p
+  Is p = processOf words k ≡ p
 
   -- what is known of a node of a kind that has a move of its own
   abbrev Known : List (Type 0)
   Known =
       Unit {0}
-      ∷ (Is (assign a (expressionOf s b)) × ((a < nameCount s) × UsesExpression s (node s k) b))
-      ∷ (Is (letIn a (nameOf s a .level) (expressionOf s b) (processOf s c))
-      × ((a < nameCount s) × UsesExpression s (node s k) b))
-      ∷ (Is (ifThenElse (expressionOf s a) (processOf s b) (processOf s c)) × UsesExpression s (node s k) a)
-      ∷ (Is (while (expressionOf s a) (processOf s b)) × UsesExpression s (node s k) a)
+      ∷ (Is (assign a (expressionOf words b)) × ((a < nameCount words) × (b < expressionCount words)))
+      ∷ (Is (letIn a (levelIn (nameWord words a)) (expressionOf words b) one)
+      × ((a < nameCount words) × (b < expressionCount words)))
+      ∷ (Is (ifThenElse (expressionOf words a) one two) × (a < expressionCount words))
+      ∷ (Is (while (expressionOf words a) one) × (a < expressionCount words))
       ∷ Unit {0}
-      ∷ (Is (emit a) × (a < nameCount s))
-      ∷ (Is (local a (nameOf s a .level) (processOf s b)) × (a < nameCount s))
+      ∷ (Is (emit a) × (a < nameCount words))
+      ∷ (Is (local a (levelIn (nameWord words a)) one) × (a < nameCount words))
       ∷ []
 
   abbrev KnownAt : ℕ → Type 0
   KnownAt n = getD Known n (Unit {0})
 
-  known-of : NodeView s k → KnownAt kind
+  known-of : NodeView words k → KnownAt kind
   known-of (aNil e q) = subst KnownAt (sym e) tt
-  known-of (anAssign e q x y) = subst KnownAt (sym e) (q, (x .known, y))
-  known-of (aLet e q x y z) = subst KnownAt (sym e) (q, (x .known, y))
+  known-of (anAssign e q x y) = subst KnownAt (sym e) (q, (x, y))
+  known-of (aLet e q x y z) = subst KnownAt (sym e) (q, (x, y))
   known-of (anIf e q x y z) = subst KnownAt (sym e) (q, x)
   known-of (aWhile e q x y) = subst KnownAt (sym e) (q, x)
   known-of (aSequence e q x y) = subst KnownAt (sym e) tt
-  known-of (anEmit e q x) = subst KnownAt (sym e) (q, x .known)
-  known-of (aLocal e q x y) = subst KnownAt (sym e) (q, x .known)
-  known-of (aWatching e q x y) = subst KnownAt (sym e) tt
-  known-of (aWhen e q x y) = subst KnownAt (sym e) tt
+  known-of (anEmit e q x) = subst KnownAt (sym e) (q, x)
+  known-of (aLocal e q x y) = subst KnownAt (sym e) (q, x)
+  known-of (aWatching e q x y g) = subst KnownAt (sym e) tt
+  known-of (aWhen e q x y l) = subst KnownAt (sym e) tt
   known-of (aParallel e q x y) = subst KnownAt (sym e) tt
 
--- 'At most 64 names, 256 expressions'
-pub few-names : {s : List ℕ} → Checked s → nameCount s ≤ 64
-few-names {s} ok = few-bounds (layoutOf s) (ok .laid .few) .0
-
-pub few-expressions : {s : List ℕ} → Checked s → expressionCount s ≤ 256
-few-expressions {s} ok = few-bounds (layoutOf s) (ok .laid .few) .1 .0
-
-pub known : (s : List ℕ) → Checked s → (k : ℕ) → k < nodeCount s → {n : ℕ} → kind s k ≡ n → KnownAt s k n
-known s ok k h e = subst (KnownAt s k) e (known-of s k (node-view s ok k h))
+pub known : (words : List ℕ) → Runnable words → (k : ℕ) → k < nodeCount words → {n : ℕ} → kind words k ≡ n → KnownAt words k n
+known words ok k h e = subst (KnownAt words k) e (known-of words k (node-view words ok k h))
 
 -- what the form of a node with a move of its own tells
 pub is-mover :
-    {s : List ℕ} {k : ℕ} {st : List ℕ} {f : Front} → Sight s k st f → f .form ≡ mover →
-    (own st ≡ 0) × Mover (kind s k)
+    {words : List ℕ} {k : ℕ} {st : List ℕ} {f : Front} → Sight words k st f → f .form ≡ mover →
+    (own st ≡ 0) × Mover (kind words k)
 is-mover (sees-gone e r) q = absurd (omega (arith, e, q))
 is-mover (sees-mover e o m) q = (o, m)
 is-mover (sees-alone (inl e) i) q = absurd (omega (arith, e, q))
@@ -131,7 +126,7 @@ is-silent {kind} m e =
           ]
     ]
 
-module _ (s : List ℕ) (ok : Checked s) (k : ℕ) (h : k < nodeCount s) (st : List ℕ) (some : 1 ≤ length st) where
+module _ (words : List ℕ) (ok : Runnable words) (k : ℕ) (h : k < nodeCount words) (st : List ℕ) (some : 1 ≤ length st) where
   own-set : (v : ℕ) → own (set st 0 v) ≡ v
   own-set = own-set-at st some
 
@@ -143,7 +138,7 @@ module _ (s : List ℕ) (ok : Checked s) (k : ℕ) (h : k < nodeCount s) (st : L
 
   module _ (z : own st ≡ 0) (vs : List ℤ) where
     -- a node whose own move is next is neither nil nor suspended
-    live-of : Mover (kind s k) → NodeView s k → Live (left s k st) vs
+    live-of : Mover (kind words k) → NodeView words k → Live (left words k st) vs
     unfolding residual suspended isNil
     live-of m (aNil e q) = absurd (no-mover m e (inl refl))
     live-of m (anAssign e q x y) = rw (q, z) (record { some = refl; awake = refl })
@@ -153,52 +148,52 @@ module _ (s : List ℕ) (ok : Checked s) (k : ℕ) (h : k < nodeCount s) (st : L
     live-of m (aSequence e q x y) = absurd (no-mover m e (inr (inl refl)))
     live-of m (anEmit e q x) = rw (q, z) (record { some = refl; awake = refl })
     live-of m (aLocal e q x y) = rw (q, z) (record { some = refl; awake = refl })
-    live-of m (aWatching e q x y) = absurd (no-mover m e (inr (inr (omega arith))))
-    live-of m (aWhen e q x y) = absurd (no-mover m e (inr (inr (omega arith))))
+    live-of m (aWatching e q x y g) = absurd (no-mover m e (inr (inr (omega arith))))
+    live-of m (aWhen e q x y l) = absurd (no-mover m e (inr (inr (omega arith))))
     live-of m (aParallel e q x y) = absurd (no-mover m e (inr (inr (omega arith))))
 
-    pub mover-live : Mover (kind s k) → Live (left s k st) vs
-    mover-live m = live-of m (node-view s ok k h)
+    pub mover-live : Mover (kind words k) → Live (left words k st) vs
+    mover-live m = live-of m (node-view words ok k h)
 
     pub let-moves :
-        kind s k ≡ 2 →
-        Silent (left s k st) vs (left s k (set st 0 1)) (set vs (a s k) (value (expressionOf s (b s k)) vs))
+        kind words k ≡ 2 →
+        Silent (left words k st) vs (left words k (set st 0 1)) (set vs (a words k) (value (expressionOf words (b words k)) vs))
     unfolding residual suspended move isNil
     let-moves e =
-        rw (known s ok k h e .0, z, own-set 1, first-set 1 (processOf s (c s k)))
+        rw (known words ok k h e .0, z, own-set 1, first-set 1 (one words k))
         (record { some = refl; awake = refl }, refl)
 
-    pub local-moves : kind s k ≡ 7 → Silent (left s k st) vs (left s k (set st 0 1)) (set vs (a s k) (pos 0))
+    pub local-moves : kind words k ≡ 7 → Silent (left words k st) vs (left words k (set st 0 1)) (set vs (a words k) (pos 0))
     unfolding residual suspended move isNil
     local-moves e =
-        rw (known s ok k h e .0, z, own-set 1, first-set 1 (processOf s (b s k)))
+        rw (known words ok k h e .0, z, own-set 1, first-set 1 (one words k))
         (record { some = refl; awake = refl }, refl)
 
     pub then-moves :
-        kind s k ≡ 3 → test (expressionOf s (a s k)) vs ≡ true → Silent (left s k st) vs (left s k (set st 0 1)) vs
+        kind words k ≡ 3 → test (expressionOf words (a words k)) vs ≡ true → Silent (left words k st) vs (left words k (set st 0 1)) vs
     unfolding residual suspended move isNil
     then-moves e t =
-        rw (known s ok k h e .0, z, own-set 1, first-set 1 (processOf s (b s k)), t)
+        rw (known words ok k h e .0, z, own-set 1, first-set 1 (one words k), t)
         (record { some = refl; awake = refl }, refl)
 
     pub else-moves :
-        kind s k ≡ 3 → test (expressionOf s (a s k)) vs ≡ false → Silent (left s k st) vs (left s k (set st 0 2)) vs
+        kind words k ≡ 3 → test (expressionOf words (a words k)) vs ≡ false → Silent (left words k st) vs (left words k (set st 0 2)) vs
     unfolding residual suspended move isNil
     else-moves e t =
-        rw (known s ok k h e .0, z, own-set 2, second-set 2 (processOf s (b s k)), t)
+        rw (known words ok k h e .0, z, own-set 2, second-set 2 (one words k), t)
         (record { some = refl; awake = refl }, refl)
 
     pub done-moves :
-        kind s k ≡ 4 → test (expressionOf s (a s k)) vs ≡ false → Silent (left s k st) vs (left s k (set st 0 4)) vs
+        kind words k ≡ 4 → test (expressionOf words (a words k)) vs ≡ false → Silent (left words k st) vs (left words k (set st 0 4)) vs
     unfolding residual suspended move isNil
     done-moves e t =
-        rw (known s ok k h e .0, z, own-set 4, t) (record { some = refl; awake = refl }, refl)
+        rw (known words ok k h e .0, z, own-set 4, t) (record { some = refl; awake = refl }, refl)
 
     pub assign-writes :
-        kind s k ≡ 1 → Writes (left s k st) vs (a s k) (value (expressionOf s (b s k)) vs)
+        kind words k ≡ 1 → Writes (left words k st) vs (a words k) (value (expressionOf words (b words k)) vs)
     unfolding residual suspended move isNil calledFor
     assign-writes e =
-        rw (known s ok k h e .0, z)
+        rw (known words ok k h e .0, z)
         (record {
           live = record { some = refl; awake = refl };
           process = refl;
@@ -206,10 +201,10 @@ module _ (s : List ℕ) (ok : Checked s) (k : ℕ) (h : k < nodeCount s) (st : L
           line = λ seen at. refl;
         })
 
-    pub emit-writes : kind s k ≡ 6 → Writes (left s k st) vs (a s k) (pos 1)
+    pub emit-writes : kind words k ≡ 6 → Writes (left words k st) vs (a words k) (pos 1)
     unfolding residual suspended move isNil calledFor
     emit-writes e =
-        rw (known s ok k h e .0, z)
+        rw (known words ok k h e .0, z)
         (record {
           live = record { some = refl; awake = refl };
           process = refl;
@@ -218,16 +213,16 @@ module _ (s : List ℕ) (ok : Checked s) (k : ℕ) (h : k < nodeCount s) (st : L
         })
 
     -- a loop's next round: its byte is set, and the bytes of its body are cleared
-    module _ (e : kind s k ≡ 4) (whole : length st ≡ size (processOf s k)) (zs : List ℕ)
+    module _ (e : kind words k ≡ 4) (whole : length st ≡ size (processOf words k)) (zs : List ℕ)
         (clear : zs ≡ replicate (length (take (length (set st 0 1) - 1) (drop 1 (set st 0 1)))) 0) where
       abbrev cleared : List ℕ
       cleared = putMid 1 (length (set st 0 1) - 1) (set st 0 1) zs
 
-      long : length (set st 0 1) ≡ suc (size (processOf s (b s k)))
+      long : length (set st 0 1) ≡ suc (size (one words k))
       unfolding size
-      long = length-set st 0 1 ∙ whole ∙ ap size (known s ok k h e .0)
+      long = length-set st 0 1 ∙ whole ∙ ap size (known words ok k h e .0)
 
-      zeros-long : length zs ≡ size (processOf s (b s k))
+      zeros-long : length zs ≡ size (one words k)
       zeros-long =
           ap length clear
           ∙ length-replicate _ 0
@@ -242,16 +237,16 @@ module _ (s : List ℕ) (ok : Checked s) (k : ℕ) (h : k < nodeCount s) (st : L
       abbrev count : ℕ
       count = length (take (length (set st 0 1) - 1) (drop 1 (set st 0 1)))
 
-      fresh-body : residual (processOf s (b s k)) (firstOf (processOf s (b s k)) cleared) ≡ processOf s (b s k)
+      fresh-body : residual (one words k) (firstOf (one words k) cleared) ≡ (one words k)
       fresh-body =
-          ap (residual (processOf s (b s k)))
-          (first-put (size (processOf s (b s k))) (length (set st 0 1)) long (set st 0 1) zs (omega arith) zeros-long ∙ clear)
-          ∙ zeros (processOf s (b s k)) count (omega (arith, zeros-long, ap length clear ∙ length-replicate count 0))
+          ap (residual (one words k))
+          (first-put (size (one words k)) (length (set st 0 1)) long (set st 0 1) zs (omega arith) zeros-long ∙ clear)
+          ∙ zeros (one words k) count (omega (arith, zeros-long, ap length clear ∙ length-replicate count 0))
 
       own-cleared : own cleared ≡ 1
       own-cleared = own-put 1 (length (set st 0 1) - 1) (set st 0 1) zs (omega arith) (omega (arith, long)) ∙ own-set 1
 
-      pub round-moves : test (expressionOf s (a s k)) vs ≡ true → Silent (left s k st) vs (left s k cleared) vs
+      pub round-moves : test (expressionOf words (a words k)) vs ≡ true → Silent (left words k st) vs (left words k cleared) vs
       unfolding residual suspended move isNil
       round-moves t =
-          rw (known s ok k h e .0, z, own-cleared, t, fresh-body) (record { some = refl; awake = refl }, refl)
+          rw (known words ok k h e .0, z, own-cleared, t, fresh-body) (record { some = refl; awake = refl }, refl)

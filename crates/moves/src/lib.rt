@@ -1,19 +1,15 @@
 // A node's own moves: assign, let, if, while, emit, local.
 mod log; // log.rt: the lines of the log
 
-use layout::Script;
-use plan::forms;
+use program::MAX_NAMES;
+use program::WORDS;
+use program::forms;
 ghost use mathlib.Core.Path.{_≡_};
-ghost use Prim.Native.Nat.{_/_, _≤_, _<_};
 ghost use lib.ListN.{length, replicate};
-ghost use Rattle.layout.specs.Layout.{mostNames, nodeCount};
-ghost use Rattle.layout.specs.Entries.{partOf, node};
-ghost use Rattle.residual.specs.Residual.{own};
-ghost use Rattle.plan.specs.Forms.{mover, frontOf};
-ghost use Rattle.plan.specs.Plan.{KeepsPlan};
+ghost use Rattle.program.specs.Program.{kindAt};
 ghost use Rattle.moves.specs.Moves.{Silent};
-ghost use Rattle.residual.specs.Nodes.{Valued, At, left};
-ghost use Rattle.moves.specs.Contracts.{Counted, seenIn, IsSilent, isWriter, IsWriter, Writes, Written, runningAt, Advances};
+ghost use Rattle.residual.specs.Nodes.{left};
+ghost use Rattle.moves.specs.Contracts.{Unmoved, IsSilent, isWriter, IsWriter, WriterAt, CanWrite, Written, CanMoveOwn, Makes};
 
 // Why a node made no further move: it has made one and can go on; it is nil; it is suspended; the limit is reached;
 // the next line has no room.
@@ -67,44 +63,32 @@ fn clear_body(state: &mut [u8])
 }
 
 // A let sets its name and leaves its body.
-fn move_let(
-    s: &&[u8],
-    plan: &[usize; Script::MAX_PARTS],
-    values: &mut [i32],
-    state: &mut [u8],
-    k: usize,
-)
-    requires { ⌜ Valued (now (now s)) (now values) × (KeepsPlan (now (now s)) (now plan) × (At (now (now s)) k (now state) × ((partOf (now (now s)) (node (now (now s)) k) .kind ≡ 2) × (own (now state) ≡ 0)))) ⌝ }
-    ensures { λ _. ⌜ Silent (left (now (now (s .entry))) k (now (state .entry))) (now (values .entry)) (left (now (now (s .entry))) k (now (state .exit))) (now (values .exit)) ⌝ }
+fn move_let(program: &[usize; WORDS], values: &mut [i32], state: &mut [u8], k: usize)
+    requires { ⌜ Unmoved (now program) k (now state) (now values) 2 ⌝ }
+    ensures { λ _. ⌜ Silent (left (now (program .entry)) k (now (state .entry))) (now (values .entry)) (left (now (program .entry)) k (now (state .exit))) (now (values .exit)) ⌝ }
 {
-    let x = plan::a_at(s, plan, k);
-    let v = evaluation::value_of(plan, values, plan::b_at(s, plan, k));
+    let x = program::a_at(program, k);
+    let v = evaluation::value_of(program, values, program::b_at(program, k));
     values[x] = v;
     state[0] = 1;
 }
 
 // A local makes its signal absent and leaves its body.
-fn move_local(
-    s: &&[u8],
-    plan: &[usize; Script::MAX_PARTS],
-    values: &mut [i32],
-    state: &mut [u8],
-    k: usize,
-)
-    requires { ⌜ Valued (now (now s)) (now values) × (KeepsPlan (now (now s)) (now plan) × (At (now (now s)) k (now state) × ((partOf (now (now s)) (node (now (now s)) k) .kind ≡ 7) × (own (now state) ≡ 0)))) ⌝ }
-    ensures { λ _. ⌜ Silent (left (now (now (s .entry))) k (now (state .entry))) (now (values .entry)) (left (now (now (s .entry))) k (now (state .exit))) (now (values .exit)) ⌝ }
+fn move_local(program: &[usize; WORDS], values: &mut [i32], state: &mut [u8], k: usize)
+    requires { ⌜ Unmoved (now program) k (now state) (now values) 7 ⌝ }
+    ensures { λ _. ⌜ Silent (left (now (program .entry)) k (now (state .entry))) (now (values .entry)) (left (now (program .entry)) k (now (state .exit))) (now (values .exit)) ⌝ }
 {
-    let a = plan::a_at(s, plan, k);
+    let a = program::a_at(program, k);
     values[a] = 0;
     state[0] = 1;
 }
 
 // An if leaves a branch.
-fn move_if(s: &&[u8], plan: &[usize; Script::MAX_PARTS], values: &[i32], state: &mut [u8], k: usize)
-    requires { ⌜ Valued (now (now s)) (now values) × (KeepsPlan (now (now s)) (now plan) × (At (now (now s)) k (now state) × ((partOf (now (now s)) (node (now (now s)) k) .kind ≡ 3) × (own (now state) ≡ 0)))) ⌝ }
-    ensures { λ _. ⌜ Silent (left (now (now (s .entry))) k (now (state .entry))) (now (values .entry)) (left (now (now (s .entry))) k (now (state .exit))) (now (values .entry)) ⌝ }
+fn move_if(program: &[usize; WORDS], values: &[i32], state: &mut [u8], k: usize)
+    requires { ⌜ Unmoved (now program) k (now state) (now values) 3 ⌝ }
+    ensures { λ _. ⌜ Silent (left (now (program .entry)) k (now (state .entry))) (now (values .entry)) (left (now (program .entry)) k (now (state .exit))) (now (values .entry)) ⌝ }
 {
-    if evaluation::test_holds(s, plan, values, plan::a_at(s, plan, k)) {
+    if evaluation::test_holds(program, values, program::a_at(program, k)) {
         state[0] = 1;
     } else {
         state[0] = 2;
@@ -112,17 +96,11 @@ fn move_if(s: &&[u8], plan: &[usize; Script::MAX_PARTS], values: &[i32], state: 
 }
 
 // A while leaves its body, as it is written, and then itself; or nil.
-fn move_while(
-    s: &&[u8],
-    plan: &[usize; Script::MAX_PARTS],
-    values: &[i32],
-    state: &mut [u8],
-    k: usize,
-)
-    requires { ⌜ Valued (now (now s)) (now values) × (KeepsPlan (now (now s)) (now plan) × (At (now (now s)) k (now state) × ((partOf (now (now s)) (node (now (now s)) k) .kind ≡ 4) × (own (now state) ≡ 0)))) ⌝ }
-    ensures { λ _. ⌜ Silent (left (now (now (s .entry))) k (now (state .entry))) (now (values .entry)) (left (now (now (s .entry))) k (now (state .exit))) (now (values .entry)) ⌝ }
+fn move_while(program: &[usize; WORDS], values: &[i32], state: &mut [u8], k: usize)
+    requires { ⌜ Unmoved (now program) k (now state) (now values) 4 ⌝ }
+    ensures { λ _. ⌜ Silent (left (now (program .entry)) k (now (state .entry))) (now (values .entry)) (left (now (program .entry)) k (now (state .exit))) (now (values .entry)) ⌝ }
 {
-    if evaluation::test_holds(s, plan, values, plan::a_at(s, plan, k)) {
+    if evaluation::test_holds(program, values, program::a_at(program, k)) {
         state[0] = 1;
         clear_body(&mut state[1..]);
     } else {
@@ -132,25 +110,24 @@ fn move_while(
 
 // The moves of let, if, while and local write no line.
 fn move_silently(
-    s: &&[u8],
-    plan: &[usize; Script::MAX_PARTS],
+    program: &[usize; WORDS],
     values: &mut [i32],
     state: &mut [u8],
     k: usize,
     kind: usize,
 )
-    requires { ⌜ Valued (now (now s)) (now values) × (KeepsPlan (now (now s)) (now plan) × (At (now (now s)) k (now state) × ((kind ≡ partOf (now (now s)) (node (now (now s)) k) .kind) × (own (now state) ≡ 0)))) ⌝ }
+    requires { ⌜ Unmoved (now program) k (now state) (now values) kind ⌝ }
     requires { ⌜ IsSilent kind ⌝ }
-    ensures { λ _. ⌜ Silent (left (now (now (s .entry))) k (now (state .entry))) (now (values .entry)) (left (now (now (s .entry))) k (now (state .exit))) (now (values .exit)) ⌝ }
+    ensures { λ _. ⌜ Silent (left (now (program .entry)) k (now (state .entry))) (now (values .entry)) (left (now (program .entry)) k (now (state .exit))) (now (values .exit)) ⌝ }
 {
     if kind == 4 {
-        move_while(s, plan, values, state, k);
+        move_while(program, values, state, k);
     } else if kind == 3 {
-        move_if(s, plan, values, state, k);
+        move_if(program, values, state, k);
     } else if kind == 2 {
-        move_let(s, plan, values, state, k);
+        move_let(program, values, state, k);
     } else {
-        move_local(s, plan, values, state, k);
+        move_local(program, values, state, k);
     }
 }
 
@@ -162,26 +139,20 @@ pub fn is_writer(kind: usize) -> bool
 }
 
 // What node k, an assignment or an emission, gives its name.
-fn written(
-    s: &&[u8],
-    plan: &[usize; Script::MAX_PARTS],
-    values: &[i32],
-    k: usize,
-    kind: usize,
-) -> i32
-    requires { ⌜ Valued (now (now s)) (now values) × (KeepsPlan (now (now s)) (now plan) × ((k < nodeCount (now (now s))) × ((kind ≡ partOf (now (now s)) (node (now (now s)) k) .kind) × IsWriter kind))) ⌝ }
-    ensures { λ r. ⌜ Written (now (now (s .entry))) k (now (values .entry)) r ⌝ }
+fn written(program: &[usize; WORDS], values: &[i32], k: usize, kind: usize) -> i32
+    requires { ⌜ WriterAt (now program) k (now values) kind ⌝ }
+    ensures { λ r. ⌜ Written (now (program .entry)) k (now (values .entry)) r ⌝ }
 {
     if kind == 6 {
         return 1;
     }
-    evaluation::value_of(plan, values, plan::b_at(s, plan, k))
+    evaluation::value_of(program, values, program::b_at(program, k))
 }
 
 // An assignment or an emission gives x this value and leaves nil.
 fn write(
-    s: &&[u8],
-    seen: &[u8; Script::MAX_NAMES],
+    program: &[usize; WORDS],
+    seen: &[u8; MAX_NAMES],
     values: &mut [i32],
     state: &mut [u8],
     log: &mut [u32],
@@ -191,8 +162,8 @@ fn write(
     x: usize,
     value: i32,
 ) -> Done
-    requires { ⌜ At (now (now s)) k (now state) × (Writes (left (now (now s)) k (now state)) (now values) x value × (Counted (limits .steps) (now log) (at .steps) (at .lines) × ((at .steps < limits .steps) × ((x < length (now values)) × (x < mostNames))))) ⌝ }
-    ensures { λ r. ⌜ Advances (seenIn (now (seen .entry))) (limits .steps) (length (now (log .entry)) / 4) (runningAt (now (now (s .entry))) k (now (state .entry)) (now (values .entry)) (now (log .entry)) (at .steps) (limits .instant) (at .lines)) (runningAt (now (now (s .entry))) k (now (state .exit)) (now (values .exit)) (now (log .exit)) (r .at .steps) (limits .instant) (r .at .lines)) (r .why) × (0 < r .why) ⌝ }
+    requires { ⌜ CanWrite (now program) k (now state) (now values) (now log) (limits .steps) at x value ⌝ }
+    ensures { λ r. ⌜ Makes (now (program .entry)) (now (seen .entry)) limits k (now (state .entry)) (now (values .entry)) (now (log .entry)) at (now (state .exit)) (now (values .exit)) (now (log .exit)) r (Unit {0}) ⌝ }
 {
     let noted = log::note(seen, log, at.steps, limits.instant, at.lines, x, value);
     if !noted.fits {
@@ -211,9 +182,8 @@ fn write(
 
 // Node k makes its own move.
 pub fn move_own(
-    s: &&[u8],
-    plan: &[usize; Script::MAX_PARTS],
-    seen: &[u8; Script::MAX_NAMES],
+    program: &[usize; WORDS],
+    seen: &[u8; MAX_NAMES],
     values: &mut [i32],
     state: &mut [u8],
     log: &mut [u32],
@@ -221,19 +191,19 @@ pub fn move_own(
     at: Counts,
     k: usize,
 ) -> Done
-    requires { ⌜ Valued (now (now s)) (now values) × (KeepsPlan (now (now s)) (now plan) × (At (now (now s)) k (now state) × (Counted (limits .steps) (now log) (at .steps) (at .lines) × (frontOf (now (now s)) k (own (now state)) (length (now state)) .form ≡ mover)))) ⌝ }
-    ensures { λ r. ⌜ Advances (seenIn (now (seen .entry))) (limits .steps) (length (now (log .entry)) / 4) (runningAt (now (now (s .entry))) k (now (state .entry)) (now (values .entry)) (now (log .entry)) (at .steps) (limits .instant) (at .lines)) (runningAt (now (now (s .entry))) k (now (state .exit)) (now (values .exit)) (now (log .exit)) (r .at .steps) (limits .instant) (r .at .lines)) (r .why) × (IsWriter (partOf (now (now (s .entry))) (node (now (now (s .entry))) k) .kind) → 0 < r .why) ⌝ }
+    requires { ⌜ CanMoveOwn (now program) k (now state) (now values) (now log) (limits .steps) at ⌝ }
+    ensures { λ r. ⌜ Makes (now (program .entry)) (now (seen .entry)) limits k (now (state .entry)) (now (values .entry)) (now (log .entry)) at (now (state .exit)) (now (values .exit)) (now (log .exit)) r (IsWriter (kindAt (now (program .entry)) k)) ⌝ }
 {
     if limits.steps <= at.steps {
         return Done { why: SPENT, at };
     }
-    let kind = plan::kind_at(s, plan, k);
+    let kind = program::kind_at(program, k);
     if is_writer(kind) {
-        let x = plan::a_at(s, plan, k);
-        let v = written(s, plan, values, k, kind);
-        return write(s, seen, values, state, log, limits, at, k, x, v);
+        let x = program::a_at(program, k);
+        let v = written(program, values, k, kind);
+        return write(program, seen, values, state, log, limits, at, k, x, v);
     }
-    move_silently(s, plan, values, state, k, kind);
+    move_silently(program, values, state, k, kind);
     Done {
         why: AGAIN,
         at: Counts {

@@ -1,9 +1,9 @@
 // The log: four words make a line.
-use layout::Script;
+use program::MAX_NAMES;
 ghost use mathlib.Core.Path.{_≡_};
 ghost use Prim.Native.Nat.{_*_, _/_, _+_, _≤_, _<_};
 ghost use lib.ListN.{length};
-ghost use Rattle.layout.specs.Layout.{mostNames};
+ghost use Rattle.program.specs.Program.{mostNames};
 ghost use Rattle.moves.specs.Moves.{putWords};
 ghost use Rattle.moves.specs.Contracts.{mostSteps, lineOf, Notes};
 
@@ -25,7 +25,7 @@ pub struct Noted {
 
 // Writes the line that a step calls for which gives x this value, if a reader sees x and there is room.
 pub fn note(
-    seen: &[u8; Script::MAX_NAMES],
+    seen: &[u8; MAX_NAMES],
     log: &mut [u32],
     steps: usize,
     instant: u32,

@@ -4,7 +4,8 @@ use mathlib.Core.Path.{_≡_}
 use mathlib.Core.Bool.{Bool, true, false}
 use Prim.Native.Nat.{ℕ, zero, suc, _+_, _*_, _/_, _%_, _^_, _<_}
 use native.Mathlib.Omega.{arith}
-use Rattle.packing.specs.Packing.{formIn, aIn, bIn, firstIn, secondIn, sizeIn, nodeKindIn, watchesIn, packedFields, marked, packed}
+use lib.Dec.{eqb}
+use Rattle.packing.specs.Packing.{formIn, aIn, bIn, firstIn, sizeIn, nodeKindIn, watchesIn, packedFields, marked, packed, levelIn, signalIn, sessionIn, named}
 
 -- the forms are the lowest 16 bits
 pub low : (forms rest tag : ℕ) → tag < 4 → formIn (forms + 65536 * rest) tag ≡ formIn forms tag
@@ -15,23 +16,20 @@ low forms rest (suc (suc (suc zero))) l = omega arith
 low forms rest (suc (suc (suc (suc t)))) l = absurd (omega (arith, l))
 
 -- the fields of a packed word, whatever its forms and its kind are
-module _ (forms kind a b first second size : ℕ) (few : forms < 65536) where
+module _ (forms kind a b first size : ℕ) (few : forms < 65536) where
   abbrev pub made : ℕ
-  made = packed forms (packedFields a b first second size) kind
+  made = packed forms (packedFields a b first size) kind
 
-  pub a-told : aIn made ≡ a % 256
+  pub a-told : aIn made ≡ a % 1024
   a-told = omega (arith, few)
 
-  pub b-told : bIn made ≡ b % 256
+  pub b-told : bIn made ≡ b % 1024
   b-told = omega (arith, few)
 
-  pub first-told : firstIn made ≡ first % 256
+  pub first-told : firstIn made ≡ first % 1024
   first-told = omega (arith, few)
 
-  pub second-told : secondIn made ≡ second % 256
-  second-told = omega (arith, few)
-
-  pub size-told : sizeIn made ≡ size % 256
+  pub size-told : sizeIn made ≡ size % 1024
   size-told = omega (arith, few)
 
 pub mark-fits : (kind : ℕ) → kind < 128 → (w : Bool) → marked kind w < 256
@@ -39,15 +37,29 @@ mark-fits kind h true = omega (arith, h)
 mark-fits kind h false = omega (arith, h)
 
 -- its kind, and its mark
-module _ (forms a b first second size kind : ℕ) (few : forms < 65536) (fits : kind < 128) where
-  pub kind-told : (w : Bool) → nodeKindIn (made forms (marked kind w) a b first second size few) ≡ kind
+module _ (forms a b first size kind : ℕ) (few : forms < 65536) (fits : kind < 128) where
+  pub kind-told : (w : Bool) → nodeKindIn (made forms (marked kind w) a b first size few) ≡ kind
   kind-told true = omega (arith, few, fits)
   kind-told false = omega (arith, few, fits)
 
-  pub mark-told : (w : Bool) → watchesIn (made forms (marked kind w) a b first second size few) ≡ w
+  pub mark-told : (w : Bool) → watchesIn (made forms (marked kind w) a b first size few) ≡ w
   mark-told true =
-      let e : made forms (kind + 128) a b first second size few / 2 ^ 63 ≡ 1 = omega (arith, few, fits) in
+      let e : made forms (kind + 128) a b first size few / 2 ^ 63 ≡ 1 = omega (arith, few, fits) in
       rw e
   mark-told false =
-      let e : made forms kind a b first second size few / 2 ^ 63 ≡ 0 = omega (arith, few, fits) in
+      let e : made forms kind a b first size few / 2 ^ 63 ≡ 0 = omega (arith, few, fits) in
       rw e
+
+-- the word of a name
+module _ (level kind : ℕ) (h : level < 256) (k : kind < 2) where
+  pub level-told : (b : Bool) → levelIn (named level kind b) ≡ level
+  level-told true = omega (arith, h, k)
+  level-told false = omega (arith, h, k)
+
+  pub signal-told : (b : Bool) → signalIn (named level kind b) ≡ eqb kind 1
+  signal-told true = let e : named level kind true / 256 % 2 ≡ kind = omega (arith, h, k) in rw e
+  signal-told false = let e : named level kind false / 256 % 2 ≡ kind = omega (arith, h, k) in rw e
+
+  pub session-told : (b : Bool) → sessionIn (named level kind b) ≡ b
+  session-told true = let e : named level kind true / 512 ≡ 1 = omega (arith, h, k) in rw e
+  session-told false = let e : named level kind false / 512 ≡ 0 = omega (arith, h, k) in rw e

@@ -20,25 +20,22 @@ laterIn w = w / 2 ^ 16 % 2 ^ 16
 abbrev pub spelled : ℕ → ℕ → ℕ → ℕ
 spelled kind later operand = 2 ^ 32 * kind + (2 ^ 16 * later + operand)
 
--- what the word of a node tells: the form by its own byte, fields a and b, the first and the second child, the size of
--- the first, the kind, and whether a watching stands in the node
+-- what the word of a node tells: the form by its own byte; field a, a name or an expression; field b, an expression or
+-- the second child; the first child, and its size; the kind, and whether a watching stands in the node
 abbrev pub formIn : ℕ → ℕ → ℕ
 formIn w tag = w / 2 ^ (4 * tag) % 16
 
 abbrev pub aIn : ℕ → ℕ
-aIn w = w / 2 ^ 16 % 256
+aIn w = w / 2 ^ 16 % 1024
 
 abbrev pub bIn : ℕ → ℕ
-bIn w = w / 2 ^ 24 % 256
+bIn w = w / 2 ^ 26 % 1024
 
 abbrev pub firstIn : ℕ → ℕ
-firstIn w = w / 2 ^ 32 % 256
-
-abbrev pub secondIn : ℕ → ℕ
-secondIn w = w / 2 ^ 40 % 256
+firstIn w = w / 2 ^ 36 % 1024
 
 abbrev pub sizeIn : ℕ → ℕ
-sizeIn w = w / 2 ^ 48 % 256
+sizeIn w = w / 2 ^ 46 % 1024
 
 abbrev pub nodeKindIn : ℕ → ℕ
 nodeKindIn w = w / 2 ^ 56 % 128
@@ -47,12 +44,39 @@ abbrev pub watchesIn : ℕ → Bool
 watchesIn w = eqb (w / 2 ^ 63) 1
 
 -- a word that tells these
-abbrev pub packedFields : ℕ → ℕ → ℕ → ℕ → ℕ → ℕ
-packedFields a b first second size =
-    a % 256 + 256 * (b % 256 + 256 * (first % 256 + 256 * (second % 256 + 256 * (size % 256))))
+abbrev pub packedFields : ℕ → ℕ → ℕ → ℕ → ℕ
+packedFields a b first size = a % 1024 + 1024 * (b % 1024 + 1024 * (first % 1024 + 1024 * (size % 1024)))
 
 abbrev pub marked : ℕ → Bool → ℕ
 marked kind watches = cond watches (kind + 128) kind
 
 abbrev pub packed : ℕ → ℕ → ℕ → ℕ
 packed forms fields kind = forms + 2 ^ 16 * (fields + 2 ^ 40 * kind)
+
+-- what the word of a name tells: its level, whether it is a signal, whether it is the session's
+abbrev pub levelIn : ℕ → ℕ
+levelIn w = w % 256
+
+abbrev pub signalIn : ℕ → Bool
+signalIn w = eqb (w / 256 % 2) 1
+
+abbrev pub sessionIn : ℕ → Bool
+sessionIn w = eqb (w / 512) 1
+
+-- a word that tells these
+abbrev pub named : ℕ → ℕ → Bool → ℕ
+named level kind session = cond session (level + 256 * kind + 512) (level + 256 * kind)
+
+-- what the word of the counts tells: how many names, expressions and nodes there are
+abbrev pub namesIn : ℕ → ℕ
+namesIn w = w % 2 ^ 16
+
+abbrev pub expressionsIn : ℕ → ℕ
+expressionsIn w = w / 2 ^ 16 % 2 ^ 16
+
+abbrev pub nodesIn : ℕ → ℕ
+nodesIn w = w / 2 ^ 32
+
+-- a word that tells these
+abbrev pub counted : ℕ → ℕ → ℕ → ℕ
+counted names expressions nodes = names + 2 ^ 16 * (expressions + 2 ^ 16 * nodes)

@@ -1,9 +1,11 @@
-// The words of a plan. From the lowest bit on the word of an expression has a constant (32 bits), or field a and field b
-// (16 each), then the kind; that of a node the forms (four bits for each byte of state), field a, field b, the first and
-// the second child, the size of the first (8 bits each), the kind (7 bits), and whether a watching stands in the node.
+// The words of a program. From the lowest bit on the word of an expression has a constant (32 bits), or field a and field b
+// (16 each), then the kind; that of a node the forms (four bits for each byte of state), field a (a name or an expression),
+// field b (an expression or the second child), the first child, the size of the first (10 bits each), the kind (7 bits),
+// and whether a watching stands in the node; that of a name its level (8 bits), whether it is a signal, whether it is the
+// session's; that of the counts how many names, expressions and nodes there are (16 bits each).
 ghost use mathlib.Core.Path.{_≡_};
 ghost use Prim.Native.Nat.{_<_};
-ghost use Rattle.packing.specs.Packing.{kindIn, constantIn, operandIn, laterIn, spelled, formIn, aIn, bIn, firstIn, secondIn, sizeIn, nodeKindIn, watchesIn, packedFields, marked, packed};
+ghost use Rattle.packing.specs.Packing.{kindIn, constantIn, operandIn, laterIn, spelled, formIn, aIn, bIn, firstIn, sizeIn, nodeKindIn, watchesIn, packedFields, marked, packed, levelIn, signalIn, sessionIn, named, namesIn, expressionsIn, nodesIn, counted};
 
 // The bit above the kind of a node: a watching stands in it.
 const MARK: usize = 128;
@@ -51,31 +53,25 @@ pub fn form_in(w: usize, tag: usize) -> usize
 pub fn a_in(w: usize) -> usize
     ensures { λ r. ⌜ r ≡ aIn w ⌝ }
 {
-    (w >> 16) % 256
+    (w >> 16) % 1024
 }
 
 pub fn b_in(w: usize) -> usize
     ensures { λ r. ⌜ r ≡ bIn w ⌝ }
 {
-    (w >> 24) % 256
+    (w >> 26) % 1024
 }
 
 pub fn first_in(w: usize) -> usize
     ensures { λ r. ⌜ r ≡ firstIn w ⌝ }
 {
-    (w >> 32) % 256
-}
-
-pub fn second_in(w: usize) -> usize
-    ensures { λ r. ⌜ r ≡ secondIn w ⌝ }
-{
-    (w >> 40) % 256
+    (w >> 36) % 1024
 }
 
 pub fn size_in(w: usize) -> usize
     ensures { λ r. ⌜ r ≡ sizeIn w ⌝ }
 {
-    (w >> 48) % 256
+    (w >> 46) % 1024
 }
 
 pub fn node_kind_in(w: usize) -> usize
@@ -90,12 +86,11 @@ pub fn watches_in(w: usize) -> bool
     w >> 63 == 1
 }
 
-// The word of a node without its kind and its forms: two fields, two children, and the size of the first, each by its
-// lowest eight bits.
-pub fn pack_fields(a: usize, b: usize, first: usize, second: usize, size: usize) -> usize
-    ensures { λ r. ⌜ r ≡ packedFields a b first second size ⌝ }
+// The word of a node without its kind and its forms: two fields, the first child and its size, each by its lowest ten bits.
+pub fn pack_fields(a: usize, b: usize, first: usize, size: usize) -> usize
+    ensures { λ r. ⌜ r ≡ packedFields a b first size ⌝ }
 {
-    a % 256 + 256 * (b % 256 + 256 * (first % 256 + 256 * (second % 256 + 256 * (size % 256))))
+    a % 1024 + 1024 * (b % 1024 + 1024 * (first % 1024 + 1024 * (size % 1024)))
 }
 
 // A kind, with the mark of a node in which a watching stands.
@@ -114,4 +109,48 @@ pub fn pack(forms: usize, fields: usize, kind: usize) -> usize
     ensures { λ r. ⌜ r ≡ packed forms fields kind ⌝ }
 {
     forms + 65536 * (fields + 1099511627776 * kind)
+}
+
+// What the word of a name tells.
+pub fn is_signal_in(w: usize) -> bool
+    ensures { λ r. ⌜ r ≡ signalIn w ⌝ }
+{
+    (w >> 8) % 2 == 1
+}
+
+pub fn is_session_in(w: usize) -> bool
+    ensures { λ r. ⌜ r ≡ sessionIn w ⌝ }
+{
+    w >> 9 == 1
+}
+
+pub fn name(level: usize, kind: usize, session: bool) -> usize
+    requires { ⌜ (level < 256) × (kind < 2) ⌝ }
+    ensures { λ r. ⌜ r ≡ named level kind session ⌝ }
+{
+    let w = level + 256 * kind;
+    if session {
+        return w + 512;
+    }
+    w
+}
+
+// What the word of the counts tells.
+pub fn names_in(w: usize) -> usize
+    ensures { λ r. ⌜ r ≡ namesIn w ⌝ }
+{
+    w % 65536
+}
+
+pub fn nodes_in(w: usize) -> usize
+    ensures { λ r. ⌜ r ≡ nodesIn w ⌝ }
+{
+    w >> 32
+}
+
+pub fn count(names: usize, expressions: usize, nodes: usize) -> usize
+    requires { ⌜ (names < 65536) × ((expressions < 65536) × (nodes < 65536)) ⌝ }
+    ensures { λ r. ⌜ r ≡ counted names expressions nodes ⌝ }
+{
+    names + 65536 * (expressions + 65536 * nodes)
 }

@@ -1,5 +1,6 @@
 -- Laws that the proofs of several functions use.
 pub mod Reading
-pub mod Fronts
 pub mod Watching
+pub mod Scopes
 pub mod Plans
+pub mod Joining

@@ -1,27 +1,28 @@
 -- The words of a plan: what was packed into one is what it tells.
 -- Assumes nothing.
 use mathlib.Core.Path.{_≡_, refl, sym, ap, _∙_}
-use mathlib.Core.Bool.{Bool}
+use mathlib.Core.Bool.{Bool, cond}
+use mathlib.Core.Logic.{_⊎_, ⊎-elim}
 use mathlib.Core.List.{List}
 use Prim.Native.Nat.{ℕ, _+_, _*_, _%_, _^_, _≤_, _<_}
 use native.Mathlib.Decide.{ℕ-discrete}
 use native.Mathlib.Omega.{arith}
-use lib.Dec.{eqb, ltb}
-use lib.ListN.{set, length}
+use lib.Dec.{eqb, leb, ltb}
+use lib.ListN.{getD, set, length}
 use lib.Seq.{getD-set-same, getD-set-other}
-use borrow.Author.Tests.{eqb-true, ltb-true}
+use borrow.Author.Tests.{eqb-true, ltb-true, le-leb, lt-leb}
 use Rattle.prelude.specs.Search.{all, any, firstFrom}
 use Rattle.prelude.specs.Search as search-for
 use Rattle.prelude.proofs.Searches.{all-elim}
 use Rattle.layout.specs.declared.entries.Part.{Part}
-use Rattle.layout.specs.Layout.{mostExpressions}
 use Rattle.layout.specs.Entries.{partOf, node}
 use Rattle.fields.specs.Fields.{firstChild, secondChild}
-use Rattle.tree.specs.Tree.{processOf, size}
-use Rattle.plan.specs.Forms.{formOf}
-use Rattle.packing.specs.Packing.{formIn, packedFields, marked, packed, spelled}
-use Rattle.packing.proofs.Words.{low, a-told, b-told, first-told, second-told, size-told, kind-told, mark-told}
-use Rattle.plan.specs.Plan.{watches, formsOf, Spelled, Planned, KeepsExpressions, KeepsNodes}
+use Rattle.language.specs.Shapes.{size, watches}
+use Rattle.tree.specs.Tree.{processOf}
+use Rattle.program.specs.Forms.{formOf, formsOf}
+use Rattle.packing.specs.Packing.{formIn, packedFields, marked, packed, spelled, namesIn, expressionsIn, nodesIn, counted}
+use Rattle.packing.proofs.Words.{low, a-told, b-told, first-told, size-told, kind-told, mark-told}
+use Rattle.plan.specs.Plan.{Spelled, Planned}
 
 pub forms-fit : (kind : ℕ) → kind < 11 → formsOf kind < 65536
 unfolding all any search-for.first firstFrom
@@ -40,15 +41,15 @@ module _ (s : List ℕ) (k : ℕ) where
   abbrev entry : Part
   entry = partOf s (node s k)
 
-  module _ (n : entry .kind < 11) (few : k ≤ 256) (one two count : ℕ) (w : Bool) (a : one % 256 ≡ firstChild entry % 256)
-      (b : two ≡ secondChild entry)
-      (sized : firstChild entry < k → (count ≡ size (processOf s (firstChild entry))) × (count < 256))
+  module _ (n : entry .kind < 11) (few : k ≤ 256) (one two count : ℕ) (w : Bool) (a : one ≡ firstChild entry % 256)
+      (b : two ≡ cond (leb (entry .kind) 2) (entry .b) (secondChild entry))
+      (sized : firstChild entry < k → (count ≡ size (processOf s (firstChild entry))) × (count < 1024))
       (marks : w ≡ watches (processOf s k)) where
     abbrev forms : ℕ
     forms = formsOf (entry .kind)
 
     abbrev fields : ℕ
-    fields = packedFields (entry .a) (entry .b) one two count
+    fields = packedFields (entry .a) two one count
 
     abbrev kind : ℕ
     kind = marked (entry .kind) w
@@ -59,17 +60,23 @@ module _ (s : List ℕ) (k : ℕ) where
     known : entry .kind < 128
     known = omega (arith, n)
 
+    b-is : entry .kind ≤ 2 → two ≡ entry .b
+    b-is l = b ∙ ap (λ t. cond t (entry .b) (secondChild entry)) (le-leb (entry .kind) 2 l)
+
+    second-is : 2 < entry .kind → two ≡ secondChild entry
+    second-is l = b ∙ ap (λ t. cond t (entry .b) (secondChild entry)) (lt-leb (entry .kind) 2 l)
+
     pub planned : Planned s k (packed forms fields kind)
     planned =
         record {
           forms = λ tag l. low forms (fields + 2 ^ 40 * kind) tag l ∙ forms-tell (entry .kind) tag n l;
-          kind = kind-told forms (entry .a) (entry .b) one two count (entry .kind) fit known w;
-          watches = mark-told forms (entry .a) (entry .b) one two count (entry .kind) fit known w ∙ marks;
-          a = λ h. omega (arith, h, a-told forms kind (entry .a) (entry .b) one two count fit);
-          b = λ h. omega (arith, h, b-told forms kind (entry .a) (entry .b) one two count fit);
-          first = λ h. omega (arith, h, few, a, first-told forms kind (entry .a) (entry .b) one two count fit);
-          second = λ h. omega (arith, h, few, b, second-told forms kind (entry .a) (entry .b) one two count fit);
-          size = λ h. omega (arith, sized h .0, sized h .1, size-told forms kind (entry .a) (entry .b) one two count fit);
+          kind = kind-told forms (entry .a) two one count (entry .kind) fit known w;
+          watches = mark-told forms (entry .a) two one count (entry .kind) fit known w ∙ marks;
+          a = λ h. omega (arith, h, a-told forms kind (entry .a) two one count fit);
+          b = λ l h. omega (arith, h, b-is l, b-told forms kind (entry .a) two one count fit);
+          second = λ l h. omega (arith, h, few, second-is l, b-told forms kind (entry .a) two one count fit);
+          first = λ h. omega (arith, h, few, a, first-told forms kind (entry .a) two one count fit);
+          size = λ h. omega (arith, sized h .0, sized h .1, size-told forms kind (entry .a) two one count fit);
         }
 
 -- the word that is spelled for expression e, whose entry is p
@@ -92,26 +99,25 @@ module _ (s : List ℕ) (e : ℕ) (p : Part) (q : p ≡ partOf s e) (b : p .b < 
         later = omega (arith, b, a, ap (λ (r : Part). r .b) q);
       }
 
--- loops that fill the plan: one more
-pub expressions-more :
-    (s t : List ℕ) (e w : ℕ) → e < length t → Spelled s e w → KeepsExpressions s e t →
-    KeepsExpressions s (e + 1) (set t e w)
-expressions-more s t e w h x keeps j l =
-    elim (ℕ-discrete j e) [
-      | yes same ↦ rw (same, getD-set-same t e w 0 h) x
-      | no other ↦ rw (getD-set-other t e j w 0 other) (keeps j (omega arith))
-    ]
+-- loops that fill a table of words from a place on: one more, and a word elsewhere
+module _ (P : ℕ → ℕ → Type 0) (at : ℕ) (t : List ℕ) where
+  abbrev pub Kept : ℕ → List ℕ → Type 0
+  Kept n t = (j : ℕ) → j < n → P j (getD t (at + j) 0)
 
-module _ (s t : List ℕ) (k w : ℕ) where
-  pub nodes-more :
-      mostExpressions + k < length t → Planned s k w → KeepsNodes s k t → KeepsNodes s (k + 1) (set t (mostExpressions + k) w)
-  nodes-more h x keeps j l =
-      elim (ℕ-discrete j k) [
-        | yes same ↦ rw (same, getD-set-same t (mostExpressions + k) w 0 h) x
-        | no other ↦ rw (getD-set-other t (mostExpressions + k) (mostExpressions + j) w 0 (λ e. other (omega (arith, e)))) (keeps j (omega arith))
+  pub kept-more : (i w : ℕ) → at + i < length t → P i w → Kept i t → Kept (i + 1) (set t (at + i) w)
+  kept-more i w h x keeps j l =
+      elim (ℕ-discrete j i) [
+        | yes same ↦ rw (same, getD-set-same t (at + i) w 0 h) x
+        | no other ↦ rw (getD-set-other t (at + i) (at + j) w 0 (λ e. other (omega (arith, e)))) (keeps j (omega arith))
       ]
 
-  pub expressions-kept :
-      (n : ℕ) → n ≤ mostExpressions → KeepsExpressions s n t → KeepsExpressions s n (set t (mostExpressions + k) w)
-  expressions-kept n few keeps e l =
-      rw (getD-set-other t (mostExpressions + k) e w 0 (λ q. omega (arith, q, l, few))) (keeps e l)
+  pub kept-still : (n i w : ℕ) → (i < at) ⊎ (at + n ≤ i) → Kept n t → Kept n (set t i w)
+  kept-still n i w apart keeps j l =
+      rw (getD-set-other t i (at + j) w 0 (λ e. ⊎-elim (λ h. omega (arith, h, e)) (λ h. omega (arith, h, e, l)) apart))
+      (keeps j l)
+
+-- the counts
+pub counts-told :
+    (a b c : ℕ) → a < 65536 → b < 65536 →
+    (namesIn (counted a b c) ≡ a) × ((expressionsIn (counted a b c) ≡ b) × (nodesIn (counted a b c) ≡ c))
+counts-told a b c l m = (omega (arith, l, m), (omega (arith, l, m), omega (arith, l, m)))

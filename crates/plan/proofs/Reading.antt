@@ -2,14 +2,35 @@
 -- Assumes nothing.
 use mathlib.Core.Path.{_≡_, ap, _∙_}
 use mathlib.Core.List.{List}
-use Prim.Native.Nat.{ℕ, _+_}
+use Prim.Native.Nat.{ℕ, _+_, _<_}
+use native.Mathlib.Omega.{arith}
 use Rattle.layout.specs.declared.Script.{Script}
 use Rattle.layout.specs.declared.entries.Part.{Part}
-use Rattle.layout.specs.Layout.{Laid}
+use Rattle.layout.specs.Layout.{nodeCount, Laid}
 use Rattle.layout.specs.Entries.{partOf, node}
 use Rattle.layout.proofs.Layouts.{expressions-are}
+use Rattle.reach.specs.Checked.{Checked}
+use Rattle.tree.proofs.Views.{NodeView, aNil, anAssign, aLet, anIf, aWhile, aSequence, anEmit, aLocal, aWatching, aWhen, aParallel, node-view}
 
 -- a part after the expressions is a node
 pub node-read :
     {s : List ℕ} {c : Script} (k : ℕ) {p : Part} → Laid s c → p ≡ partOf s (c .expressions + k) → p ≡ partOf s (node s k)
 node-read {s} k l e = e ∙ ap (λ n. partOf s (n + k)) (expressions-are l)
+
+-- a node has a kind
+module _ (s : List ℕ) (ok : Checked s) (k : ℕ) (h : k < nodeCount s) where
+  kind-of : NodeView s k → partOf s (node s k) .kind < 11
+  kind-of (aNil e q) = omega (arith, e)
+  kind-of (anAssign e q x y) = omega (arith, e)
+  kind-of (aLet e q x y z) = omega (arith, e)
+  kind-of (anIf e q x y z) = omega (arith, e)
+  kind-of (aWhile e q x y) = omega (arith, e)
+  kind-of (aSequence e q x y) = omega (arith, e)
+  kind-of (anEmit e q x) = omega (arith, e)
+  kind-of (aLocal e q x y) = omega (arith, e)
+  kind-of (aWatching e q x y) = omega (arith, e)
+  kind-of (aWhen e q x y) = omega (arith, e)
+  kind-of (aParallel e q x y) = omega (arith, e)
+
+  pub kind-known : partOf s (node s k) .kind < 11
+  kind-known = kind-of (node-view s ok k h)

@@ -8,6 +8,7 @@ use Prim.Native.Nat.{ℕ, _<_}
 use native.Mathlib.Omega.{arith}
 use lib.Dec.{eqb, ltb}
 use borrow.Author.Tests.{eqb-true, ltb-true, lt-ltb}
+use Rattle.language.specs.Shapes.{watches}
 use Rattle.layout.specs.declared.entries.Part.{Part}
 use Rattle.layout.specs.Layout.{nodeCount}
 use Rattle.layout.specs.Entries.{partOf, node}
@@ -19,7 +20,7 @@ use Rattle.faults.proofs.Holding.{right-field}
 use Rattle.reach.specs.Checked.{Checked}
 use Rattle.tree.specs.Tree.{processOf}
 use Rattle.tree.proofs.Views.{NodeView, aNil, anAssign, aLet, anIf, aWhile, aSequence, anEmit, aLocal, aWatching, aWhen, aParallel, node-view, role}
-use Rattle.plan.specs.Plan.{watches, watchesBefore, watchesBy, KeepsNodes}
+use Rattle.plan.specs.Plan.{watchesBefore, watchesBy, KeepsNodes}
 
 -- a conjunction's second test counts where the first holds
 and-same : (a b c : Bool) → (a ≡ true → b ≡ c) → (a && b) ≡ (a && c)
@@ -93,12 +94,12 @@ module _ (s : List ℕ) (ok : Checked s) where
     view (aWhen e q x p) = rw (q, e) (alone (p .before) (empty 9 2 (omega arith) e refl))
     view (aParallel e q p r) = rw (q, e) (both (p .before) (r .before))
 
-    module _ (plan : List ℕ) (keeps : KeepsNodes s k plan) where
-      word-tells : (j : ℕ) → watchesBefore plan k j ≡ told j
+    module _ (words : List ℕ) (keeps : KeepsNodes s k words) where
+      word-tells : (j : ℕ) → watchesBefore words k j ≡ told j
       word-tells j = and-same (ltb j k) _ _ (λ t. keeps j (ltb-true j k t) .watches)
 
       pub watches-told :
-          watchesBy plan k (entry .kind) (firstChild entry) (secondChild entry) ≡ watches (processOf s k)
+          watchesBy words k (entry .kind) (firstChild entry) (secondChild entry) ≡ watches (processOf s k)
       watches-told =
           ap₂ (λ a b. eqb (entry .kind) 8 || (a || b)) (word-tells (firstChild entry)) (word-tells (secondChild entry))
           ∙ view (node-view s ok k h)

@@ -1,3 +1,2 @@
--- What a run goes by: the forms that a node can come to, and the plan.
-pub mod Forms
+-- The program of a checked file.
 pub mod Plan

@@ -1,5 +1,4 @@
 -- Laws of what is left of a node.
 pub mod Residuals
-pub mod Scopes
 pub mod Sights
 pub mod Staying

@@ -12,9 +12,9 @@ use lib.ListN.{getD, set, length, take, drop, replicate}
 use lib.Seq.{getD-set-same}
 use Rattle.prelude.proofs.Bools.{and-intro, and-left, and-right}
 use Rattle.language.specs.Syntax.{Proc, nil, assign, letIn, ifThenElse, while, sequence, emit, local, watching, when, parallel}
-use Rattle.tree.specs.Tree.{processOf, size}
+use Rattle.language.specs.Shapes.{size, leavesAlone}
+use Rattle.program.specs.Program.{processOf}
 use Rattle.residual.specs.Residual.{own, firstOf, secondOf, residual}
-use Rattle.residual.specs.Frames.{leavesAlone}
 use Rattle.residual.specs.Nodes.{At}
 
 own-zeros : (n : ℕ) → own (replicate n 0) ≡ 0
@@ -148,8 +148,8 @@ size-some (when a p) = omega arith
 size-some (parallel p q) = omega arith
 
 -- a node has a byte of its own
-pub some-bytes : {s : List ℕ} {k : ℕ} {st : List ℕ} → At s k st → 1 ≤ length st
-some-bytes {s} {k} at = omega (arith, at .whole, size-some (processOf s k))
+pub some-bytes : {words : List ℕ} {k : ℕ} {st : List ℕ} → At words k st → 1 ≤ length st
+some-bytes {words} {k} at = omega (arith, at .whole, size-some (processOf words k))
 
 pub own-set-at : (st : List ℕ) → 1 ≤ length st → (v : ℕ) → own (set st 0 v) ≡ v
 own-set-at st h v = getD-set-same st 0 v 0 h

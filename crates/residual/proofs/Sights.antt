@@ -10,34 +10,31 @@ use borrow.Rule.Slice.PartMut.{putMid, same-len-mid, mid-len, take-put, drop-put
 use lib.ListN.{length, take, drop, set, length-set, length-drop, List·getD-append, drop-of-length-le}
 use lib.Seq.{length-take-le, getD-take, getD-set-same, set-getD, drop-set-lt, take-nil, take-all, take-at, drop-at}
 use Rattle.language.specs.Syntax.{Exp, Proc, nil, assign, letIn, ifThenElse, while, sequence, emit, local, watching, when, parallel}
-use Rattle.layout.specs.Layout.{nameCount, nodeCount}
-use Rattle.layout.specs.Entries.{partOf, node}
-use Rattle.fields.specs.Fields.{firstChild, secondChild}
-use Rattle.reach.specs.Checked.{Checked}
-use Rattle.tree.specs.Tree.{processOf, size}
-use Rattle.tree.proofs.Views.{NodeView, aNil, anAssign, aLet, anIf, aWhile, aSequence, anEmit, aLocal, aWatching, aWhen, aParallel, node-view}
-use Rattle.plan.specs.declared.forms.Front.{Front}
+use Rattle.language.specs.Shapes.{size, leavesAlone}
+use Rattle.program.specs.Program.{nameCount, nodeCount, kindAt, aAt, firstAt, secondAt, processOf}
+use Rattle.program.specs.Runnable.{FirstPart, Runnable}
+use Rattle.program.proofs.Views.{NodeView, aNil, anAssign, aLet, anIf, aWhile, aSequence, anEmit, aLocal, aWatching, aWhen, aParallel, node-view}
+use Rattle.program.specs.declared.forms.Front.{Front}
 use Rattle.residual.specs.Residual.{own, firstOf, secondOf, residual}
-use Rattle.plan.specs.Forms.{gone, mover, first, second, before, watched, guarded, beside, turned, frontOf, partIn}
-use Rattle.residual.specs.Frames.{Frame, alone, beforeThe, watchedBy, guardedBy, besideThe, around, leavesAlone}
+use Rattle.program.specs.Forms.{gone, mover, first, second, before, watched, guarded, beside, turned, frontOf, partIn}
+use Rattle.residual.specs.Frames.{Frame, alone, beforeThe, watchedBy, guardedBy, besideThe, around}
 use Rattle.residual.proofs.Residuals.{residual-leaves}
-use Rattle.residual.proofs.Scopes.{alone-below}
 
 -- node k with the bytes st has this part in front, in this frame, whatever the bytes of the part are
-pub record Inside (s : List ℕ) (k : ℕ) (st : List ℕ) (f : Front) (F : Frame ℕ) : Type 0 where
+pub record Inside (words : List ℕ) (k : ℕ) (st : List ℕ) (f : Front) (F : Frame ℕ) : Type 0 where
   pub earlier : f .child < k
   pub starts : 1 ≤ f .from
   pub order : f .from ≤ f .to
   pub within : f .to ≤ length st
-  pub fits : f .to - f .from ≡ size (processOf s (f .child))
-  pub whole : residual (processOf s k) st ≡ around F (residual (processOf s (f .child)) (partIn f st))
+  pub fits : f .to - f .from ≡ size (processOf words (f .child))
+  pub whole : residual (processOf words k) st ≡ around F (residual (processOf words (f .child)) (partIn f st))
   pub after :
       (ys : List ℕ) → length ys ≡ f .to - f .from →
-      residual (processOf s k) (putMid (f .from) (f .to - f .from) st ys) ≡ around F (residual (processOf s (f .child)) ys)
+      residual (processOf words k) (putMid (f .from) (f .to - f .from) st ys) ≡ around F (residual (processOf words (f .child)) ys)
 
 -- the signal that node k watches or waits for
 abbrev pub signalAt : List ℕ → ℕ → ℕ
-signalAt s k = partOf s (node s k) .a
+signalAt words k = aAt words k
 
 -- assign, let, if, while, emit or local
 pub record Mover (kind : ℕ) : Type 0 where
@@ -51,25 +48,25 @@ no-mover m e (inr (inl q)) = omega (arith, e, q, m .others (λ x. omega (arith, 
 no-mover m e (inr (inr q)) = omega (arith, e, q, m .others (λ x. omega (arith, e, q, x)) (λ x. omega (arith, e, q, x)) (λ x. omega (arith, e, q, x)) (λ x. omega (arith, e, q, x)) (λ x. omega (arith, e, q, x)))
 
 -- node k with the bytes st, form by form
-pub data Sight (s : List ℕ) (k : ℕ) (st : List ℕ) (f : Front) : Type 0 where
-  sees-gone : f .form ≡ gone → residual (processOf s k) st ≡ nil → Sight s k st f
-  sees-mover : f .form ≡ mover → own st ≡ 0 → Mover (partOf s (node s k) .kind) → Sight s k st f
-  sees-alone : (f .form ≡ first) ⊎ (f .form ≡ second) → Inside s k st f alone → Sight s k st f
+pub data Sight (words : List ℕ) (k : ℕ) (st : List ℕ) (f : Front) : Type 0 where
+  sees-gone : f .form ≡ gone → residual (processOf words k) st ≡ nil → Sight words k st f
+  sees-mover : f .form ≡ mover → own st ≡ 0 → Mover (kindAt words k) → Sight words k st f
+  sees-alone : (f .form ≡ first) ⊎ (f .form ≡ second) → Inside words k st f alone → Sight words k st f
   sees-before :
-      f .form ≡ before → own st ≤ 1 → (q : Proc ℕ) → Inside s k st f (beforeThe q) →
-      residual (processOf s k) (set st 0 (1 - own st)) ≡ q → Sight s k st f
+      f .form ≡ before → own st ≤ 1 → (q : Proc ℕ) → Inside words k st f (beforeThe q) →
+      residual (processOf words k) (set st 0 (1 - own st)) ≡ q → Sight words k st f
   sees-watched :
-      f .form ≡ watched → signalAt s k < nameCount s → Inside s k st f (watchedBy (signalAt s k)) →
-      residual (processOf s k) (set st 0 4) ≡ nil → Sight s k st f
+      f .form ≡ watched → signalAt words k < nameCount words → Inside words k st f (watchedBy (signalAt words k)) →
+      residual (processOf words k) (set st 0 4) ≡ nil → Sight words k st f
   sees-guarded :
-      f .form ≡ guarded → signalAt s k < nameCount s →
-      ((ys : List ℕ) → leavesAlone (signalAt s k) (residual (processOf s (f .child)) ys) ≡ true) →
-      Inside s k st f (guardedBy (signalAt s k)) → residual (processOf s k) (set st 0 4) ≡ nil → Sight s k st f
+      f .form ≡ guarded → signalAt words k < nameCount words →
+      ((ys : List ℕ) → leavesAlone (signalAt words k) (residual (processOf words (f .child)) ys) ≡ true) →
+      Inside words k st f (guardedBy (signalAt words k)) → residual (processOf words k) (set st 0 4) ≡ nil → Sight words k st f
   sees-beside :
-      (f .form ≡ beside) ⊎ (f .form ≡ turned) → own st ≤ 1 → (g : Front) → g ≡ frontOf s k (1 - own st) (length st) →
-      Inside s k st f (besideThe (residual (processOf s (g .child)) (partIn g st))) →
-      Inside s k (set st 0 (1 - own st)) g (besideThe (residual (processOf s (f .child)) (partIn f st))) →
-      residual (processOf s k) (set st 0 (3 - own st)) ≡ residual (processOf s (g .child)) (partIn g st) → Sight s k st f
+      (f .form ≡ beside) ⊎ (f .form ≡ turned) → own st ≤ 1 → (g : Front) → g ≡ frontOf words k (1 - own st) (length st) →
+      Inside words k st f (besideThe (residual (processOf words (g .child)) (partIn g st))) →
+      Inside words k (set st 0 (1 - own st)) g (besideThe (residual (processOf words (f .child)) (partIn f st))) →
+      residual (processOf words k) (set st 0 (3 - own st)) ≡ residual (processOf words (g .child)) (partIn g st) → Sight words k st f
 
 -- the bytes of a node when those of a part are put back
 module _ (from n : ℕ) (st ys : List ℕ) where
@@ -137,10 +134,10 @@ module _ (n m : ℕ) (e : m ≡ suc n) (st : List ℕ) where
         first-within n [] = take-nil n
         first-within n (b ∷ bytes) = refl
 
-module _ (s : List ℕ) (one : ℕ) where
+module _ (words : List ℕ) (one : ℕ) where
   -- the first part, and where the second begins
   abbrev p : Proc ℕ
-  p = processOf s one
+  p = processOf words one
 
   abbrev middle : ℕ
   middle = 1 + size p
@@ -160,8 +157,8 @@ module _ (s : List ℕ) (one : ℕ) where
     first-inside :
         (form : ℕ) → one < k → middle ≤ length st →
         ((bytes : List ℕ) → own bytes ≡ own st → secondOf p bytes ≡ secondOf p st →
-        residual (processOf s k) bytes ≡ around F (residual p (firstOf p bytes))) →
-        Inside s k st (firstFront form) F
+        residual (processOf words k) bytes ≡ around F (residual p (firstOf p bytes))) →
+        Inside words k st (firstFront form) F
     first-inside form b h whole =
         record {
           earlier = b;
@@ -180,10 +177,10 @@ module _ (s : List ℕ) (one : ℕ) where
 
     -- the second part is in front, whatever its bytes are
     second-inside :
-        (form two len : ℕ) → two < k → len ≡ length st → len ≡ suc (size p + size (processOf s two)) →
+        (form two len : ℕ) → two < k → len ≡ length st → len ≡ suc (size p + size (processOf words two)) →
         ((bytes : List ℕ) → own bytes ≡ own st → firstOf p bytes ≡ firstOf p st →
-        residual (processOf s k) bytes ≡ around F (residual (processOf s two) (secondOf p bytes))) →
-        Inside s k st (secondFront form two len) F
+        residual (processOf words k) bytes ≡ around F (residual (processOf words two) (secondOf p bytes))) →
+        Inside words k st (secondFront form two len) F
     second-inside form two len b l h whole =
         record {
           earlier = b;
@@ -193,150 +190,151 @@ module _ (s : List ℕ) (one : ℕ) where
           fits = omega arith;
           whole =
               whole st refl refl
-              ∙ ap (λ z. around F (residual (processOf s two) z)) (sym (second-in (size p) middle step st len l));
+              ∙ ap (λ z. around F (residual (processOf words two) z)) (sym (second-in (size p) middle step st len l));
           after =
               λ ys n.
               let r : middle ≤ length st = omega arith in
               whole (putMid middle (len - middle) st ys) (own-put middle (len - middle) st ys (omega arith) r)
               (first-kept (size p) middle step st ys r (len - middle))
-              ∙ ap (λ z. around F (residual (processOf s two) z)) (second-put (size p) middle step st ys r len l);
+              ∙ ap (λ z. around F (residual (processOf words two) z)) (second-put (size p) middle step st ys r len l);
         }
 
 -- kind by kind, and by the node's own byte
-module _ (s : List ℕ) (k : ℕ) (st : List ℕ) where
+module _ (words : List ℕ) (k : ℕ) (st : List ℕ) where
   abbrev Seen : Type 0
-  Seen = Sight s k st (frontOf s k (own st) (length st))
+  Seen = Sight words k st (frontOf words k (own st) (length st))
 
   abbrev kind : ℕ
-  kind = partOf s (node s k) .kind
+  kind = kindAt words k
 
   abbrev a : ℕ
-  a = partOf s (node s k) .a
+  a = aAt words k
 
-  abbrev b : ℕ
-  b = partOf s (node s k) .b
+  -- its children
+  abbrev i : ℕ
+  i = firstAt words k
 
-  abbrev c : ℕ
-  c = partOf s (node s k) .c
+  abbrev j : ℕ
+  j = secondAt words k
 
-  module _ (room : length st ≡ size (processOf s k)) where
+  module _ (room : length st ≡ size (processOf words k)) where
     -- so many bytes, by the process
-    length-is : {p : Proc ℕ} → processOf s k ≡ p → length st ≡ size p
+    length-is : {p : Proc ℕ} → processOf words k ≡ p → length st ≡ size p
     length-is q = room ∙ ap size q
 
-    see-nil : kind ≡ 0 → processOf s k ≡ nil → Seen
+    see-nil : kind ≡ 0 → processOf words k ≡ nil → Seen
     unfolding residual frontOf
     see-nil e q = rw e (sees-gone refl (rw q))
 
-    see-assign : {x : ℕ} {y : Exp} → kind ≡ 1 → processOf s k ≡ assign x y → (tag : ℕ) → own st ≡ tag → Seen
+    see-assign : {x : ℕ} {y : Exp} → kind ≡ 1 → processOf words k ≡ assign x y → (tag : ℕ) → own st ≡ tag → Seen
     unfolding residual frontOf
     see-assign e q zero o = rw (e, o) (sees-mover refl o (omega (arith, e)))
     see-assign e q (suc t) o = rw (e, o) (sees-gone refl (rw (q, o)))
 
     see-let :
-        {x δ : ℕ} {y : Exp} → kind ≡ 2 → processOf s k ≡ letIn x δ y (processOf s c) → c < k →
+        {x δ : ℕ} {y : Exp} → kind ≡ 2 → processOf words k ≡ letIn x δ y (processOf words i) → FirstPart words k →
         (tag : ℕ) → own st ≡ tag → Seen
-    unfolding residual frontOf firstChild size
+    unfolding residual frontOf size
     see-let e q l zero o = rw (e, o) (sees-mover refl o (omega (arith, e)))
     see-let e q l (suc zero) o =
-        rw (e, o)
+        rw (e, o, l .sized)
         (sees-alone (inl refl)
-        (first-inside s c k st alone first l (omega (arith, length-is q)) (λ bytes t r. rw (q, t, o))))
+        (first-inside words i k st alone first (l .before) (omega (arith, length-is q)) (λ bytes t r. rw (q, t, o))))
     see-let e q l (suc (suc t)) o = rw (e, o) (sees-gone refl (rw (q, o)))
 
     see-if :
-        {y : Exp} → kind ≡ 3 → processOf s k ≡ ifThenElse y (processOf s b) (processOf s c) → b < k → c < k →
+        {y : Exp} → kind ≡ 3 → processOf words k ≡ ifThenElse y (processOf words i) (processOf words j) → FirstPart words k → j < k →
         (tag : ℕ) → own st ≡ tag → Seen
-    unfolding residual frontOf firstChild secondChild size
+    unfolding residual frontOf size
     see-if e q l m zero o = rw (e, o) (sees-mover refl o (omega (arith, e)))
     see-if e q l m (suc zero) o =
-        rw (e, o)
+        rw (e, o, l .sized)
         (sees-alone (inl refl)
-        (first-inside s b k st alone first l (omega (arith, length-is q)) (λ bytes t r. rw (q, t, o))))
+        (first-inside words i k st alone first (l .before) (omega (arith, length-is q)) (λ bytes t r. rw (q, t, o))))
     see-if e q l m (suc (suc zero)) o =
-        rw (e, o)
+        rw (e, o, l .sized)
         (sees-alone (inr refl)
-        (second-inside s b k st alone second c (length st) m refl (length-is q) (λ bytes t r. rw (q, t, o))))
+        (second-inside words i k st alone second j (length st) m refl (length-is q) (λ bytes t r. rw (q, t, o))))
     see-if e q l m (suc (suc (suc t))) o = rw (e, o) (sees-gone refl (rw (q, o)))
 
     see-while :
-        {y : Exp} → kind ≡ 4 → processOf s k ≡ while y (processOf s b) → b < k → (tag : ℕ) → own st ≡ tag → Seen
-    unfolding residual frontOf firstChild size
+        {y : Exp} → kind ≡ 4 → processOf words k ≡ while y (processOf words i) → FirstPart words k → (tag : ℕ) → own st ≡ tag → Seen
+    unfolding residual frontOf size
     see-while e q l zero o = rw (e, o) (sees-mover refl o (omega (arith, e)))
     see-while {y} e q l (suc zero) o =
-        let loop : Proc ℕ = while y (processOf s b) in
-        rw (e, o)
+        let loop : Proc ℕ = while y (processOf words i) in
+        rw (e, o, l .sized)
         (sees-before refl (omega arith) loop
-        (first-inside s b k st (beforeThe loop) before l (omega (arith, length-is q)) (λ bytes t r. rw (q, t, o)))
+        (first-inside words i k st (beforeThe loop) before (l .before) (omega (arith, length-is q)) (λ bytes t r. rw (q, t, o)))
         (rw (q, getD-set-same st 0 (1 - own st) 0 (omega (arith, length-is q)), o)))
     see-while e q l (suc (suc t)) o = rw (e, o) (sees-gone refl (rw (q, o)))
 
     see-sequence :
-        kind ≡ 5 → processOf s k ≡ sequence (processOf s a) (processOf s b) → a < k → b < k →
+        kind ≡ 5 → processOf words k ≡ sequence (processOf words i) (processOf words j) → FirstPart words k → j < k →
         (tag : ℕ) → own st ≡ tag → Seen
-    unfolding residual frontOf firstChild secondChild size
+    unfolding residual frontOf size
     see-sequence e q l m zero o =
-        let next : Proc ℕ = residual (processOf s b) (secondOf (processOf s a) st) in
-        rw (e, o)
+        let next : Proc ℕ = residual (processOf words j) (secondOf (processOf words i) st) in
+        rw (e, o, l .sized)
         (sees-before refl (omega arith) next
-        (first-inside s a k st (beforeThe next) before l (omega (arith, length-is q)) (λ bytes t r. rw (q, t, o, r)))
+        (first-inside words i k st (beforeThe next) before (l .before) (omega (arith, length-is q)) (λ bytes t r. rw (q, t, o, r)))
         (rw (q, getD-set-same st 0 (1 - own st) 0 (omega (arith, length-is q)), o)
-        (ap (residual (processOf s b)) (drop-set-lt (suc (size (processOf s a))) st 0 _ (omega arith)))))
+        (ap (residual (processOf words j)) (drop-set-lt (suc (size (processOf words i))) st 0 _ (omega arith)))))
     see-sequence e q l m (suc zero) o =
-        rw (e, o)
+        rw (e, o, l .sized)
         (sees-alone (inr refl)
-        (second-inside s a k st alone second b (length st) m refl (length-is q) (λ bytes t r. rw (q, t, o))))
+        (second-inside words i k st alone second j (length st) m refl (length-is q) (λ bytes t r. rw (q, t, o))))
     see-sequence e q l m (suc (suc t)) o = rw (e, o) (sees-gone refl (rw (q, o)))
 
-    see-emit : {x : ℕ} → kind ≡ 6 → processOf s k ≡ emit x → (tag : ℕ) → own st ≡ tag → Seen
+    see-emit : {x : ℕ} → kind ≡ 6 → processOf words k ≡ emit x → (tag : ℕ) → own st ≡ tag → Seen
     unfolding residual frontOf
     see-emit e q zero o = rw (e, o) (sees-mover refl o (omega (arith, e)))
     see-emit e q (suc t) o = rw (e, o) (sees-gone refl (rw (q, o)))
 
     see-local :
-        {x δ : ℕ} → kind ≡ 7 → processOf s k ≡ local x δ (processOf s b) → b < k → (tag : ℕ) → own st ≡ tag → Seen
-    unfolding residual frontOf firstChild size
+        {x δ : ℕ} → kind ≡ 7 → processOf words k ≡ local x δ (processOf words i) → FirstPart words k → (tag : ℕ) → own st ≡ tag → Seen
+    unfolding residual frontOf size
     see-local e q l zero o = rw (e, o) (sees-mover refl o (omega (arith, e)))
     see-local e q l (suc zero) o =
-        rw (e, o)
+        rw (e, o, l .sized)
         (sees-alone (inl refl)
-        (first-inside s b k st alone first l (omega (arith, length-is q)) (λ bytes t r. rw (q, t, o))))
+        (first-inside words i k st alone first (l .before) (omega (arith, length-is q)) (λ bytes t r. rw (q, t, o))))
     see-local e q l (suc (suc t)) o = rw (e, o) (sees-gone refl (rw (q, o)))
 
     see-watching :
-        kind ≡ 8 → processOf s k ≡ watching a (processOf s b) → a < nameCount s → b < k → (tag : ℕ) → own st ≡ tag → Seen
-    unfolding residual frontOf firstChild size
+        kind ≡ 8 → processOf words k ≡ watching a (processOf words i) → a < nameCount words → FirstPart words k → (tag : ℕ) → own st ≡ tag → Seen
+    unfolding residual frontOf size
     see-watching e q n l zero o =
-        rw (e, o)
+        rw (e, o, l .sized)
         (sees-watched refl n
-        (first-inside s b k st (watchedBy a) watched l (omega (arith, length-is q)) (λ bytes t r. rw (q, t, o)))
+        (first-inside words i k st (watchedBy a) watched (l .before) (omega (arith, length-is q)) (λ bytes t r. rw (q, t, o)))
         (rw (q, getD-set-same st 0 4 0 (omega (arith, length-is q)))))
     see-watching e q n l (suc t) o = rw (e, o) (sees-gone refl (rw (q, o)))
 
     see-when :
-        kind ≡ 9 → processOf s k ≡ when a (processOf s b) → a < nameCount s →
-        ((ys : List ℕ) → leavesAlone a (residual (processOf s b) ys) ≡ true) → b < k → (tag : ℕ) → own st ≡ tag → Seen
-    unfolding residual frontOf firstChild size
+        kind ≡ 9 → processOf words k ≡ when a (processOf words i) → a < nameCount words →
+        ((ys : List ℕ) → leavesAlone a (residual (processOf words i) ys) ≡ true) → FirstPart words k → (tag : ℕ) → own st ≡ tag → Seen
+    unfolding residual frontOf size
     see-when e q n leaves l zero o =
-        rw (e, o)
+        rw (e, o, l .sized)
         (sees-guarded refl n leaves
-        (first-inside s b k st (guardedBy a) guarded l (omega (arith, length-is q)) (λ bytes t r. rw (q, t, o)))
+        (first-inside words i k st (guardedBy a) guarded (l .before) (omega (arith, length-is q)) (λ bytes t r. rw (q, t, o)))
         (rw (q, getD-set-same st 0 4 0 (omega (arith, length-is q)))))
     see-when e q n leaves l (suc t) o = rw (e, o) (sees-gone refl (rw (q, o)))
 
-    module _ (e : kind ≡ 10) (q : processOf s k ≡ parallel (processOf s a) (processOf s b)) (l : a < k) (m : b < k) where
+    module _ (e : kind ≡ 10) (q : processOf words k ≡ parallel (processOf words i) (processOf words j)) (l : FirstPart words k) (m : j < k) where
       abbrev one : Proc ℕ
-      one = processOf s a
+      one = processOf words i
 
       abbrev two : Proc ℕ
-      two = processOf s b
+      two = processOf words j
 
       -- the first part with the second beside it, and the second with the first
       abbrev ahead : Front
-      ahead = firstFront s a beside
+      ahead = firstFront words i beside
 
       abbrev behind : Front
-      behind = secondFront s a turned b (length st)
+      behind = secondFront words i turned j (length st)
 
       length-both : length st ≡ suc (size one + size two)
       unfolding size
@@ -345,67 +343,65 @@ module _ (s : List ℕ) (k : ℕ) (st : List ℕ) where
       -- the parts, whatever the own byte is
       part-one : (v : ℕ) → firstOf one (set st 0 v) ≡ partIn ahead st
       part-one v =
-          sym (first-in (size one) (middle s a) (step s a) (set st 0 v)) ∙ part-set ahead st v (omega arith)
+          sym (first-in (size one) (middle words i) (step words i) (set st 0 v)) ∙ part-set ahead st v (omega arith)
 
       part-two : (v : ℕ) → secondOf one (set st 0 v) ≡ partIn behind st
       part-two v =
-          sym (second-in (size one) (middle s a) (step s a) (set st 0 v) (length st) (sym (length-set st 0 v)))
+          sym (second-in (size one) (middle words i) (step words i) (set st 0 v) (length st) (sym (length-set st 0 v)))
           ∙ part-set behind st v (omega arith)
 
       ahead-inside :
-          (v : ℕ) → v ≡ 0 → Inside s k (set st 0 v) ahead (besideThe (residual two (partIn behind st)))
+          (v : ℕ) → v ≡ 0 → Inside words k (set st 0 v) ahead (besideThe (residual two (partIn behind st)))
       unfolding residual
       ahead-inside v z =
-          first-inside s a k (set st 0 v) (besideThe (residual two (partIn behind st))) beside l
+          first-inside words i k (set st 0 v) (besideThe (residual two (partIn behind st))) beside (l .before)
           (rw length-set (omega (arith, length-both)))
           (λ bytes t r. rw (q, t, getD-set-same st 0 v 0 (omega (arith, length-both)), z, r, part-two v))
 
       behind-inside :
-          (v : ℕ) → v ≡ 1 → Inside s k (set st 0 v) behind (besideThe (residual one (partIn ahead st)))
+          (v : ℕ) → v ≡ 1 → Inside words k (set st 0 v) behind (besideThe (residual one (partIn ahead st)))
       unfolding residual
       behind-inside v z =
-          second-inside s a k (set st 0 v) (besideThe (residual one (partIn ahead st))) turned b (length st) m
+          second-inside words i k (set st 0 v) (besideThe (residual one (partIn ahead st))) turned j (length st) m
           (sym (length-set st 0 v)) length-both
           (λ bytes t r. rw (q, t, getD-set-same st 0 v 0 (omega (arith, length-both)), z, r, part-one v))
 
       see-parallel : (tag : ℕ) → own st ≡ tag → Seen
-      unfolding residual frontOf firstChild secondChild
+      unfolding residual frontOf
       see-parallel zero o =
-          rw (e, o)
-          (sees-beside (inl refl) (omega arith) behind (rw (e, o)) (rw (set-getD st 0 0) at (ahead-inside (own st) o))
+          rw (e, o, l .sized)
+          (sees-beside (inl refl) (omega arith) behind (rw (e, o, l .sized)) (rw (set-getD st 0 0) at (ahead-inside (own st) o))
           (behind-inside (1 - own st) (omega arith))
           (rw (q, getD-set-same st 0 (3 - own st) 0 (omega (arith, length-both)), o) (ap (residual two) (part-two 3))))
       see-parallel (suc zero) o =
-          rw (e, o)
-          (sees-beside (inr refl) (omega arith) ahead (rw (e, o)) (rw (set-getD st 0 0) at (behind-inside (own st) o))
+          rw (e, o, l .sized)
+          (sees-beside (inr refl) (omega arith) ahead (rw (e, o, l .sized)) (rw (set-getD st 0 0) at (behind-inside (own st) o))
           (ahead-inside (1 - own st) (omega arith))
           (rw (q, getD-set-same st 0 (3 - own st) 0 (omega (arith, length-both)), o) (ap (residual one) (part-one 2))))
       see-parallel (suc (suc zero)) o =
-          rw (e, o)
+          rw (e, o, l .sized)
           (sees-alone (inl refl)
-          (first-inside s a k st alone first l (omega (arith, length-both)) (λ bytes t r. rw (q, t, o))))
+          (first-inside words i k st alone first (l .before) (omega (arith, length-both)) (λ bytes t r. rw (q, t, o))))
       see-parallel (suc (suc (suc zero))) o =
-          rw (e, o)
+          rw (e, o, l .sized)
           (sees-alone (inr refl)
-          (second-inside s a k st alone second b (length st) m refl length-both (λ bytes t r. rw (q, t, o))))
+          (second-inside words i k st alone second j (length st) m refl length-both (λ bytes t r. rw (q, t, o))))
       see-parallel (suc (suc (suc (suc t)))) o = rw (e, o) (sees-gone refl (rw (q, o)))
 
 pub sight :
-    (s : List ℕ) → Checked s → (k : ℕ) → k < nodeCount s → (st : List ℕ) → length st ≡ size (processOf s k) →
-    Sight s k st (frontOf s k (own st) (length st))
-sight s ok k h st room = view (node-view s ok k h)
+    (words : List ℕ) → Runnable words → (k : ℕ) → k < nodeCount words → (st : List ℕ) → length st ≡ size (processOf words k) →
+    Sight words k st (frontOf words k (own st) (length st))
+sight words ok k h st room = view (node-view words ok k h)
   where
-    view : NodeView s k → Seen s k st
-    view (aNil e q) = see-nil s k st room e q
-    view (anAssign e q x y) = see-assign s k st room e q (own st) refl
-    view (aLet e q x y p) = see-let s k st room e q (p .before) (own st) refl
-    view (anIf e q y p r) = see-if s k st room e q (p .before) (r .before) (own st) refl
-    view (aWhile e q y p) = see-while s k st room e q (p .before) (own st) refl
-    view (aSequence e q p r) = see-sequence s k st room e q (p .before) (r .before) (own st) refl
-    view (anEmit e q x) = see-emit s k st room e q (own st) refl
-    view (aLocal e q x p) = see-local s k st room e q (p .before) (own st) refl
-    view (aWatching e q x p) = see-watching s k st room e q (x .known) (p .before) (own st) refl
-    view (aWhen e q x p) =
-        see-when s k st room e q (x .known)
-        (λ ys. residual-leaves _ _ ys (alone-below s ok _ k x h _ (p .before))) (p .before) (own st) refl
-    view (aParallel e q p r) = see-parallel s k st room e q (p .before) (r .before) (own st) refl
+    view : NodeView words k → Seen words k st
+    view (aNil e q) = see-nil words k st room e q
+    view (anAssign e q x y) = see-assign words k st room e q (own st) refl
+    view (aLet e q x y p) = see-let words k st room e q p (own st) refl
+    view (anIf e q y p r) = see-if words k st room e q p r (own st) refl
+    view (aWhile e q y p) = see-while words k st room e q p (own st) refl
+    view (aSequence e q p r) = see-sequence words k st room e q p r (own st) refl
+    view (anEmit e q x) = see-emit words k st room e q (own st) refl
+    view (aLocal e q x p) = see-local words k st room e q p (own st) refl
+    view (aWatching e q x p g) = see-watching words k st room e q x p (own st) refl
+    view (aWhen e q x p l) = see-when words k st room e q x (λ ys. residual-leaves _ _ ys l) p (own st) refl
+    view (aParallel e q p r) = see-parallel words k st room e q p r (own st) refl

@@ -10,7 +10,7 @@ use lib.ListN.{getD}
 use Rattle.prelude.proofs.Bools.{or-left, or-right, by-cases}
 use Rattle.language.specs.Syntax.{Proc, nil, assign, letIn, ifThenElse, while, sequence, emit, local, watching, when, parallel}
 use Rattle.language.specs.Steps.{present, change}
-use Rattle.plan.specs.Plan.{watches}
+use Rattle.language.specs.Shapes.{watches}
 use Rattle.residual.specs.Residual.{own, firstOf, secondOf, residual}
 
 module _ {L : Type 0} (values : List ℤ) where

@@ -3,7 +3,7 @@
 use mathlib.Core.Path.{_≡_, refl, sym, ap, _∙_}
 use mathlib.Core.Bool.{Bool, true, false, cond, true≢false}
 use mathlib.Core.List.{List}
-use Prim.Native.Nat.{ℕ, zero, suc, _+_, _≤_}
+use Prim.Native.Nat.{ℕ, zero, suc, _+_, _≤_, _<_}
 use native.Mathlib.Decide.{decLt}
 use native.Mathlib.Numerals.{add-one}
 use native.Mathlib.Omega.{arith}
@@ -12,9 +12,11 @@ use lib.ListN.{length, List·getD-eq-default}
 use Rattle.prelude.proofs.Bools.{and-second, by-cases}
 use Rattle.prelude.proofs.Searches.{none-of-any}
 use Rattle.arithmetic.specs.Values.{holds}
-use Rattle.language.specs.Syntax.{Names, Proc, nil, assign, letIn, ifThenElse, while, sequence, emit, local, watching, when, parallel}
-use Rattle.language.specs.Scope.{withName, Scoped}
+use Rattle.language.specs.Syntax.{Names}
 use Rattle.language.specs.Steps.{held, present, suspended, change, instantStart}
+use Rattle.program.specs.Program.{nodeCount, namesOf, processOf}
+use Rattle.program.specs.Runnable.{Runnable}
+use Rattle.program.proofs.Views.{NodeView, aNil, anAssign, aLet, anIf, aWhile, aSequence, anEmit, aLocal, aWatching, aWhen, aParallel, node-view}
 use Rattle.residual.specs.Residual.{residual}
 use Rattle.residual.proofs.Staying.{Still, residual-stays}
 use Rattle.moves.specs.Moves.{Running}
@@ -37,24 +39,31 @@ module _ (names : Names ℕ) (values : List ℤ) (none : someSignalPresent names
         | no o ↦ ap holds (List·getD-eq-default values (pos 0) (omega arith))
       ]
 
-  -- what is left of a process stays as it is: each signal that a watching waits for is absent
-  scoped-still : (scope : ℕ → Bool) (p : Proc ℕ) → Scoped names scope p → Still values p
-  scoped-still scope nil w = tt
-  scoped-still scope (assign x e) w = tt
-  scoped-still scope (letIn x δ e p) w = scoped-still (withName scope x) p (w .2)
-  scoped-still scope (ifThenElse e p q) w = (scoped-still scope p (w .1), scoped-still scope q (w .2))
-  scoped-still scope (while e p) w = scoped-still scope p (w .1)
-  scoped-still scope (sequence p q) w = (scoped-still scope p (w .0), scoped-still scope q (w .1))
-  scoped-still scope (emit a) w = tt
-  scoped-still scope (local x δ p) w = scoped-still (withName scope x) p (w .1)
-  scoped-still scope (watching x p) w = (absent x (w .0 .1), scoped-still scope p (w .1))
-  scoped-still scope (when x p) w = scoped-still scope p (w .1)
-  scoped-still scope (parallel p q) w = (scoped-still scope p (w .0), scoped-still scope q (w .1))
+  -- what is left of a node stays as it is: each signal that a watching waits for is absent
+  module _ (words : List ℕ) (ok : Runnable words) (same : (x : ℕ) → names .isSignal x ≡ namesOf words .isSignal x) where
+    still-view :
+        (k : ℕ) → ((j : ℕ) → j < k → Still values (processOf words j)) → NodeView words k → Still values (processOf words k)
+    still-view k go (aNil e q) = rw q tt
+    still-view k go (anAssign e q x y) = rw q tt
+    still-view k go (aLet e q x y p) = rw q (go _ (p .before))
+    still-view k go (anIf e q y p r) = rw q (go _ (p .before), go _ r)
+    still-view k go (aWhile e q y p) = rw q (go _ (p .before))
+    still-view k go (aSequence e q p r) = rw q (go _ (p .before), go _ r)
+    still-view k go (anEmit e q x) = rw q tt
+    still-view k go (aLocal e q x p) = rw q (go _ (p .before))
+    still-view k go (aWatching e q x p g) = rw q (absent _ (same _ ∙ g), go _ (p .before))
+    still-view k go (aWhen e q x p l) = rw q (go _ (p .before))
+    still-view k go (aParallel e q p r) = rw q (go _ (p .before), go _ r)
 
-  pub idle-stays :
-      (scope : ℕ → Bool) (p : Proc ℕ) → Scoped names scope p → (st : List ℕ) →
-      change (residual p st) values ≡ residual p st
-  idle-stays scope p w = residual-stays values p (scoped-still scope p w)
+    still-below : (n k : ℕ) → k < n → k < nodeCount words → Still values (processOf words k)
+    still-below zero k l h = absurd (omega (arith, l))
+    still-below (suc n) k l h =
+        still-view k (λ j e. still-below n j (omega (arith, e, l)) (omega (arith, e, h))) (node-view words ok k h)
+
+    pub idle-stays :
+        (k : ℕ) → k < nodeCount words → (st : List ℕ) →
+        change (residual (processOf words k) st) values ≡ residual (processOf words k) st
+    idle-stays k h = residual-stays values (processOf words k) (still-below (suc k) k (omega arith) h)
 
   -- and so do the values
   abbrev starts : ℕ → ℤ

@@ -9,43 +9,46 @@ use Prim.Native.Nat.{ℕ, zero, suc, _+_, _-_, _*_, _≤_, _<_}
 use native.Mathlib.Nat.{add-zero}
 use native.Mathlib.Omega.{arith}
 use lib.IntN.{ℤ}
-use lib.ListN.{length, drop}
+use lib.ListN.{length, drop, length-append}
 use lib.Seq.{sets, sets-eq}
 use borrow.Author.Tests.{ltb-true, ltb-false}
 use Rattle.language.specs.Syntax.{Names, Proc, isNil}
 use Rattle.language.specs.Steps.{Outcome as Left, leaves, suspended, move, change, instantStart, step}
-use Rattle.language.specs.Calls.{Line, Ending, finished, spent, logFull, Run, calledFor, givenBack, stops, logged, run}
+use Rattle.language.specs.Calls.{Line, Ending, finished, spent, logFull, calledFor}
+use Rattle.language.specs.Stops.{Stop, halts, noted, reach}
 use Rattle.moves.specs.Moves.{Running, system, putLine, logAfter, linesAfter, hasRoom, nextLine, moved, changed, Live, Path, stays, moves}
 use Rattle.runner.specs.Outcome.{Outcome, written, words, recorded, outcome, stopped}
 use Rattle.moves.proofs.Framing.{waits-some}
+use Rattle.language.proofs.Stopping.{reach-onward}
 
 -- a step that calls for this line, where there is room for it, and where there is none
-logged-on :
-    (room : ℕ) (c : Option Line) (n : ℕ) (log : List ℕ) (go : ℕ → Run) (full : Run) → hasRoom room c n ≡ true →
-    recorded (linesAfter c n) (logAfter c n log) (go (room - linesAfter c n))
-    ≡ recorded n log (logged c (room - n) go full)
-unfolding logged written
-logged-on room none n log go full h = refl
-logged-on room (some l) n log go full h =
-    let k : room - n ≡ suc (room - suc n) = omega (arith, ltb-true n room h) in
-    let r : Run = go (room - suc n) in
-    let e : suc n + length (r .lines) ≡ n + suc (length (r .lines)) = omega arith in
-    rw k (ap (λ m. record {
-      ending = r .ending;
-      steps = r .steps;
-      instants = r .instants;
-      lines = m;
-      values = r .values;
-      log = written (r .lines) (suc n) (putLine l n log);
-    }) e)
+module _ {L : Type 0} where
+  noted-on :
+      (room : ℕ) (c : Option Line) (n : ℕ) (log : List ℕ) (go : ℕ → Stop L) (full : Stop L) → hasRoom room c n ≡ true →
+      recorded (linesAfter c n) (logAfter c n log) (go (room - linesAfter c n))
+      ≡ recorded n log (noted c (room - n) go full)
+  unfolding noted written
+  noted-on room none n log go full h = refl
+  noted-on room (some l) n log go full h =
+      let k : room - n ≡ suc (room - suc n) = omega (arith, ltb-true n room h) in
+      let r : Stop L = go (room - suc n) in
+      let e : suc n + length (r .lines) ≡ n + suc (length (r .lines)) = omega arith in
+      rw k (ap (λ m. stopped (r .ending) (record {
+        process = r .at .process;
+        values = r .at .values;
+        log = written (r .lines) (suc n) (putLine l n log);
+        steps = r .at .steps;
+        instants = r .at .instants;
+        lines = m;
+      })) e)
 
-logged-full :
-    (room : ℕ) (c : Option Line) (n : ℕ) (go : ℕ → Run) (full : Run) → hasRoom room c n ≡ false →
-    logged c (room - n) go full ≡ full
-unfolding logged
-logged-full room none n go full h = absurd (true≢false h)
-logged-full room (some l) n go full h =
-    let k : room - n ≡ 0 = omega (arith, ltb-false n room h) in rw k
+  noted-full :
+      (room : ℕ) (c : Option Line) (n : ℕ) (go : ℕ → Stop L) (full : Stop L) → hasRoom room c n ≡ false →
+      noted c (room - n) go full ≡ full
+  unfolding noted
+  noted-full room none n go full h = absurd (true≢false h)
+  noted-full room (some l) n go full h =
+      let k : room - n ≡ 0 = omega (arith, ltb-false n room h) in rw k
 
 -- the two kinds of step
 module _ {L : Type 0} (names : Names L) (p : Proc L) (s : List ℤ) where
@@ -58,36 +61,36 @@ module _ {L : Type 0} (names : Names L) (p : Proc L) (s : List ℤ) where
   step-changes h = rw h
 
 module _ {L : Type 0} (names : Names L) (seen : ℕ → Bool) (limit room : ℕ) (at : Running L) where
-  abbrev out : Running L → Outcome
+  abbrev out : Running L → Outcome L
   out to = outcome names seen limit room to
 
   -- the run from here
-  abbrev rest : Run
-  rest = run names seen (limit - at .steps) (room - at .lines) (system at)
+  abbrev rest : Stop L
+  rest = reach names seen (limit - at .steps) (room - at .lines) (system at)
 
-  stops-here : (how : Ending) → rest ≡ stops names how (system at) → out at ≡ stopped names how at
+  stops-here : (how : Ending) → rest ≡ halts how (system at) → out at ≡ stopped how at
   unfolding outcome written
   stops-here how e =
       ap (recorded (at .lines) (at .log)) e
-      ∙ ap (λ n. record {
-        ending = how;
+      ∙ ap (λ n. stopped how (record {
+        process = at .process;
+        values = at .values;
+        log = at .log;
         steps = at .steps;
         instants = at .instants;
         lines = n;
-        values = givenBack names (at .values);
-        log = at .log;
-      }) (add-zero (at .lines))
+      })) (add-zero (at .lines))
 
-  pub outcome-finished : isNil (at .process) ≡ true → out at ≡ stopped names finished at
-  unfolding run
+  pub outcome-finished : isNil (at .process) ≡ true → out at ≡ stopped finished at
+  unfolding reach
   outcome-finished h = stops-here finished (nothing (limit - at .steps))
     where
-      nothing : (n : ℕ) → run names seen n (room - at .lines) (system at) ≡ stops names finished (system at)
+      nothing : (n : ℕ) → reach names seen n (room - at .lines) (system at) ≡ halts finished (system at)
       nothing zero = rw h
       nothing (suc n) = rw h
 
-  pub outcome-spent : isNil (at .process) ≡ false → at .steps ≡ limit → out at ≡ stopped names spent at
-  unfolding run
+  pub outcome-spent : isNil (at .process) ≡ false → at .steps ≡ limit → out at ≡ stopped spent at
+  unfolding reach
   outcome-spent h e = let k : limit - at .steps ≡ 0 = omega arith in stops-here spent (rw (k, h))
 
   module _ (t : at .steps < limit) where
@@ -95,9 +98,9 @@ module _ {L : Type 0} (names : Names L) (seen : ℕ → Bool) (limit room : ℕ)
     one-more = omega arith
 
     -- the run after a step, by what the step leaves and whether it is an instant change
-    abbrev after : Left L → Bool → ℕ → Run
+    abbrev after : Left L → Bool → ℕ → Stop L
     after r b left =
-        run
+        reach
         names
         seen
         (limit - suc (at .steps))
@@ -109,14 +112,14 @@ module _ {L : Type 0} (names : Names L) (seen : ℕ → Bool) (limit room : ℕ)
           instants = cond b (suc (at .instants)) (at .instants);
         })
 
-    abbrev goes : Left L → Bool → Run
+    abbrev goes : Left L → Bool → Stop L
     goes r b =
-        logged (calledFor seen (system at) (r .output)) (room - at .lines) (after r b) (stops names logFull (system at))
+        noted (calledFor seen (system at) (r .output)) (room - at .lines) (after r b) (halts logFull (system at))
 
     rest-goes :
         isNil (at .process) ≡ false →
         rest ≡ goes (step names (at .process) (at .values)) (suspended (at .process) (at .values))
-    unfolding run
+    unfolding reach
     rest-goes h = rw (one-more, h)
 
     rest-moves : Live (at .process) (at .values) → rest ≡ goes (move (at .process) (at .values)) false
@@ -132,20 +135,20 @@ module _ {L : Type 0} (names : Names L) (seen : ℕ → Bool) (limit room : ℕ)
 
   pub outcome-full :
       Live (at .process) (at .values) → at .steps < limit → hasRoom room (nextLine seen at) (at .lines) ≡ false →
-      out at ≡ stopped names logFull at
-  outcome-full l t f = stops-here logFull (rest-moves t l ∙ logged-full room (nextLine seen at) (at .lines) _ _ f)
+      out at ≡ stopped logFull at
+  outcome-full l t f = stops-here logFull (rest-moves t l ∙ noted-full room (nextLine seen at) (at .lines) _ _ f)
 
   outcome-move :
       Live (at .process) (at .values) → at .steps < limit → hasRoom room (nextLine seen at) (at .lines) ≡ true →
       out (moved seen at) ≡ out at
   unfolding outcome moved
   outcome-move l t f =
-      logged-on room (nextLine seen at) (at .lines) (at .log) (after t (move (at .process) (at .values)) false) _ f
+      noted-on room (nextLine seen at) (at .lines) (at .log) (after t (move (at .process) (at .values)) false) _ f
       ∙ ap (recorded (at .lines) (at .log)) (sym (rest-moves t l))
 
   pub outcome-changes :
       suspended (at .process) (at .values) ≡ true → at .steps < limit → out (changed names at) ≡ out at
-  unfolding outcome calledFor logged
+  unfolding outcome calledFor noted
   outcome-changes w t = ap (recorded (at .lines) (at .log)) (sym (rest-changes t w))
 
 pub outcome-moves :
@@ -154,6 +157,43 @@ pub outcome-moves :
 outcome-moves names stays = refl
 outcome-moves names {seen = seen} {limit = limit} {room = room} {at = at} (moves r p) =
     outcome-moves names p ∙ outcome-move names seen limit room at (r .live) (r .time) (r .space)
+
+-- lines, and then more lines
+written-both :
+    (ls ms : List Line) (n : ℕ) (log : List ℕ) →
+    written ms (n + length ls) (written ls n log) ≡ written (ls ++ ms) n log
+unfolding written
+written-both [] ms n log = rw (add-zero n)
+written-both (l ∷ ls) ms n log =
+    let e : n + suc (length ls) ≡ suc n + length ls = omega arith in
+    rw e (written-both ls ms (suc n) (putLine l n log))
+
+-- a run goes on from wherever a shorter one stopped
+pub outcome-onward :
+    {L : Type 0} (names : Names L) (seen : ℕ → Bool) (limit limit′ room : ℕ) (at : Running L) → at .steps ≤ limit →
+    limit ≤ limit′ →
+    outcome names seen limit′ room at ≡ outcome names seen limit′ room (outcome names seen limit room at .at)
+unfolding outcome
+outcome-onward names seen limit limit′ room at h k =
+    let r = reach names seen (limit - at .steps) (room - at .lines) (system at) in
+    let q = reach names seen (limit′ - r .at .steps) (room - at .lines - length (r .lines)) (r .at) in
+    let e : at .lines + (length (r .lines) + length (q .lines)) ≡ at .lines + length (r .lines) + length (q .lines) = omega arith in
+    let d : room - at .lines - length (r .lines) ≡ room - (at .lines + length (r .lines)) = omega arith in
+    ap (recorded (at .lines) (at .log))
+    (reach-onward names seen (limit - at .steps) limit′ (room - at .lines) (system at) (omega (arith, h, k)))
+    ∙ (λ i.
+    stopped (q .ending)
+    (record {
+      process = q .at .process;
+      values = q .at .values;
+      log = sym (written-both (r .lines) (q .lines) (at .lines) (at .log)) i;
+      steps = q .at .steps;
+      instants = q .at .instants;
+      lines = (ap (λ m. at .lines + m) (length-append (r .lines) (q .lines)) ∙ e) i;
+    }))
+    ∙ ap
+    (λ m. recorded (at .lines + length (r .lines)) (written (r .lines) (at .lines) (at .log)) (reach names seen (limit′ - r .at .steps) m (r .at)))
+    d
 
 -- the stores of `written`, word by word
 written-sets : (ls : List Line) (n : ℕ) (log : List ℕ) → written ls n log ≡ sets log (4 * n) (words ls)

@@ -1,145 +1,138 @@
--- A whole run: what comes of it, from its start and from where it has come to.
+-- A whole run: where it comes to, from its start and from where it has come to.
 -- Assumes nothing.
-use mathlib.Core.Path.{_≡_, refl, sym, _∙_, subst}
-use mathlib.Core.Bool.{Bool, true}
+use mathlib.Core.Path.{_≡_, refl, sym, ap, _∙_, subst}
+use mathlib.Core.Bool.{Bool, true, false}
 use mathlib.Core.List.{List}
 use Prim.Native.Nat.{ℕ, suc, _+_, _-_, _/_, _≤_, _<_}
+use native.Mathlib.Nat.{le-refl}
 use native.Mathlib.Omega.{arith}
 use lib.IntN.{ℤ}
-use lib.ListN.{length, replicate}
-use Rattle.language.specs.Syntax.{Names, Proc}
-use Rattle.language.specs.Steps.{suspended, change, instantStart}
-use Rattle.language.specs.Calls.{Ending, finished, logFull, givenBack}
+use lib.ListN.{length}
+use Rattle.language.specs.Steps.{suspended}
+use Rattle.language.specs.Calls.{Ending, finished, logFull}
 use Rattle.language.specs.Calls as calls
-use Rattle.layout.specs.Layout.{nodeCount}
-use Rattle.reach.specs.Checked.{Checked}
-use Rattle.tree.specs.Tree.{tree}
-use Rattle.tree.proofs.NodeSizes.{whole-size}
-use Rattle.runner.specs.declared.Ran.{Ran}
-use Rattle.moves.specs.Moves.{Running, isSuspended, Ends, gone, waits, spent, full}
-use Rattle.runner.specs.Outcome.{outcome, stopped}
-use Rattle.moves.specs.Contracts.{mostSteps, Counted, Advances}
-use Rattle.residual.specs.Nodes.{Valued, left}
-use Rattle.runner.specs.Contracts.{endingNumber, endingOf, ranTo, Gives}
+use Rattle.program.specs.Program.{namesOf}
+use Rattle.moves.specs.Moves.{Running, isSuspended, changed, Ends, gone, waits, spent, full}
+use Rattle.moves.specs.Contracts.{Advances}
 use Rattle.moves.proofs.Framing.{waits-some}
-use Rattle.residual.proofs.Residuals.{zeros}
-use Rattle.runner.proofs.Idling.{outcome-idle}
+use Rattle.instants.specs.Contracts.{someSignalPresent}
+use Rattle.advance.proofs.Turning.{ended-waits}
+use Rattle.runner.specs.declared.Tally.{Tally}
+use Rattle.runner.specs.declared.Rested.{Rested}
+use Rattle.runner.specs.declared.Ran.{Ran}
+use Rattle.runner.specs.Outcome.{Outcome, outcome, stopped}
+use Rattle.runner.specs.Contracts.{root, scriptAt, CanRun, InstantMade, endingNumber, endingOf, Gives}
+use Rattle.runner.proofs.Idling.{idle-stays, values-stay, outcome-idle}
 use Rattle.runner.proofs.Outcomes.{outcome-moves, outcome-finished, outcome-spent, outcome-full, outcome-changes}
 
-module _ (names : Names ℕ) (seen : ℕ → Bool) (limit : ℕ) where
-  -- a run that stands at `at`, with the bytes st, comes to the same as from where it began
-  pub record Comes (begun at : Running ℕ) (st₀ st : List ℕ) : Type 0 where
-    pub same :
-        outcome names seen limit (length (begun .log) / 4) at ≡ outcome names seen limit (length (begun .log) / 4) begun
-    pub time : at .steps ≤ limit
-    pub space : at .lines ≤ length (begun .log) / 4
-    pub instants : at .instants ≤ at .steps
-    pub named : length (at .values) ≡ length (begun .values)
-    pub logged : length (at .log) ≡ length (begun .log)
-    pub bytes : length st ≡ length st₀
+module _ (words : List ℕ) (seen : ℕ → Bool) (limit : ℕ) (begun : Running ℕ) where
+  abbrev comesTo : Running ℕ → Outcome ℕ
+  comesTo = outcome (namesOf words) seen limit (length (begun .log) / 4)
 
-  module _ {begun at : Running ℕ} {st₀ st : List ℕ} (u : Comes begun at st₀ st) where
-    pub counted : limit ≤ mostSteps → Counted limit (at .log) (at .steps) (at .lines)
-    counted m = record { time = u .time; most = m; space = omega (arith, u .space, u .logged) }
+  -- a run that has come to these bytes, values, log and counts comes to the same as from where it began
+  pub record Comes (st : List ℕ) (values : List ℤ) (log : List ℕ) (t : Tally) : Type 0 where
+    pub same : comesTo (scriptAt words st values log t) ≡ comesTo begun
+    pub can : CanRun words st values log limit t
+    pub logged : length log ≡ length (begun .log)
 
-    pub valued : {s : List ℕ} → Valued s (begun .values) → Valued s (at .values)
-    valued v = record { checked = v .checked; named = u .named ∙ v .named }
-
-    -- after moves
+  module _ {st : List ℕ} {values : List ℤ} {log : List ℕ} {t : Tally} (u : Comes st values log t) where
+    -- after the moves of an instant
     pub comes-on :
-        {to : Running ℕ} {st′ : List ℕ} {why : ℕ} → Advances seen limit (length (at .log) / 4) at to why →
-        to .instants ≡ at .instants → length (to .values) ≡ length (at .values) → length (to .log) ≡ length (at .log) →
-        length st′ ≡ length st → Comes begun to st₀ st′
-    comes-on {to} {st′} {why} a i v l b =
-        let r = subst (λ n. Advances seen limit (n / 4) at to why) (u .logged) a in
-        record {
-          same = outcome-moves names (r .path) ∙ u .same;
-          time = r .time;
-          space = r .space;
-          instants = omega (arith, i, u .instants, r .later);
-          named = v ∙ u .named;
-          logged = l ∙ u .logged;
-          bytes = b ∙ u .bytes;
-        }
+        {st′ : List ℕ} {values′ : List ℤ} {log′ : List ℕ} {r : Rested} →
+        InstantMade words seen limit (scriptAt words st values log t) st′ values′ log′ r → length log′ ≡ length log →
+        Comes st′ values′ log′ (r .at)
+    comes-on {st′} {values′} {log′} {r} i l =
+        let a =
+        subst
+        (λ n. Advances seen limit (n / 4) (scriptAt words st values log t) (scriptAt words st′ values′ log′ (r .at)) (r .why))
+        (u .logged) (i .made) in
+        record { same = outcome-moves (namesOf words) (a .path) ∙ u .same; can = i .again; logged = l ∙ u .logged }
 
-    -- where moves have ended
     pub comes-ends :
-        {to : Running ℕ} {why : ℕ} → Advances seen limit (length (at .log) / 4) at to why → (why ≡ 0 → ⊥) →
-        Ends seen limit (length (begun .log) / 4) to why
-    comes-ends {to} {why} a n = subst (λ n. Ends seen limit (n / 4) to why) (u .logged) (a .ends n)
+        {st′ : List ℕ} {values′ : List ℤ} {log′ : List ℕ} {r : Rested} →
+        InstantMade words seen limit (scriptAt words st values log t) st′ values′ log′ r →
+        Ends seen limit (length (begun .log) / 4) (scriptAt words st′ values′ log′ (r .at)) (r .why)
+    comes-ends {st′} {values′} {log′} {r} i =
+        subst (λ n. Ends seen limit (n / 4) (scriptAt words st′ values′ log′ (r .at)) (r .why)) (u .logged)
+        (i .made .ends (λ e. omega (arith, e, i .some)))
 
     -- after an instant change
     pub comes-changed :
-        {p : Proc ℕ} {vs : List ℤ} {st′ : List ℕ} {steps instants : ℕ} → suspended (at .process) (at .values) ≡ true →
-        at .steps < limit → p ≡ change (at .process) (at .values) → vs ≡ instantStart names (at .values) →
-        steps ≡ suc (at .steps) → instants ≡ suc (at .instants) → length vs ≡ length (at .values) →
-        length st′ ≡ length st →
-        Comes begun
-        (record { process = p; values = vs; log = at .log; steps = steps; instants = instants; lines = at .lines })
-        st₀ st′
-    comes-changed w t a b c d v l =
+        {st′ : List ℕ} {values′ : List ℤ} {t′ : Tally} → suspended (scriptAt words st values log t .process) values ≡ true →
+        t .steps < limit → length st′ ≡ length st → length values′ ≡ length values →
+        scriptAt words st′ values′ log t′ ≡ changed (namesOf words) (scriptAt words st values log t) →
+        Comes st′ values′ log t′
+    comes-changed w l b v e =
+        let steps = ap (λ (x : Running ℕ). x .steps) e in
+        let instants = ap (λ (x : Running ℕ). x .instants) e in
+        let lines = ap (λ (x : Running ℕ). x .lines) e in
+        let c = u .can in
         record {
-          same = rw (a, b, c, d) (outcome-changes names seen limit (length (begun .log) / 4) at w t ∙ u .same);
-          time = omega (arith, c, t);
-          space = u .space;
-          instants = omega (arith, c, d, u .instants);
-          named = v ∙ u .named;
+          same = ap comesTo e ∙ outcome-changes (namesOf words) seen limit (length (begun .log) / 4) (scriptAt words st values log t) w l ∙ u .same;
+          can =
+              record {
+                valued = record { runnable = c .valued .runnable; named = v ∙ c .valued .named };
+                node = record { known = c .node .known; whole = b ∙ c .node .whole };
+                counted =
+                    record {
+                      time = omega (arith, steps, l);
+                      most = c .counted .most;
+                      space = omega (arith, lines, c .counted .space);
+                    };
+                instants = omega (arith, steps, instants, c .instants);
+              };
           logged = u .logged;
-          bytes = l ∙ u .bytes;
         }
 
-    -- suspended to the end, where nothing changes
+    -- suspended with no signal present: to the end, where nothing changes
     pub comes-idle :
-        {instants : ℕ} → suspended (at .process) (at .values) ≡ true →
-        change (at .process) (at .values) ≡ at .process → instantStart names (at .values) ≡ at .values →
-        instants ≡ at .instants + (limit - at .steps) →
-        outcome names seen limit (length (begun .log) / 4)
-        (record {
-          process = at .process;
-          values = at .values;
-          log = at .log;
-          steps = limit;
-          instants = instants;
-          lines = at .lines;
-        })
-        ≡ outcome names seen limit (length (begun .log) / 4) begun
-    comes-idle {instants} w p v i =
-        sym
-        (outcome-idle names seen limit (length (begun .log) / 4) (limit - at .steps) at instants w p v
-        (omega (arith, u .time)) (sym i))
-        ∙ u .same
+        {t′ : Tally} → suspended (scriptAt words st values log t .process) values ≡ true →
+        someSignalPresent (namesOf words) values ≡ false → t′ .steps ≡ limit →
+        t′ .instants ≡ t .instants + (limit - t .steps) → t′ .lines ≡ t .lines → Comes st values log t′
+    comes-idle {t′} w none s i l =
+        let c = u .can in
+        record {
+          same =
+              rw (s, l)
+              (sym
+              (outcome-idle (namesOf words) seen limit (length (begun .log) / 4) (limit - t .steps) (scriptAt words st values log t)
+              (t′ .instants) w
+              (idle-stays (namesOf words) values none words (c .valued .runnable) (λ x. refl) (root words) (c .node .known) st)
+              (values-stay (namesOf words) values none) (omega (arith, c .counted .time)) (sym i))
+              ∙ u .same);
+          can =
+              record {
+                valued = c .valued;
+                node = c .node;
+                counted =
+                    record {
+                      time = omega (arith, s);
+                      most = c .counted .most;
+                      space = omega (arith, l, c .counted .space);
+                    };
+                instants = omega (arith, s, i, c .instants, c .counted .time);
+              };
+          logged = u .logged;
+        }
 
-  -- where and how it stops
-  pub record Stops (at : Running ℕ) (room why : ℕ) : Type 0 where
-    pub ending : Ending
-    pub number : endingOf why ≡ endingNumber ending
-    pub is : outcome names seen limit room at ≡ stopped names ending at
+    -- where it stops
+    pub gives :
+        {why : ℕ} {r : Ran} → Ends seen limit (length (begun .log) / 4) (scriptAt words st values log t) why →
+        (why ≡ isSuspended → t .steps ≡ limit) → r .ending ≡ endingOf why → r .at ≡ t →
+        Gives words (comesTo begun) limit st values log r
+    gives {why} {r} e w n a = rw a (stops e)
+      where
+        at : Running ℕ
+        at = scriptAt words st values log t
 
-  pub stops : {at : Running ℕ} {room why : ℕ} → Ends seen limit room at why → (why ≡ isSuspended → at .steps ≡ limit) → Stops at room why
-  stops {at} {room} (gone e z) w =
-      record { ending = finished; number = rw e; is = outcome-finished names seen limit room at z }
-  stops {at} {room} (waits e z) w =
-      record {
-        ending = calls.spent;
-        number = rw e;
-        is = outcome-spent names seen limit room at (waits-some (at .process) (at .values) z) (w e);
-      }
-  stops {at} {room} (spent e l z) w =
-      record { ending = calls.spent; number = rw e; is = outcome-spent names seen limit room at (l .some) z }
-  stops {at} {room} (full e l t z) w =
-      record { ending = logFull; number = rw e; is = outcome-full names seen limit room at l t z }
+        here : (how : Ending) → endingOf why ≡ endingNumber how → comesTo at ≡ stopped how at → Gives words (comesTo begun) limit st values log (record { ending = r .ending; at = t })
+        here how k o =
+            subst (λ z. Gives words z limit st values log (record { ending = r .ending; at = t })) (sym o ∙ u .same)
+            (record { ending = n ∙ k; at = refl; again = u .can })
 
-  pub gives :
-      (begun : Running ℕ) {at : Running ℕ} {room why : ℕ} {r : Ran} {vs : List ℤ} → Stops at room why →
-      outcome names seen limit room at ≡ outcome names seen limit room begun →
-      r ≡ ranTo why (at .steps) (at .instants) (at .lines) → vs ≡ givenBack names (at .values) →
-      Gives (outcome names seen limit room begun) r vs (at .log)
-  gives begun {at} {room} {why} {r} {vs} t e a v =
-      subst (λ o. Gives o r vs (at .log)) (sym (t .is) ∙ e)
-      (rw a (record { ending = t .number; steps = refl; instants = refl; lines = refl; final = v; logged = refl }))
-
--- cleared bytes: the script as it is written
-pub fresh :
-    (s : List ℕ) → Checked s → (k : ℕ) → k ≡ nodeCount s - 1 → (st : List ℕ) → st ≡ replicate (nodeCount s) 0 → left s k st ≡ tree s
-fresh s ok k e st z =
-    rw (e, z) (zeros (tree s) (nodeCount s) (omega (arith, whole-size s ok)))
+        stops : Ends seen limit (length (begun .log) / 4) at why → Gives words (comesTo begun) limit st values log (record { ending = r .ending; at = t })
+        stops (gone q z) = here finished (rw q) (outcome-finished (namesOf words) seen limit _ at z)
+        stops (waits q z) =
+            here calls.spent (rw q) (outcome-spent (namesOf words) seen limit _ at (waits-some (at .process) (at .values) z) (w q))
+        stops (spent q l z) = here calls.spent (rw q) (outcome-spent (namesOf words) seen limit _ at (l .some) z)
+        stops (full q l x z) = here logFull (rw q) (outcome-full (namesOf words) seen limit _ at l x z)

@@ -28,7 +28,8 @@ use Rattle.uses.specs.Uses.{allFields, usedBy, used, timesUsed}
 use Rattle.uses.proofs.Used.{used-of, used-child}
 use Rattle.reach.specs.Checked.{Checked}
 use Rattle.reach.proofs.Joining.{used-earlier}
-use Rattle.tree.specs.Tree.{processOf, tree, size, childSize, KeepsSizes}
+use Rattle.language.specs.Shapes.{size}
+use Rattle.tree.specs.Tree.{processOf, tree, childSize, KeepsSizes}
 use Rattle.tree.proofs.Views.{NodeView, aNil, anAssign, aLet, anIf, aWhile, aSequence, anEmit, aLocal, aWatching, aWhen, aParallel, node-view, role}
 
 module _ (s : List ℕ) (ok : Checked s) where

@@ -7,7 +7,8 @@ use Rattle.language.specs.Scope.{Scoped, Declared, Once}
 use Rattle.layout.specs.Layout.{nameCount, nodeCount}
 use Rattle.layout.specs.Entries.{isSession, isSessionName}
 use Rattle.reach.specs.Checked.{Checked}
-use Rattle.tree.specs.Tree.{namesOf, processOf, tree, size}
+use Rattle.language.specs.Shapes.{size}
+use Rattle.tree.specs.Tree.{namesOf, processOf, tree}
 
 -- The script of a checked file is scoped as the theorems about scripts ask.
 abbrev pub TreeScoped : Type 0

@@ -3,7 +3,7 @@
 use mathlib.Core.Path.{_≡_}
 use mathlib.Core.Bool.{cond}
 use mathlib.Core.List.{List, [], _∷_}
-use Prim.Native.Nat.{ℕ, suc, _+_, _-_, _*_, _<_}
+use Prim.Native.Nat.{ℕ, _+_, _-_, _*_, _<_}
 use lib.Dec.{eqb}
 use lib.IntN.{ℤ, pos}
 use lib.ListN.{getD}
@@ -11,6 +11,7 @@ use mir.Syntax.{w32}
 use mir.Val.{toZ}
 use Rattle.prelude.specs.Course.{entry}
 use Rattle.language.specs.Syntax.{Names, add, subtract, multiply, divide, less, equal, Exp, constant, register, binary, negated, Proc, nil, assign, letIn, ifThenElse, while, sequence, emit, local, watching, when, parallel}
+use Rattle.language.specs.Shapes.{size}
 use Rattle.layout.specs.declared.entries.Part.{Part}
 use Rattle.layout.specs.Layout.{nodeCount}
 use Rattle.layout.specs.Entries.{nameOf, isSession, partOf, node}
@@ -83,20 +84,6 @@ processOf s =
 -- 'The last node is the script.'
 abbrev pub tree : List ℕ → Proc ℕ
 tree s = processOf s (nodeCount s - 1)
-
--- how many nodes a process has
-unfoldable pub size : {L : Type 0} → Proc L → ℕ
-size nil = 1
-size (assign x e) = 1
-size (letIn x δ e p) = suc (size p)
-size (ifThenElse e p q) = suc (size p + size q)
-size (while e p) = suc (size p)
-size (sequence p q) = suc (size p + size q)
-size (emit a) = 1
-size (local a δ p) = suc (size p)
-size (watching a p) = suc (size p)
-size (when a p) = suc (size p)
-size (parallel p q) = suc (size p + size q)
 
 -- what a field adds to the size of its node
 abbrev pub childSize : List ℕ → Field → ℕ

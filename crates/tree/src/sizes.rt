@@ -9,7 +9,8 @@ ghost use Rattle.layout.specs.Layout.{Laid};
 ghost use Rattle.layout.specs.Entries.{node};
 ghost use Rattle.fields.specs.Fields.{fieldCount, fieldOf};
 ghost use Rattle.reach.specs.Checked.{Checked};
-ghost use Rattle.tree.specs.Tree.{processOf, size, childSize, KeepsSizes};
+ghost use Rattle.language.specs.Shapes.{size};
+ghost use Rattle.tree.specs.Tree.{processOf, childSize, KeepsSizes};
 
 // The size of the child that field f of node k uses, or 0.
 fn child_size(s: &[u8], c: Script, sizes: &[u16; Script::MAX_NODES], k: usize, f: usize) -> u16

@@ -7,7 +7,7 @@ use native.Mathlib.Omega.{arith}
 use lib.Dec.{eqb}
 use borrow.Author.Tests.{eq-eqb, ne-eqb, eqb-false}
 use Rattle.prelude.proofs.Bools.{or-first, or-true}
-use Rattle.plan.specs.Forms.{before, watched, guarded}
+use Rattle.program.specs.Forms.{before, watched, guarded}
 use Rattle.moves.specs.Moves.{isSuspended}
 use Rattle.advance.proofs.byte_after.Statement.{statement}
 use Rattle.advance.proofs.byte_after.Tie as tie

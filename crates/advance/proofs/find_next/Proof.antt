@@ -7,10 +7,10 @@ use native.Mathlib.Omega.{arith}
 use lib.ListN.{getD, length}
 use borrow.Author.Tests.{not-true, not-false}
 use Rattle.language.specs.Steps.{present}
-use Rattle.layout.specs.Entries.{partOf, node}
-use Rattle.plan.specs.declared.forms.Front.{Front}
-use Rattle.plan.specs.Forms.{mover, before, guarded, frontOf}
-use Rattle.plan.proofs.Fronts.{front-form}
+use Rattle.program.specs.Program.{kindAt, aAt}
+use Rattle.program.specs.declared.forms.Front.{Front}
+use Rattle.program.specs.Forms.{mover, before, guarded, frontOf}
+use Rattle.program.proofs.Fronts.{front-form}
 use Rattle.residual.specs.Residual.{own}
 use Rattle.residual.proofs.Residuals.{some-bytes}
 use Rattle.residual.proofs.Sights.{signalAt, part-length}
@@ -24,19 +24,19 @@ use Rattle.advance.proofs.find_next.Tie as tie
 form-is :
     (c : tie.After-form-at) →
     let start = c .before .before .before in
-    c .form-at .result ≡ frontOf (start .args .s .now .now) (start .args .k) (own (start .args .state .now)) (length (start .args .state .now)) .form
+    c .form-at .result ≡ frontOf (start .args .program .now) (start .args .k) (own (start .args .state .now)) (length (start .args .state .now)) .form
 form-is c =
     let start = c .before .before .before in
-    c .form-at .ensures ∙ sym (front-form (start .args .s .now .now) (start .args .k) (own (start .args .state .now)) (length (start .args .state .now)))
+    c .form-at .ensures ∙ sym (front-form (start .args .program .now) (start .args .k) (own (start .args .state .now)) (length (start .args .state .now)))
 
 -- what is found of the node
 found :
     (c : tie.After-find-front) →
     let start = c .before .before .before .before .before in
-    Found (start .args .s .now .now) (start .args .values .now) (start .args .k) (start .args .state .now) (c .find-front .result)
+    Found (start .args .program .now) (start .args .values .now) (start .args .k) (start .args .state .now) (c .find-front .result)
 found c =
     let start = c .before .before .before .before .before in
-    record { valued = start .pre .0; at = start .pre .1 .1; front = c .find-front .ensures }
+    record { valued = start .pre .valued; at = start .pre .node; front = c .find-front .ensures }
 
 same-form : (c : tie.After-find-front) → c .before .before .form-at .result ≡ c .find-front .result .form
 same-form c = form-is (c .before .before) ∙ ap (λ (f : Front). f .form) (sym (c .find-front .ensures))
@@ -48,7 +48,7 @@ ahead c = subst (λ n. mover < n) (same-form c) (c .before .if1 .left)
 in-front :
     (c : tie.After-find-front) →
     let start = c .before .before .before .before .before in
-    Part (start .args .s .now .now) (start .args .k) (start .args .state .now) (c .find-front .result)
+    Part (start .args .program .now) (start .args .k) (start .args .state .now) (c .find-front .result)
 in-front c = front-part (found c) (ahead c)
 
 some-part : (c : tie.After-find-front) → c .find-front .result .from < c .find-front .result .to
@@ -62,14 +62,14 @@ shown :
     (c : tie.Joined2) →
     let start = c .before .before .before .before .before .before in
     c .before .find-front .result .form ≡ guarded →
-    present (start .args .values .now) (signalAt (start .args .s .now .now) (start .args .k)) ≡ true
+    present (start .args .values .now) (signalAt (start .args .program .now) (start .args .k)) ≡ true
 shown c e =
     ⊎-elim (λ t. sym (t .1 .ensures) ∙ not-false _ (t .2 .left)) (λ t. absurd (t .left (same-form (c .before) ∙ e))) (c .if2 .came)
 
 shared-slice-read-tag : tie.Need-shared-slice-read-tag
 shared-slice-read-tag c =
     let start = c .before .before in
-    some-bytes (start .pre .1 .1)
+    some-bytes (start .pre .node)
 
 form-at-requires : tie.Need-form-at-requires
 form-at-requires c κs = search needs
@@ -80,7 +80,7 @@ own-next-requires c κs = search needs
 returns : tie.Need-returns
 returns c =
     let start = c .before .before .before .before .before in
-    own-follows (record { valued = start .pre .0; at = start .pre .1 .1; front = refl }) (form-is (c .before .before)) (c .before .if1 .taken) (c .own-next .ensures)
+    own-follows (record { valued = start .pre .valued; at = start .pre .node; front = refl }) (form-is (c .before .before)) (c .before .if1 .taken) (c .own-next .ensures)
 
 find-front-requires : tie.Need-find-front-requires
 find-front-requires c κs = search needs
@@ -89,7 +89,7 @@ signal-is-present-requires : tie.Need-signal-is-present-requires
 signal-is-present-requires c κs =
     let start = c .before .before .before .before .before .before in
     let known = signal-known (found (c .before)) (omega (arith, c .if2 .taken, same-form (c .before))) (omega (arith, c .if2 .taken, same-form (c .before))) in
-    (start .pre .0 .checked, (start .pre .1 .0, (start .pre .1 .1 .known, (start .pre .0 .named, known))))
+    (omega (arith, start .pre .node .known, start .pre .valued .runnable .fewNodes), known)
 
 returns-2 : tie.Need-returns-2
 returns-2 c =
@@ -101,14 +101,14 @@ shared-slice-read-writes-next c = omega (arith, some-part (c .before .before), i
 writes-next-requires : tie.Need-writes-next-requires
 writes-next-requires c κs =
     let start = c .before .before .before .before .before .before .before in
-    (start .pre .0 .checked, (start .pre .1 .0, in-front (c .before .before) .at .known))
+    omega (arith, in-front (c .before .before) .at .known, start .pre .valued .runnable .fewNodes)
 
 returns-3 : tie.Need-returns-3
 returns-3 c =
     let start = c .before .before .before .before .before .before .before .before .before in
     let f = c .before .before .before .before .find-front .result in
-    let s = start .args .s .now .now in
-    let both = writes-both (getD (start .args .state .now) (f .from) 0) (partOf s (node s (f .child)) .kind) (sym (c .before .writes-next .ensures) ∙ c .if4 .taken) in
+    let s = start .args .program .now in
+    let both = writes-both (getD (start .args .state .now) (f .from) 0) (kindAt s (f .child)) (sym (c .before .writes-next .ensures) ∙ c .if4 .taken) in
     part (omega arith) (c .before .before .before .before .find-front .ensures) (ahead (c .before .before .before .before)) (shown (c .before .before .before))
     (λ _. (both .0, own-part f (start .args .state .now) (some-part (c .before .before .before .before)) ∙ both .1))
 

@@ -7,8 +7,8 @@ use native.Mathlib.Omega.{arith}
 use denote.Ref.{now}
 use lib.ListN.{set}
 use Prim.Native.Nat.{_<_}
-use Rattle.plan.specs.declared.forms.Front.{Front}
-use Rattle.plan.specs.Forms.{mover}
+use Rattle.program.specs.declared.forms.Front.{Front}
+use Rattle.program.specs.Forms.{mover}
 use Rattle.residual.specs.Residual.{own}
 use Rattle.moves.specs.Moves.{Silent}
 use Rattle.residual.specs.Nodes.{left}
@@ -24,42 +24,44 @@ use Rattle.advance.proofs.leave.Tie as tie
 -- what is found of the node
 found :
     (c : tie.Start) → mover < c .args .f .form →
-    Found (now (now (c .args .s))) (now (c .args .values)) (c .args .k) (now (c .args .state)) (c .args .f)
-found c h = record { valued = c .pre .0 .0; at = c .pre .0 .1 .1 .0; front = c .pre .1 h .0 }
+    Found (now (c .args .program)) (now (c .args .values)) (c .args .k) (now (c .args .state)) (c .args .f)
+found c h = record { valued = c .pre .valued; at = c .pre .node; front = c .pre .front h }
 
 -- the node moves: its part in front is nil, or what is behind it can move in its place
 moves-on :
     (c : tie.Joined2) →
     let start = c .before .before .before in
     Silent
-    (left (now (now (start .args .s))) (start .args .k) (now (start .args .state)))
+    (left (now (start .args .program)) (start .args .k) (now (start .args .state)))
     (now (start .args .values))
-    (left (now (now (start .args .s))) (start .args .k) (set (now (start .args .state)) 0 (byteAfter (start .args .f .form) (start .args .why) (own (now (start .args .state))))))
+    (left (now (start .args .program)) (start .args .k) (set (now (start .args .state)) 0 (byteAfter (start .args .f .form) (start .args .why) (own (now (start .args .state))))))
     (now (start .args .values))
 moves-on c =
     let start = c .before .before .before in
     let h : mover < start .args .f .form = omega (arith, c .before .if1 .left) in
-    settles (now (now (start .args .s))) (start .args .k) (now (start .args .state)) (start .args .f) (now (start .args .values)) (sees (found start h)) (start .pre .1 h .1) (c .before .if1 .left)
+    settles (now (start .args .program)) (start .args .k) (now (start .args .state)) (start .args .f) (now (start .args .values)) (sees (found start h)) (start .pre .rests h) (c .before .if1 .left)
     (λ e.
     ⊎-elim
-    (λ t. subst (RearWaits (now (now (start .args .s))) (start .args .k) (now (start .args .state)) (now (start .args .values)) (start .args .f .form)) (t .3 .left) (t .2 .ensures))
+    (λ t. subst (RearWaits (now (start .args .program)) (start .args .k) (now (start .args .state)) (now (start .args .values)) (start .args .f .form)) (t .3 .left) (t .2 .ensures))
     (λ t. absurd (t .left e))
     (c .if2 .came))
 
 returns : tie.Need-returns
 returns c =
-    let start = c .before .before in (
-      λ l. (refl, refl),
-      λ h.
-          let r = start .pre .1 h .1 in
-          let same = rests-alone (now (now (start .args .s))) (start .args .k) (now (start .args .state)) (start .args .f) (now (start .args .values)) (sees (found start h)) h (c .if1 .taken) in
-          restsOn refl refl refl refl (λ e. same .0 ∙ r .gone e) (λ e. same .1 ∙ r .waits e),
-    )
+    let start = c .before .before in
+    record {
+      still = λ l. (refl, refl);
+      settles =
+          λ h.
+          let r = start .pre .rests h in
+          let same = rests-alone (now (start .args .program)) (start .args .k) (now (start .args .state)) (start .args .f) (now (start .args .values)) (sees (found start h)) h (c .if1 .taken) in
+          restsOn refl refl refl refl (λ e. same .0 ∙ r .gone e) (λ e. same .1 ∙ r .waits e);
+    }
 
 rear-waits-requires : tie.Need-rear-waits-requires
 rear-waits-requires c κs =
     let start = c .before .before .before .before in
-    ((start .pre .0 .0, (start .pre .0 .1 .0, start .pre .0 .1 .1 .0)), ap (λ (x : Front). x .form) (start .pre .1 (omega (arith, c .before .before .if1 .left)) .0))
+    record { valued = start .pre .valued; node = start .pre .node; form = ap (λ (x : Front). x .form) (start .pre .front (omega (arith, c .before .before .if1 .left))) }
 
 same-length : tie.Need-same-length
 same-length c = search needs
@@ -68,37 +70,39 @@ returns-2 : tie.Need-returns-2
 returns-2 c =
     let start = c .before .before .before .before .before .before in
     let h : mover < start .args .f .form = omega (arith, c .before .before .before .before .if1 .left) in
-    let r = start .pre .1 h .1 in (
-      λ l. absurd (omega (arith, l, h)),
-      λ _. restsOn refl refl refl refl (λ e. absurd (omega (arith, e, c .before .before .before .if2 .taken)))
-          (λ e. sym (waiting-front (found start h) (r .part) (r .shown) (r .waits e) (subst (RearWaits (now (now (start .args .s))) (start .args .k) (now (start .args .state)) (now (start .args .values)) (start .args .f .form)) (c .if3 .taken) (c .before .rear-waits .ensures)))),
-    )
+    let r = start .pre .rests h in
+    record {
+      still = λ l. absurd (omega (arith, l, h));
+      settles = λ _. restsOn refl refl refl refl (λ e. absurd (omega (arith, e, c .before .before .before .if2 .taken)))
+          (λ e. sym (waiting-front (found start h) (r .part) (r .shown) (r .waits e) (subst (RearWaits (now (start .args .program)) (start .args .k) (now (start .args .state)) (now (start .args .values)) (start .args .f .form)) (c .if3 .taken) (c .before .rear-waits .ensures))));
+    }
 
 returns-3 : tie.Need-returns-3
 returns-3 c =
     let start = c .before .before .before .before .before .before in
-    let h : mover < start .args .f .form = omega (arith, c .before .before .before .before .if1 .left) in (
-      λ l. absurd (omega (arith, l, h)),
-      λ _. atLimit refl refl refl refl (moves-on (c .before .before .before) .0) (le-antisymm (start .pre .0 .1 .1 .1 .0) (c .if4 .taken)),
-    )
+    let h : mover < start .args .f .form = omega (arith, c .before .before .before .before .if1 .left) in
+    record {
+      still = λ l. absurd (omega (arith, l, h));
+      settles = λ _. atLimit refl refl refl refl (moves-on (c .before .before .before) .0) (le-antisymm (start .pre .time) (c .if4 .taken));
+    }
 
 slice-read-byte-after : tie.Need-slice-read-byte-after
 slice-read-byte-after c =
     let start = c .before .before .before .before .before .before .before in
-    some-bytes (start .pre .0 .1 .1 .0)
+    some-bytes (start .pre .node)
 
 byte-after-requires : tie.Need-byte-after-requires
 byte-after-requires c κs =
     let start = c .before .before .before .before .before .before .before in
-    byte-bound (now (now (start .args .s))) (start .args .k) (now (start .args .state)) (start .args .f) (now (start .args .values)) (sees (found start (omega (arith, c .before .before .before .before .before .if1 .left)))) (c .before .before .before .before .before .if1 .left)
+    byte-bound (now (start .args .program)) (start .args .k) (now (start .args .state)) (start .args .f) (now (start .args .values)) (sees (found start (omega (arith, c .before .before .before .before .before .if1 .left)))) (c .before .before .before .before .before .if1 .left)
 
 slice-write-state : tie.Need-slice-write-state
 slice-write-state c =
     let start = c .before .before .before .before .before .before .before .before in
-    some-bytes (start .pre .0 .1 .1 .0)
+    some-bytes (start .pre .node)
 
-add-t20 : tie.Need-add-t20
-add-t20 c = search needs
+add-t19 : tie.Need-add-t19
+add-t19 c = search needs
 
 same-length-2 : tie.Need-same-length-2
 same-length-2 c = search needs
@@ -106,10 +110,11 @@ same-length-2 c = search needs
 returns-4 : tie.Need-returns-4
 returns-4 c =
     let start = c .before .before .before .before .before .before .before .before .before in
-    let h : mover < start .args .f .form = omega (arith, c .before .before .before .before .before .before .before .if1 .left) in (
-      λ l. absurd (omega (arith, l, h)),
-      λ _. makesMove refl (add-one (start .args .at .steps)) refl (c .before .before .before .if4 .left) (rw (c .before .byte-after .ensures) (moves-on (c .before .before .before .before .before .before))),
-    )
+    let h : mover < start .args .f .form = omega (arith, c .before .before .before .before .before .before .before .if1 .left) in
+    record {
+      still = λ l. absurd (omega (arith, l, h));
+      settles = λ _. makesMove refl (add-one (start .args .at .steps)) refl (c .before .before .before .if4 .left) (rw (c .before .byte-after .ensures) (moves-on (c .before .before .before .before .before .before)));
+    }
 
 pub leave-spec : {M : Type 1} → statement M
 leave-spec =
@@ -123,6 +128,6 @@ leave-spec =
     slice-read-byte-after
     byte-after-requires
     slice-write-state
-    add-t20
+    add-t19
     same-length-2
     returns-4)

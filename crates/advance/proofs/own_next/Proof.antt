@@ -1,7 +1,7 @@
 -- `own_next`: by the form.
 use mathlib.Core.Path.{sym}
 use borrow.Author.Tests.{eq-eqb, ne-eqb}
-use Rattle.plan.specs.Forms.{mover}
+use Rattle.program.specs.Forms.{mover}
 use Rattle.advance.proofs.own_next.Statement.{statement}
 use Rattle.advance.proofs.own_next.Tie as tie
 

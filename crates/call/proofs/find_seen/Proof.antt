@@ -6,9 +6,10 @@ use mathlib.Core.List.{List}
 use Prim.Native.Nat.{ℕ, _-_, _≤_, _<_}
 use native.Mathlib.Omega.{arith}
 use Rattle.book.specs.LevelBook.{atOrBelow}
-use Rattle.layout.specs.Layout.{mostNames, nameCount}
+use Rattle.layout.specs.Layout.{nameCount}
 use Rattle.layout.specs.Entries.{nameOf}
 use Rattle.layout.proofs.Layouts.{few-bounds, names-are}
+use Rattle.program.specs.Program.{mostNames}
 use Rattle.call.proofs.Marking.{Marked, marked-none, marked-set, marked-left}
 use borrow.Author.Needs.{needs}
 use Rattle.call.proofs.find_seen.Statement.{statement}

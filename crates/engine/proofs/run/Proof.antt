@@ -1,10 +1,11 @@
 -- `run`: what was prepared is run, unless the call is refused.
 use mathlib.Core.Path.{_≡_, refl, sym, ap, _∙_, subst}
 use mathlib.Core.Bool.{true}
-use Prim.Native.Nat.{ℕ, _<_}
+use Prim.Native.Nat.{ℕ, _≤_, _<_}
 use native.Mathlib.Omega.{arith}
 use denote.Ref.{now}
 use borrow.Author.Tests.{eq-eqb, ne-eqb}
+use borrow.Author.Needs.{fits-under}
 use Rattle.prelude.specs.Refusals.{passes}
 use Rattle.book.specs.declared.Book.{Book}
 use Rattle.book.specs.LevelBook.{count, atOrBelow}
@@ -25,7 +26,7 @@ use Rattle.checker.proofs.Passing.{Accepted, accepted}
 use Rattle.call.specs.Refusals.{callRefusal, runRefusal}
 use Rattle.call.proofs.Passing.{run-accepted, run-bounds}
 use Rattle.engine.specs.Answers.{Left}
-use Rattle.engine.proofs.Leaving.{refused-left, by-check, by-call, few-lines, report-is, values-are, log-is}
+use Rattle.engine.proofs.Leaving.{refused-left, by-check, by-call, few-steps, few-lines, report-is, values-are, log-is}
 use Rattle.engine.proofs.run.Statement.{statement}
 use Rattle.engine.proofs.run.Tie as tie
 
@@ -133,37 +134,56 @@ run-seen-requires c κs =
     let p = passed ((c .before .before .before)) in
     let started = run-accepted (now (a .book)) (now (a .script)) (a .reader) (now (a .values)) (a .limit) p .1 in (
       laid ((c .before .before .before .before .before .before .before)),
-      (record { checked = file ((c .before .before .before .before .before .before .before)) .0; named = started .named }, run-bounds (now (a .book)) (now (a .script)) (a .reader) (now (a .values)) (a .limit) p .1),
+      (file ((c .before .before .before .before .before .before .before)) .0, (started .named, run-bounds (now (a .book)) (now (a .script)) (a .reader) (now (a .values)) (a .limit) p .1)),
     )
+
+-- within the limit
+within :
+    (c : tie.After-run-seen) →
+    let a = c .before .before .before .before .before .before .before .before .before .before .before .before .before .before .args in
+    (c .run-seen .result .at .steps ≤ 1000000) × (c .run-seen .result .at .lines ≤ 1000000)
+within c =
+    let a = c .before .before .before .before .before .before .before .before .before .before .before .before .before .before .args in
+    let most = run-bounds (now (a .book)) (now (a .script)) (a .reader) (now (a .values)) (a .limit) (passed ((c .before .before .before .before))) .1 in
+    let ok = file ((c .before .before .before .before .before .before .before .before)) .0 in (
+      omega (
+        arith,
+        few-steps (now (a .book)) (now (a .script)) (a .reader) (now (a .values)) (a .limit) (now (a .log)) ok
+            (c .before .before .before .find-seen .result) (agrees ((c .before .before .before))) (c .run-seen .ensures),
+        most,
+      ),
+      omega (
+        arith,
+        few-lines (now (a .book)) (now (a .script)) (a .reader) (now (a .values)) (a .limit) (now (a .log)) ok
+            (c .before .before .before .find-seen .result) (agrees ((c .before .before .before))) (c .run-seen .ensures),
+        most,
+      ),
+    )
+
+cast-report-of : tie.Need-cast-report-of
+cast-report-of c = fits-under _ _ 4000000 (omega (arith, within ((c .before .before .before .before .before)) .0)) tt
 
 report-of-requires : tie.Need-report-of-requires
-report-of-requires c κs =
-    let a = c .before .before .before .before .before .before .before .before .before .before .before .before .before .before .before .before .before .args in
-    omega (
-      arith,
-      few-lines (now (a .book)) (now (a .script)) (a .reader) (now (a .values)) (a .limit) (now (a .log)) (file ((c .before .before .before .before .before .before .before .before .before .before .before)) .0)
-          (c .before .before .before .before .before .before .find-seen .result) (agrees ((c .before .before .before .before .before .before))) (c .before .before .before .run-seen .ensures),
-      run-bounds (now (a .book)) (now (a .script)) (a .reader) (now (a .values)) (a .limit) (passed ((c .before .before .before .before .before .before .before))) .1,
-    )
+report-of-requires c κs = omega (arith, within ((c .before .before .before .before .before)) .1)
 
 same-length-2 : tie.Need-same-length-2
-same-length-2 c = c .before .before .before .before .run-seen .kept .1 .1 .1 .0
+same-length-2 c = c .before .before .before .before .before .before .run-seen .kept .1 .1 .1 .0
 
 same-length-3 : tie.Need-same-length-3
-same-length-3 c = c .before .before .before .before .run-seen .kept .1 .1 .1 .1 .1 .0
+same-length-3 c = c .before .before .before .before .before .before .run-seen .kept .1 .1 .1 .1 .1 .0
 
 returns-3 : tie.Need-returns-3
 returns-3 c =
-    let a = c .before .before .before .before .before .before .before .before .before .before .before .before .before .before .before .before .before .before .args in
+    let a = c .before .before .before .before .before .before .before .before .before .before .before .before .before .before .before .before .before .before .before .before .args in
     let b = now (a .book) in
     let s = now (a .script) in
     let values = now (a .values) in
     let log = now (a .log) in
-    let seen = c .before .before .before .before .before .before .before .find-seen .result in
-    let see = agrees ((c .before .before .before .before .before .before .before)) in
-    let g = c .before .before .before .before .run-seen .ensures in
-    let p = passed ((c .before .before .before .before .before .before .before .before)) in
-    let ok = file ((c .before .before .before .before .before .before .before .before .before .before .before .before)) .0 in (
+    let seen = c .before .before .before .before .before .before .before .before .before .find-seen .result in
+    let see = agrees ((c .before .before .before .before .before .before .before .before .before)) in
+    let g = c .before .before .before .before .before .before .run-seen .ensures in
+    let p = passed ((c .before .before .before .before .before .before .before .before .before .before)) in
+    let ok = file ((c .before .before .before .before .before .before .before .before .before .before .before .before .before .before)) .0 in (
       c .report-of .ensures ∙ report-is b s (a .reader) values (a .limit) log ok seen see g p,
       (
         values-are b s (a .reader) values (a .limit) log ok seen see g p,
@@ -184,6 +204,7 @@ run-spec =
     returns-2
     find-seen-requires
     run-seen-requires
+    cast-report-of
     report-of-requires
     same-length-2
     same-length-3

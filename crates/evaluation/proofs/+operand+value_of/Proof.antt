@@ -4,18 +4,13 @@ use mathlib.Core.List.{List}
 use Prim.Native.Nat.{ℕ, _+_, _*_, _<_}
 use native.Mathlib.Omega.{arith}
 use lib.IntN.{ℤ}
-use lib.ListN.{getD}
 use Rattle.arithmetic.specs.Values.{negation}
 use Rattle.language.specs.Steps.{value}
 use Rattle.arithmetic.proofs.Bits.{given-back}
-use Rattle.layout.specs.Layout.{layoutOf, expressionCount}
-use Rattle.tree.specs.Tree.{expressionOf}
-use Rattle.reach.specs.Checked.{Checked}
-use Rattle.layout.proofs.Layouts.{few-bounds, expressions-are}
 use Rattle.packing.specs.Packing.{kindIn, operandIn, laterIn}
-use Rattle.plan.specs.Plan.{KeepsPlan}
+use Rattle.program.specs.Program.{mostExpressions, wordCount, expressionWord, expressionOf}
 use Rattle.evaluation.specs.Evaluation.{applied, Evaluable}
-use Rattle.evaluation.proofs.Evaluating.{Tells, word-tells}
+use Rattle.evaluation.proofs.Evaluating.{told}
 use borrow.Author.Needs.{fits-under}
 use borrow.Fn.Kinds.{In}
 use borrow.Fn.PlainCycle.{Measures, is, falls, and}
@@ -80,22 +75,19 @@ Q t = (
   operate-reads.Learnt,
 )
 
--- what the word of an expression tells
-module _ {plan : List ℕ} {values : List ℤ} {e : ℕ} (v : Evaluable plan values e) where
-  told : Tells (v .script) values e (getD plan e 0)
-  told = word-tells (v .script) values (v .checked) plan (v .kept) e (v .known)
-
-  few : e < 256
-  few =
-      let laid = v .checked .laid in
-      omega (arith, v .known, expressions-are laid, few-bounds (layoutOf (v .script)) (laid .few))
+module _ {words : List ℕ} {values : List ℤ} {e : ℕ} (v : Evaluable words values e) where
+  few : e < mostExpressions
+  few = omega (arith, v .known, v .runnable .fewExpressions)
 
   -- an operand
-  part : {j : ℕ} → j < expressionCount (v .script) → Evaluable plan values j
-  part h = record { script = v .script; checked = v .checked; kept = v .kept; named = v .named; known = h }
+  part : {j : ℕ} → j < e → Evaluable words values j
+  part h = record { runnable = v .runnable; named = v .named; known = omega (arith, h, v .known) }
+
+operand-add-w : (t : ℕ) → operand-lts.Need-add-w (R t) (operand-at t) operand.Post
+operand-add-w t c = fits-under _ _ wordCount (omega (arith, few (c .pre .1))) tt
 
 operand-mul-w : (t : ℕ) → operand-lts.Need-mul-w (R t) (operand-at t) operand.Post
-operand-mul-w t c = fits-under _ _ 4096 (omega (arith, few (c .pre .1))) tt
+operand-mul-w t c = fits-under _ _ 8192 (omega (arith, few (c .pre .1))) tt
 
 operand-element-copy-out-w : (t : ℕ) → operand-lts.Need-element-copy-out-w (R t) (operand-at t) operand.Post
 operand-element-copy-out-w t c = omega (arith, few (c .pre .1))
@@ -109,21 +101,23 @@ operand-leaf-value-requires t c κs l =
     omega (arith, told v .known l (omega (arith, c .before .kind-in .ensures, c .if1 .taken)), v .named)
 
 operand-returns : (t : ℕ) → operand-lts.Need-returns (R t) (operand-at t) operand.Post
-operand-returns t c s ok keeps h =
-    let args = c .before .before .before .before .args in
+operand-returns t c =
     given-back (c .leaf-value .ok)
     (c .leaf-value .ensures
-    ∙ word-tells s (args .values .now) ok (args .plan .now) keeps (args .e) h .leaf
+    ∙ told (c .before .before .before .before .pre .1) .leaf
     (omega (arith, c .before .before .kind-in .ensures, c .before .if1 .taken)))
 
 operand-value-of-requires : (t : ℕ) → operand-lts.Need-value-of-requires (R t) (operand-at t) operand.Post
 operand-value-of-requires t c κs = let pre = c .before .before .before .pre in (omega (arith, pre .0), pre .1)
 
 operand-returns-2 : (t : ℕ) → operand-lts.Need-returns-2 (R t) (operand-at t) operand.Post
-operand-returns-2 t c s ok keeps h = given-back (c .value-of .ok) (c .value-of .ensures s ok keeps h)
+operand-returns-2 t c = given-back (c .value-of .ok) (c .value-of .ensures)
+
+value-of-add-w : (t : ℕ) → value-of-lts.Need-add-w (Q t) (value-of-at t) value-of.Post
+value-of-add-w t c = fits-under _ _ wordCount (omega (arith, few (c .pre .1))) tt
 
 value-of-mul-w : (t : ℕ) → value-of-lts.Need-mul-w (Q t) (value-of-at t) value-of.Post
-value-of-mul-w t c = fits-under _ _ 4096 (omega (arith, few (c .pre .1))) tt
+value-of-mul-w t c = fits-under _ _ 8192 (omega (arith, few (c .pre .1))) tt
 
 value-of-element-copy-out-w : (t : ℕ) → value-of-lts.Need-element-copy-out-w (Q t) (value-of-at t) value-of.Post
 value-of-element-copy-out-w t c = omega (arith, few (c .pre .1))
@@ -137,11 +131,10 @@ value-of-leaf-value-requires t c κs l =
     omega (arith, told v .known l (omega (arith, c .before .kind-in .ensures, c .if1 .taken)), v .named)
 
 value-of-returns : (t : ℕ) → value-of-lts.Need-returns (Q t) (value-of-at t) value-of.Post
-value-of-returns t c s ok keeps h =
-    let args = c .before .before .before .before .args in
+value-of-returns t c =
     given-back (c .leaf-value .ok)
     (c .leaf-value .ensures
-    ∙ word-tells s (args .values .now) ok (args .plan .now) keeps (args .e) h .leaf
+    ∙ told (c .before .before .before .before .pre .1) .leaf
     (omega (arith, c .before .before .kind-in .ensures, c .before .if1 .taken)))
 
 value-of-operand-in-requires : (t : ℕ) → value-of-lts.Need-operand-in-requires (Q t) (value-of-at t) value-of.Post
@@ -150,14 +143,14 @@ value-of-operand-in-requires t c κs = tt
 -- an expression with operands
 operates :
     (t : ℕ) (c : value-of-lts.Else1 (Q t) (value-of-at t) value-of.Post) →
-    1 < kindIn (getD (c .before .before .before .args .plan .now) (c .before .before .before .args .e) 0)
+    1 < kindIn (expressionWord (c .before .before .before .args .program .now) (c .before .before .before .args .e))
 operates t c = omega (arith, c .before .kind-in .ensures, c .if1 .left)
 
 value-of-operand-requires : (t : ℕ) → value-of-lts.Need-operand-requires (Q t) (value-of-at t) value-of.Post
 value-of-operand-requires t c κs =
     let pre = c .before .before .before .before .pre in
     let u = told (pre .1) .first (operates t (c .before)) in
-    rw (c .operand-in .ensures) (omega (arith, pre .0, u .part .before), part (pre .1) (u .known))
+    rw (c .operand-in .ensures) (omega (arith, pre .0, u), part (pre .1) u)
 
 value-of-not-requires : (t : ℕ) → value-of-lts.Need-not-requires (Q t) (value-of-at t) value-of.Post
 value-of-not-requires t c κs = tt
@@ -166,24 +159,20 @@ value-of-not-requires t c κs = tt
 first-value :
     (t : ℕ) (c : value-of-lts.After-operand (Q t) (value-of-at t) value-of.Post) →
     let args = c .before .before .before .before .before .args in
-    (s : List ℕ) (ok : Checked s) (keeps : KeepsPlan s (args .plan .now)) (h : args .e < expressionCount s) →
-    c .operand .result ≡ value (expressionOf s (operandIn (getD (args .plan .now) (args .e) 0))) (args .values .now)
-first-value t c s ok keeps h =
+    c .operand .result
+    ≡ value (expressionOf (args .program .now) (operandIn (expressionWord (args .program .now) (args .e)))) (args .values .now)
+first-value t c =
     let args = c .before .before .before .before .before .args in
-    let n = c .before .operand-in .ensures in
-    let u = word-tells s (args .values .now) ok (args .plan .now) keeps (args .e) h .first (operates t (c .before .before)) in
-    c .operand .ensures s ok keeps (rw n (u .known)) ∙ ap (λ j. value (expressionOf s j) (args .values .now)) n
+    c .operand .ensures ∙ ap (λ j. value (expressionOf (args .program .now) j) (args .values .now)) (c .before .operand-in .ensures)
 
 value-of-returns-2 : (t : ℕ) → value-of-lts.Need-returns-2 (Q t) (value-of-at t) value-of.Post
-value-of-returns-2 t c s ok keeps h =
+value-of-returns-2 t c =
     let asked = c .before .before in
     let test = asked .before .before .before in
-    let args = test .before .before .args in
     given-back (c .not .ok)
     (c .not .ensures
-    ∙ ap negation (given-back (asked .operand .ok) (first-value t asked s ok keeps h))
-    ∙ word-tells s (args .values .now) ok (args .plan .now) keeps (args .e) h .negated
-    (omega (arith, test .kind-in .ensures, c .before .if2 .taken)))
+    ∙ ap negation (given-back (asked .operand .ok) (first-value t asked))
+    ∙ told (test .before .before .pre .1) .negated (omega (arith, test .kind-in .ensures, c .before .if2 .taken)))
 
 value-of-later-in-requires : (t : ℕ) → value-of-lts.Need-later-in-requires (Q t) (value-of-at t) value-of.Post
 value-of-later-in-requires t c κs = tt
@@ -193,47 +182,42 @@ value-of-operand-requires-2 t c κs =
     let one = c .before .before .before .before in
     let pre = one .before .before .before .pre in
     let u = told (pre .1) .second (operates t one) (λ z. c .before .if2 .left (one .before .kind-in .ensures ∙ z)) in
-    rw (c .later-in .ensures) (omega (arith, pre .0, u .part .before), part (pre .1) (u .known))
+    rw (c .later-in .ensures) (omega (arith, pre .0, u), part (pre .1) u)
 
 -- the value of the second operand
 second-value :
     (t : ℕ) (c : value-of-lts.After-operand2 (Q t) (value-of-at t) value-of.Post) →
     let args = c .before .before .before .before .before .before .before .before .args in
-    (s : List ℕ) (ok : Checked s) (keeps : KeepsPlan s (args .plan .now)) (h : args .e < expressionCount s) →
-    c .operand2 .result ≡ value (expressionOf s (laterIn (getD (args .plan .now) (args .e) 0))) (args .values .now)
-second-value t c s ok keeps h =
-    let one = c .before .before .before .before .before in
-    let args = one .before .before .before .args in
-    let n = c .before .later-in .ensures in
-    let u =
-    word-tells s (args .values .now) ok (args .plan .now) keeps (args .e) h .second (operates t one)
-    (λ z. c .before .before .if2 .left (one .before .kind-in .ensures ∙ z)) in
-    c .operand2 .ensures s ok keeps (rw n (u .known)) ∙ ap (λ j. value (expressionOf s j) (args .values .now)) n
+    c .operand2 .result
+    ≡ value (expressionOf (args .program .now) (laterIn (expressionWord (args .program .now) (args .e)))) (args .values .now)
+second-value t c =
+    let args = c .before .before .before .before .before .before .before .before .args in
+    c .operand2 .ensures ∙ ap (λ j. value (expressionOf (args .program .now) j) (args .values .now)) (c .before .later-in .ensures)
 
 value-of-operate-requires : (t : ℕ) → value-of-lts.Need-operate-requires (Q t) (value-of-at t) value-of.Post
 value-of-operate-requires t c κs = tt
 
 value-of-returns-3 : (t : ℕ) → value-of-lts.Need-returns-3 (Q t) (value-of-at t) value-of.Post
-value-of-returns-3 t c s ok keeps h =
+value-of-returns-3 t c =
     let other = c .before in
     let asked = other .before .before .before in
     let one = asked .before .before in
     let kind = one .before .kind-in in
-    let args = one .before .before .before .args in
-    let w : ℕ = getD (args .plan .now) (args .e) 0 in
-    let a : ℤ = value (expressionOf s (operandIn w)) (args .values .now) in
-    let b : ℤ = value (expressionOf s (laterIn w)) (args .values .now) in
+    let start = one .before .before .before in
+    let w : ℕ = expressionWord (start .args .program .now) (start .args .e) in
+    let a : ℤ = value (expressionOf (start .args .program .now) (operandIn w)) (start .args .values .now) in
+    let b : ℤ = value (expressionOf (start .args .program .now) (laterIn w)) (start .args .values .now) in
     given-back (c .operate .ok)
     (c .operate .ensures
     ∙ ap₂ (applied (kind .result))
-    (given-back (asked .operand .ok) (first-value t asked s ok keeps h))
-    (given-back (other .operand2 .ok) (second-value t other s ok keeps h))
+    (given-back (asked .operand .ok) (first-value t asked))
+    (given-back (other .operand2 .ok) (second-value t other))
     ∙ ap (λ k. applied k a b) (kind .ensures)
-    ∙ word-tells s (args .values .now) ok (args .plan .now) keeps (args .e) h .binary (operates t one)
-    (λ z. other .before .before .if2 .left (kind .ensures ∙ z)))
+    ∙ told (start .pre .1) .binary (operates t one) (λ z. other .before .before .if2 .left (kind .ensures ∙ z)))
 
 pub +operand+value-of-spec : {M : Type 1} → statement M
 +operand+value-of-spec = close μ-operand μ-value-of (λ t. operand-lts.spec (R t) (operand-at t) operand.Post
+    (operand-add-w t)
     (operand-mul-w t)
     (operand-element-copy-out-w t)
     (operand-kind-in-requires t)
@@ -242,6 +226,7 @@ pub +operand+value-of-spec : {M : Type 1} → statement M
     (operand-value-of-requires t)
     (operand-returns-2 t))
     λ t. value-of-lts.spec (Q t) (value-of-at t) value-of.Post
+    (value-of-add-w t)
     (value-of-mul-w t)
     (value-of-element-copy-out-w t)
     (value-of-kind-in-requires t)

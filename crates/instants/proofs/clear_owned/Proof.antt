@@ -1,48 +1,40 @@
 -- `clear_owned`: the names below x hold their new values, the others what they held.
-use mathlib.Core.Path.{sym, ap, _∙_}
+use mathlib.Core.Path.{sym, _∙_}
 use mathlib.Core.Bool.{cond}
 use mathlib.Core.Logic.{⊎-elim}
-use Prim.Native.Nat.{_-_, _<_}
+use Prim.Native.Nat.{_-_}
 use native.Mathlib.Omega.{arith}
-use lib.Dec.{eqb}
 use lib.IntN.{pos}
-use lib.ListN.{length}
-use borrow.Author.Tests.{eq-eqb, ne-eqb}
+use borrow.Author.Tests.{not-true, not-false}
 use Rattle.language.specs.Steps.{held}
 use Rattle.language.specs.Calls.{givenBack}
-use Rattle.layout.specs.Entries.{session, isSession}
-use Rattle.layout.proofs.Layouts.{names-are}
+use Rattle.packing.specs.Packing.{sessionIn}
+use Rattle.program.specs.Program.{nameWord}
 use Rattle.instants.proofs.Clearing.{Renewed, renewed-none, renewed-set, renewed-kept, renewed-all}
 use borrow.Author.Needs.{needs}
 use Rattle.instants.proofs.clear_owned.Statement.{statement}
 use Rattle.instants.proofs.clear_owned.Tie as tie
 
 abbrev Inv-loop : tie.InvT-loop
-Inv-loop s c values₀ n x₀ values x =
-    Renewed (λ x. cond (isSession s x) (held values₀ x) (pos 0)) values₀ x values
+Inv-loop program values₀ n x₀ values x =
+    Renewed (λ x. cond (sessionIn (nameWord program x)) (held values₀ x) (pos 0)) values₀ x values
 
 abbrev μ-loop : tie.MeasureT-loop
-μ-loop s c values₀ n x₀ values x = n - x
-
--- there is a value for each name
-inside :
-    (c : tie.In-loop Inv-loop μ-loop) → c .before .loop .x < length (c .before .before .before .args .values .now)
-inside c =
-    let start = c .before .before .before in
-    omega (arith, c .loop-test .taken, names-are (start .pre .0), start .pre .1 .named)
+μ-loop program values₀ n x₀ values x = n - x
 
 loop-holds : tie.Need-loop-holds Inv-loop μ-loop
 loop-holds c = renewed-none _ _
 
-name-at-requires : tie.Need-name-at-requires Inv-loop μ-loop
-name-at-requires c κs = search needs
+is-session-requires : tie.Need-is-session-requires Inv-loop μ-loop
+is-session-requires c κs = let pre = c .before .before .pre in omega (arith, c .loop-test .taken, pre .named, pre .runnable .fewNames)
 
 mul-values : tie.Need-mul-values Inv-loop μ-loop
 mul-values c = search needs
 
 slice-set-of-values : tie.Need-slice-set-of-values Inv-loop μ-loop
 slice-set-of-values c =
-    omega (arith, inside (c .before .before .before), c .before .before .before .before .loop .inv .same)
+    let turn = c .before .before in
+    omega (arith, turn .loop-test .taken, turn .before .loop .inv .same)
 
 add-x : tie.Need-add-x Inv-loop μ-loop
 add-x c = search needs
@@ -52,12 +44,12 @@ loop-less c = search needs
 
 loop-again : tie.Need-loop-again Inv-loop μ-loop
 loop-again c =
-    let loop = c .before .before .before .before .loop in
-    let known = inside (c .before .before .before) in
-    let test = ap (λ n. eqb (n .owner) session) (sym (c .before .before .name-at .ensures)) in
+    let turn = c .before .before in
+    let loop = turn .before .loop in
+    let test = c .before .is-session .ensures in
     ⊎-elim
-    (λ w. rw (w .1) (renewed-set _ _ _ (loop .values) known (loop .inv) (pos 0) (rw (test ∙ ne-eqb _ _ (w .0 .taken)))))
-    (λ w. rw (w .1) (renewed-kept _ _ _ (loop .values) known (loop .inv) (rw (test ∙ eq-eqb _ _ (w .0 .left)))))
+    (λ w. rw (w .1) (renewed-set _ _ _ (loop .values) (turn .loop-test .taken) (loop .inv) (pos 0) (rw (sym test ∙ not-true _ (w .0 .taken)))))
+    (λ w. rw (w .1) (renewed-kept _ _ _ (loop .values) (turn .loop-test .taken) (loop .inv) (rw (sym test ∙ not-false _ (w .0 .left)))))
     (c .if1 .came)
 
 same-length : tie.Need-same-length Inv-loop μ-loop
@@ -65,10 +57,7 @@ same-length c = c .before .loop .inv .same
 
 returns : tie.Need-returns Inv-loop μ-loop
 unfolding givenBack
-returns c =
-    let start = c .before .before .before in
-    renewed-all _ _ (c .before .loop .x) (c .before .loop .values)
-    (omega (arith, c .loop-test .left, names-are (start .pre .0), start .pre .1 .named)) (c .before .loop .inv)
+returns c = renewed-all _ _ (c .before .loop .x) (c .before .loop .values) (omega (arith, c .loop-test .left)) (c .before .loop .inv)
 
 pub clear-owned-spec : {M : Type 1} → statement M
 clear-owned-spec =
@@ -77,7 +66,7 @@ clear-owned-spec =
     Inv-loop
     μ-loop
     loop-holds
-    name-at-requires
+    is-session-requires
     mul-values
     slice-set-of-values
     add-x

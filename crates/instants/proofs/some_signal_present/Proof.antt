@@ -5,31 +5,26 @@ use native.Mathlib.Omega.{arith}
 use borrow.Author.Count.{below-none, below-more}
 use lib.ListN.{length}
 use Rattle.prelude.proofs.Searches.{NoneBelow, past, any-some, any-none}
-use Rattle.tree.specs.Tree.{namesOf}
-use Rattle.layout.proofs.Layouts.{names-are}
+use Rattle.program.specs.Program.{namesOf}
 use Rattle.instants.specs.Contracts.{isPresentSignal}
 use borrow.Author.Needs.{needs}
 use Rattle.instants.proofs.some_signal_present.Statement.{statement}
 use Rattle.instants.proofs.some_signal_present.Tie as tie
 
 abbrev Inv-loop : tie.InvT-loop
-Inv-loop s c values n x₀ x = (x ≤ n) × NoneBelow (isPresentSignal (namesOf s) values) x
+Inv-loop program values n x₀ x = (x ≤ n) × NoneBelow (isPresentSignal (namesOf program) values) x
 
 abbrev μ-loop : tie.MeasureT-loop
-μ-loop s c values n x₀ x = n - x
+μ-loop program values n x₀ x = n - x
 
 loop-holds : tie.Need-loop-holds Inv-loop μ-loop
 loop-holds c = (search needs, below-none _)
 
--- there is a value for each name
-inside : (c : tie.In-loop Inv-loop μ-loop) → c .before .loop .x < length (c .before .before .before .args .values .now)
-inside c = omega (arith, c .loop-test .taken, names-are (c .before .before .before .pre .0), c .before .before .before .pre .1 .named)
-
 is-present-signal-requires : tie.Need-is-present-signal-requires Inv-loop μ-loop
-is-present-signal-requires c κs = (c .before .before .before .pre .0, (c .before .before .before .pre .1, inside c))
+is-present-signal-requires c κs = search needs
 
 returns : tie.Need-returns Inv-loop μ-loop
-returns c = sym (any-some _ _ _ (inside (c .before .before)) (sym (c .before .is-present-signal .ensures) ∙ c .if1 .taken))
+returns c = sym (any-some _ _ _ (c .before .before .loop-test .taken) (sym (c .before .is-present-signal .ensures) ∙ c .if1 .taken))
 
 add-x : tie.Need-add-x Inv-loop μ-loop
 add-x c = search needs
@@ -45,7 +40,7 @@ loop-again c = (
 
 returns-2 : tie.Need-returns-2 Inv-loop μ-loop
 returns-2 c =
-    sym (any-none _ _ (past (omega (arith, c .loop-test .left, names-are (c .before .before .before .pre .0), c .before .before .before .pre .1 .named)) (c .before .loop .inv .1)))
+    sym (any-none _ _ (past (omega (arith, c .loop-test .left)) (c .before .loop .inv .1)))
 
 pub some-signal-present-spec : {M : Type 1} → statement M
 some-signal-present-spec =

@@ -2,10 +2,9 @@
 use mathlib.Core.Path.{_≡_, sym, ap, _∙_}
 use native.Mathlib.Omega.{arith}
 use Rattle.language.specs.Steps.{test}
-use Rattle.layout.specs.Entries.{partOf, node}
-use Rattle.tree.specs.Tree.{expressionOf}
+use Rattle.program.specs.Program.{kindAt, aAt, expressionOf}
 use Rattle.residual.proofs.Residuals.{some-bytes}
-use Rattle.moves.proofs.Movers.{known, few-expressions, then-moves, else-moves}
+use Rattle.moves.proofs.Movers.{known, then-moves, else-moves}
 use borrow.Author.Needs.{needs}
 use Rattle.moves.proofs.move_if.Statement.{statement}
 use Rattle.moves.proofs.move_if.Tie as tie
@@ -15,30 +14,28 @@ tested :
     (c : tie.After-test-holds) →
     let start = c .before .before .before in
     c .test-holds .result
-    ≡ test (expressionOf (start .args .s .now .now) (partOf (start .args .s .now .now) (node (start .args .s .now .now) (start .args .k)) .a)) (start .args .values .now)
+    ≡ test (expressionOf (start .args .program .now) (aAt (start .args .program .now) (start .args .k))) (start .args .values .now)
 tested c =
     let start = c .before .before .before in
-    c .test-holds .ensures ∙ ap (λ e. test (expressionOf (start .args .s .now .now) e) (start .args .values .now)) (c .before .a-at .ensures)
+    c .test-holds .ensures ∙ ap (λ e. test (expressionOf (start .args .program .now) e) (start .args .values .now)) (c .before .a-at .ensures)
 
 a-at-requires : tie.Need-a-at-requires
-a-at-requires c κs =
-    let start = c .before in
-    (start .pre .0 .checked, (start .pre .1 .0, (start .pre .1 .1 .0 .known, omega (arith, known (start .args .s .now .now) (start .pre .0 .checked) (start .args .k) (start .pre .1 .1 .0 .known) (start .pre .1 .1 .1 .0) .1 .known, few-expressions (start .pre .0 .checked)))))
+a-at-requires c κs = search needs
 
 test-holds-requires : tie.Need-test-holds-requires
 test-holds-requires c κs =
     let start = c .before .before in
-    (start .pre .0 .checked, (start .pre .1 .0, (start .pre .0 .named, omega (arith, c .a-at .ensures, known (start .args .s .now .now) (start .pre .0 .checked) (start .args .k) (start .pre .1 .1 .0 .known) (start .pre .1 .1 .1 .0) .1 .known))))
+    record { runnable = start .pre .valued .runnable; named = start .pre .valued .named; known = omega (arith, c .a-at .ensures, known (start .args .program .now) (start .pre .valued .runnable) (start .args .k) (start .pre .node .known) (start .pre .kind) .1) }
 
 slice-write-state : tie.Need-slice-write-state
 slice-write-state c =
     let start = c .before .before .before .before in
-    some-bytes (start .pre .1 .1 .0)
+    some-bytes (start .pre .node)
 
 slice-write-state-2 : tie.Need-slice-write-state-2
 slice-write-state-2 c =
     let start = c .before .before .before .before in
-    some-bytes (start .pre .1 .1 .0)
+    some-bytes (start .pre .node)
 
 same-length : tie.Need-same-length
 same-length c = search needs
@@ -46,8 +43,8 @@ same-length c = search needs
 returns : tie.Need-returns
 returns c =
     let start = c .before .before .before .before in
-    then-moves (start .args .s .now .now) (start .pre .0 .checked) (start .args .k) (start .pre .1 .1 .0 .known)
-    (start .args .state .now) (some-bytes (start .pre .1 .1 .0)) (start .pre .1 .1 .1 .1) (start .args .values .now) (start .pre .1 .1 .1 .0) (sym (tested (c .before)) ∙ c .if1 .taken)
+    then-moves (start .args .program .now) (start .pre .valued .runnable) (start .args .k) (start .pre .node .known)
+    (start .args .state .now) (some-bytes (start .pre .node)) (start .pre .clear) (start .args .values .now) (start .pre .kind) (sym (tested (c .before)) ∙ c .if1 .taken)
 
 same-length-2 : tie.Need-same-length-2
 same-length-2 c = search needs
@@ -55,8 +52,8 @@ same-length-2 c = search needs
 returns-2 : tie.Need-returns-2
 returns-2 c =
     let start = c .before .before .before .before in
-    else-moves (start .args .s .now .now) (start .pre .0 .checked) (start .args .k) (start .pre .1 .1 .0 .known)
-    (start .args .state .now) (some-bytes (start .pre .1 .1 .0)) (start .pre .1 .1 .1 .1) (start .args .values .now) (start .pre .1 .1 .1 .0) (sym (tested (c .before)) ∙ c .if1 .left)
+    else-moves (start .args .program .now) (start .pre .valued .runnable) (start .args .k) (start .pre .node .known)
+    (start .args .state .now) (some-bytes (start .pre .node)) (start .pre .clear) (start .args .values .now) (start .pre .kind) (sym (tested (c .before)) ∙ c .if1 .left)
 
 pub move-if-spec : {M : Type 1} → statement M
 move-if-spec =

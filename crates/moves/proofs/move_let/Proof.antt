@@ -3,47 +3,41 @@ use native.Mathlib.Omega.{arith}
 use mir.Syntax.{w32}
 use mir.Facts.{toZ-ofZ}
 use Rattle.residual.proofs.Residuals.{some-bytes}
-use Rattle.moves.proofs.Movers.{known, few-names, few-expressions, let-moves}
+use Rattle.moves.proofs.Movers.{known, let-moves}
 use borrow.Author.Needs.{fits-under}
 use borrow.Author.Needs.{needs}
 use Rattle.moves.proofs.move_let.Statement.{statement}
 use Rattle.moves.proofs.move_let.Tie as tie
 
 a-at-requires : tie.Need-a-at-requires
-a-at-requires c κs =
-    let start = c .before in
-    (start .pre .0 .checked, (start .pre .1 .0, (start .pre .1 .1 .0 .known, omega (arith, known (start .args .s .now .now) (start .pre .0 .checked) (start .args .k) (start .pre .1 .1 .0 .known) (start .pre .1 .1 .1 .0) .1 .0, few-names (start .pre .0 .checked)))))
+a-at-requires c κs = search needs
 
 b-at-requires : tie.Need-b-at-requires
-b-at-requires c κs =
-    let start = c .before .before .before in
-    (start .pre .0 .checked, (start .pre .1 .0, (start .pre .1 .1 .0 .known, omega (arith, known (start .args .s .now .now) (start .pre .0 .checked) (start .args .k) (start .pre .1 .1 .0 .known) (start .pre .1 .1 .1 .0) .1 .1 .known, few-expressions (start .pre .0 .checked)))))
+b-at-requires c κs = search needs
 
 value-of-requires : tie.Need-value-of-requires
 value-of-requires c κs =
     let start = c .before .before .before .before in
     record {
-      script = start .args .s .now .now;
-      checked = start .pre .0 .checked;
-      kept = start .pre .1 .0;
-      named = start .pre .0 .named;
-      known = omega (arith, c .b-at .ensures, known (start .args .s .now .now) (start .pre .0 .checked) (start .args .k) (start .pre .1 .1 .0 .known) (start .pre .1 .1 .1 .0) .1 .1 .known);
+      runnable = start .pre .valued .runnable;
+      named = start .pre .valued .named;
+      known = omega (arith, c .b-at .ensures, known (start .args .program .now) (start .pre .valued .runnable) (start .args .k) (start .pre .node .known) (start .pre .kind) .1 .1);
     }
 
 mul-v : tie.Need-mul-v
 mul-v c =
     let start = c .before .before .before .before .before in
-    fits-under _ _ 256 (omega (arith, c .before .before .before .a-at .ensures, known (start .args .s .now .now) (start .pre .0 .checked) (start .args .k) (start .pre .1 .1 .0 .known) (start .pre .1 .1 .1 .0) .1 .0, few-names (start .pre .0 .checked))) tt
+    fits-under _ _ 512 (omega (arith, c .before .before .before .a-at .ensures, known (start .args .program .now) (start .pre .valued .runnable) (start .args .k) (start .pre .node .known) (start .pre .kind) .1 .0, start .pre .valued .runnable .fewNames)) tt
 
 slice-set-from-v : tie.Need-slice-set-from-v
 slice-set-from-v c =
     let start = c .before .before .before .before .before in
-    omega (arith, c .before .before .before .a-at .ensures, known (start .args .s .now .now) (start .pre .0 .checked) (start .args .k) (start .pre .1 .1 .0 .known) (start .pre .1 .1 .1 .0) .1 .0, start .pre .0 .named)
+    omega (arith, c .before .before .before .a-at .ensures, known (start .args .program .now) (start .pre .valued .runnable) (start .args .k) (start .pre .node .known) (start .pre .kind) .1 .0, start .pre .valued .named)
 
 slice-write-state : tie.Need-slice-write-state
 slice-write-state c =
     let start = c .before .before .before .before .before in
-    some-bytes (start .pre .1 .1 .0)
+    some-bytes (start .pre .node)
 
 same-length : tie.Need-same-length
 same-length c = search needs
@@ -54,9 +48,9 @@ same-length-2 c = search needs
 returns : tie.Need-returns
 returns c =
     let start = c .before .before .before .before .before in
-    rw (toZ-ofZ {w = w32} (record { sfits = c .value-of .ok }), c .value-of .ensures (start .args .s .now .now) (start .pre .0 .checked) (start .pre .1 .0) (omega (arith, c .before .b-at .ensures, known (start .args .s .now .now) (start .pre .0 .checked) (start .args .k) (start .pre .1 .1 .0 .known) (start .pre .1 .1 .1 .0) .1 .1 .known)), c .before .b-at .ensures, c .before .before .before .a-at .ensures)
-    (let-moves (start .args .s .now .now) (start .pre .0 .checked) (start .args .k) (start .pre .1 .1 .0 .known)
-    (start .args .state .now) (some-bytes (start .pre .1 .1 .0)) (start .pre .1 .1 .1 .1) (start .args .values .now) (start .pre .1 .1 .1 .0))
+    rw (toZ-ofZ {w = w32} (record { sfits = c .value-of .ok }), c .value-of .ensures, c .before .b-at .ensures, c .before .before .before .a-at .ensures)
+    (let-moves (start .args .program .now) (start .pre .valued .runnable) (start .args .k) (start .pre .node .known)
+    (start .args .state .now) (some-bytes (start .pre .node)) (start .pre .clear) (start .args .values .now) (start .pre .kind))
 
 pub move-let-spec : {M : Type 1} → statement M
 move-let-spec =

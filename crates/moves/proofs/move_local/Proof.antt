@@ -1,31 +1,29 @@
 -- `move_local`: the signal is absent, and the node's byte says that it is in its body.
 use native.Mathlib.Omega.{arith}
 use Rattle.residual.proofs.Residuals.{some-bytes}
-use Rattle.moves.proofs.Movers.{known, few-names, local-moves}
+use Rattle.moves.proofs.Movers.{known, local-moves}
 use borrow.Author.Needs.{fits-under}
 use borrow.Author.Needs.{needs}
 use Rattle.moves.proofs.move_local.Statement.{statement}
 use Rattle.moves.proofs.move_local.Tie as tie
 
 a-at-requires : tie.Need-a-at-requires
-a-at-requires c κs =
-    let start = c .before in
-    (start .pre .0 .checked, (start .pre .1 .0, (start .pre .1 .1 .0 .known, omega (arith, known (start .args .s .now .now) (start .pre .0 .checked) (start .args .k) (start .pre .1 .1 .0 .known) (start .pre .1 .1 .1 .0) .1, few-names (start .pre .0 .checked)))))
+a-at-requires c κs = search needs
 
 mul-values : tie.Need-mul-values
 mul-values c =
     let start = c .before .before in
-    fits-under _ _ 256 (omega (arith, c .a-at .ensures, known (start .args .s .now .now) (start .pre .0 .checked) (start .args .k) (start .pre .1 .1 .0 .known) (start .pre .1 .1 .1 .0) .1, few-names (start .pre .0 .checked))) tt
+    fits-under _ _ 512 (omega (arith, c .a-at .ensures, known (start .args .program .now) (start .pre .valued .runnable) (start .args .k) (start .pre .node .known) (start .pre .kind) .1, start .pre .valued .runnable .fewNames)) tt
 
 slice-set-of-values : tie.Need-slice-set-of-values
 slice-set-of-values c =
     let start = c .before .before in
-    omega (arith, c .a-at .ensures, known (start .args .s .now .now) (start .pre .0 .checked) (start .args .k) (start .pre .1 .1 .0 .known) (start .pre .1 .1 .1 .0) .1, start .pre .0 .named)
+    omega (arith, c .a-at .ensures, known (start .args .program .now) (start .pre .valued .runnable) (start .args .k) (start .pre .node .known) (start .pre .kind) .1, start .pre .valued .named)
 
 slice-write-state : tie.Need-slice-write-state
 slice-write-state c =
     let start = c .before .before in
-    some-bytes (start .pre .1 .1 .0)
+    some-bytes (start .pre .node)
 
 same-length : tie.Need-same-length
 same-length c = search needs
@@ -36,8 +34,8 @@ same-length-2 c = search needs
 returns : tie.Need-returns
 returns c =
     let start = c .before .before in
-    rw (c .a-at .ensures) (local-moves (start .args .s .now .now) (start .pre .0 .checked) (start .args .k) (start .pre .1 .1 .0 .known)
-    (start .args .state .now) (some-bytes (start .pre .1 .1 .0)) (start .pre .1 .1 .1 .1) (start .args .values .now) (start .pre .1 .1 .1 .0))
+    rw (c .a-at .ensures) (local-moves (start .args .program .now) (start .pre .valued .runnable) (start .args .k) (start .pre .node .known)
+    (start .args .state .now) (some-bytes (start .pre .node)) (start .pre .clear) (start .args .values .now) (start .pre .kind))
 
 pub move-local-spec : {M : Type 1} → statement M
 move-local-spec =

@@ -1,31 +1,32 @@
 -- `move_silently`: by the kind.
-use mathlib.Core.Path.{sym, _∙_}
+use mathlib.Core.Path.{subst}
 use mathlib.Core.Logic.{⊎-elim}
 use borrow.Author.Needs.{needs}
+use Rattle.moves.specs.Contracts.{Unmoved}
 use Rattle.moves.proofs.move_silently.Statement.{statement}
 use Rattle.moves.proofs.move_silently.Tie as tie
 
 move-while-requires : tie.Need-move-while-requires
 move-while-requires c κs =
     let pre = c .before .before .before .before .pre .0 in
-    (pre .0, (pre .1 .0, (pre .1 .1 .0, (sym (pre .1 .1 .1 .0) ∙ c .before .before .if1 .taken, pre .1 .1 .1 .1))))
+    subst (Unmoved _ _ _ _) (c .before .before .if1 .taken) pre
 
 move-if-requires : tie.Need-move-if-requires
 move-if-requires c κs =
     let pre = c .before .before .before .before .before .pre .0 in
-    (pre .0, (pre .1 .0, (pre .1 .1 .0, (sym (pre .1 .1 .1 .0) ∙ c .before .before .if2 .taken, pre .1 .1 .1 .1))))
+    subst (Unmoved _ _ _ _) (c .before .before .if2 .taken) pre
 
 move-let-requires : tie.Need-move-let-requires
 move-let-requires c κs =
     let pre = c .before .before .before .before .before .before .pre .0 in
-    (pre .0, (pre .1 .0, (pre .1 .1 .0, (sym (pre .1 .1 .1 .0) ∙ c .before .before .if3 .taken, pre .1 .1 .1 .1))))
+    subst (Unmoved _ _ _ _) (c .before .before .if3 .taken) pre
 
 move-local-requires : tie.Need-move-local-requires
 move-local-requires c κs =
     let start = c .before .before .before .before .before .before in
     let pre = start .pre .0 in
     let last = ⊎-elim (λ e. absurd (c .before .before .if3 .left e)) (⊎-elim (λ e. absurd (c .before .before .before .if2 .left e)) (⊎-elim (λ e. absurd (c .before .before .before .before .if1 .left e)) (λ e. e))) (start .pre .1) in
-    (pre .0, (pre .1 .0, (pre .1 .1 .0, (sym (pre .1 .1 .1 .0) ∙ last, pre .1 .1 .1 .1))))
+    subst (Unmoved _ _ _ _) last pre
 
 same-length : tie.Need-same-length
 same-length c = search needs

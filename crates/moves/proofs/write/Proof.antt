@@ -8,7 +8,7 @@ use lib.ListN.{length}
 use denote.Ref.{now}
 use borrow.Author.Tests.{not-true, not-false}
 use mir.Facts.{toZ-ofZ}
-use Rattle.tree.specs.Tree.{processOf}
+use Rattle.program.specs.Program.{processOf}
 use Rattle.moves.specs.Contracts.{seenIn, lineOf, runningAt, Notes, Advances}
 use Rattle.moves.specs.Moves.{isFull}
 use Rattle.residual.proofs.Residuals.{nil-at-four, some-bytes, own-set-at}
@@ -19,7 +19,7 @@ use Rattle.moves.proofs.write.Tie as tie
 
 -- the lines counted so far have room
 lines-within : (c : tie.Start) → c .args .at .lines ≤ length (now (c .args .log)) / 4
-lines-within c = omega (arith, c .pre .1 .1 .0 .space)
+lines-within c = omega (arith, c .pre .counted .space)
 
 note-requires : tie.Need-note-requires
 note-requires c κs = search needs
@@ -55,13 +55,14 @@ same-length c = search needs
 returns : tie.Need-returns
 returns c =
     let start = c .before .before .before .before .before .before .before .before in
-    let at = runningAt (now (now (start .args .s))) (start .args .k) (now (start .args .state)) (now (start .args .values)) (now (start .args .log)) (start .args .at .steps) (start .args .limits .instant) (start .args .at .lines) in (
-      subst
+    let at = runningAt (now (start .args .program)) (start .args .k) (now (start .args .state)) (now (start .args .values)) (now (start .args .log)) (start .args .at .steps) (start .args .limits .instant) (start .args .at .lines) in
+    record {
+      made = subst
           (λ log. Advances (seenIn (now (start .args .seen))) (start .args .limits .steps) (length (now (start .args .log)) / 4) at (logged at log) isFull)
           (sym (noted (c .before .before .before .before) .full (not-true _ (c .if1 .taken))))
-          (no-room at (start .pre .1 .0) (start .pre .1 .1 .1 .0) (lines-within start) (sym (noted (c .before .before .before .before) .fits) ∙ not-true _ (c .if1 .taken))),
-      omega arith,
-    )
+          (no-room at (start .pre .writes) (start .pre .time) (lines-within start) (sym (noted (c .before .before .before .before) .fits) ∙ not-true _ (c .if1 .taken)));
+      some = λ _. omega arith;
+    }
 
 mul-value : tie.Need-mul-value
 mul-value c = search needs
@@ -70,7 +71,7 @@ slice-set-from-value : tie.Need-slice-set-from-value
 slice-set-from-value c = search needs
 
 slice-write-state : tie.Need-slice-write-state
-slice-write-state c = some-bytes (c .before .before .before .before .before .before .before .before .pre .0)
+slice-write-state c = some-bytes (c .before .before .before .before .before .before .before .before .pre .node)
 
 add-t15 : tie.Need-add-t15
 add-t15 c = search needs
@@ -87,16 +88,17 @@ same-length-4 c = search needs
 returns-2 : tie.Need-returns-2
 returns-2 c =
     let start = c .before .before .before .before .before .before .before .before .before in
-    let at = runningAt (now (now (start .args .s))) (start .args .k) (now (start .args .state)) (now (start .args .values)) (now (start .args .log)) (start .args .at .steps) (start .args .limits .instant) (start .args .at .lines) in
-    let fits = noted (c .before .before .before .before .before) .fits in (
-      rw (toZ-ofZ (start .fits .value))
-          (writes-line at (start .pre .1 .0) (start .pre .1 .1 .1 .0) (lines-within start) (sym fits ∙ not-false _ (c .before .if1 .left))
-          (nil-at-four (processOf (now (now (start .args .s))) (start .args .k)) _ (own-set-at (now (start .args .state)) (some-bytes (start .pre .0)) 4))
+    let at = runningAt (now (start .args .program)) (start .args .k) (now (start .args .state)) (now (start .args .values)) (now (start .args .log)) (start .args .at .steps) (start .args .limits .instant) (start .args .at .lines) in
+    let fits = noted (c .before .before .before .before .before) .fits in
+    record {
+      made = rw (toZ-ofZ (start .fits .value))
+          (writes-line at (start .pre .writes) (start .pre .time) (lines-within start) (sym fits ∙ not-false _ (c .before .if1 .left))
+          (nil-at-four (processOf (now (start .args .program)) (start .args .k)) _ (own-set-at (now (start .args .state)) (some-bytes (start .pre .node)) 4))
           (noted (c .before .before .before .before .before) .written (not-false _ (c .before .if1 .left)))
           (add-one (start .args .at .steps))
-          (noted (c .before .before .before .before .before) .lines (not-false _ (c .before .if1 .left)))),
-      omega arith,
-    )
+          (noted (c .before .before .before .before .before) .lines (not-false _ (c .before .if1 .left))));
+      some = λ _. omega arith;
+    }
 
 pub write-spec : {M : Type 1} → statement M
 write-spec =

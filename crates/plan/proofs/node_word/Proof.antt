@@ -1,17 +1,18 @@
 -- `node_word`: the entry, its children, the size of the first and the mark, packed.
 use mathlib.Core.Path.{_≡_, sym, ap, _∙_, subst}
+use mathlib.Core.Bool.{cond}
 use Prim.Native.Nat.{_<_}
 use native.Mathlib.Omega.{arith}
+use lib.Dec.{leb}
 use Rattle.layout.specs.declared.entries.Part.{Part}
 use Rattle.layout.specs.Layout.{mostNodes, nodeCount}
 use Rattle.layout.specs.Entries.{partOf, node}
 use Rattle.fields.specs.Fields.{firstChild, secondChild}
-use Rattle.tree.specs.Tree.{processOf, size}
+use Rattle.language.specs.Shapes.{size, watches}
+use Rattle.tree.specs.Tree.{processOf}
 use Rattle.layout.proofs.Layouts.{few-bounds, nodes-are}
 use Rattle.tree.proofs.NodeSizes.{size-within}
-use Rattle.plan.specs.Plan.{watches}
-use Rattle.plan.proofs.Reading.{node-read}
-use Rattle.plan.proofs.Fronts.{kind-known}
+use Rattle.plan.proofs.Reading.{node-read, kind-known}
 use Rattle.plan.proofs.Watching.{watches-told}
 use Rattle.packing.proofs.Words.{mark-fits}
 use Rattle.plan.proofs.Plans.{forms-fit, planned}
@@ -27,6 +28,9 @@ part-at-requires c κs = search needs
 
 children-of-requires : tie.Need-children-of-requires
 children-of-requires c κs = search needs
+
+field-b-requires : tie.Need-field-b-requires
+field-b-requires c κs = search needs
 
 mul-wide : tie.Need-mul-wide
 mul-wide c = search needs
@@ -56,48 +60,57 @@ kind c =
 few : (c : tie.Start) → c .args .k < mostNodes
 few c = omega (arith, c .pre .1 .1 .1 .1, few-bounds (c .args .c) (c .pre .0 .few) .1 .1 .1)
 
+-- field b, by the entry that was read
+field-is :
+    (c : tie.After-field-b) →
+    let start = c .before .before .before .before .before .before in
+    let p = partOf (start .args .s .now) (node (start .args .s .now) (start .args .k)) in
+    c .field-b .result ≡ cond (leb (p .kind) 2) (p .b) (secondChild p)
+field-is c =
+    rw (c .field-b .ensures, c .before .before .children-of .ensures .1, read (c .before .before .before))
+
 has-watching-requires : tie.Need-has-watching-requires
-has-watching-requires c κs = few (c .before .before .before .before .before .before .before .before)
+has-watching-requires c κs = few (c .before .before .before .before .before .before .before .before .before)
 
 mark-requires : tie.Need-mark-requires
-mark-requires c κs = omega (arith, kind (c .before .before .before .before .before .before))
+mark-requires c κs = omega (arith, kind (c .before .before .before .before .before .before .before))
 
 forms-of-requires : tie.Need-forms-of-requires
-forms-of-requires c κs = kind (c .before .before .before .before .before .before .before)
+forms-of-requires c κs = kind (c .before .before .before .before .before .before .before .before)
 
 pack-requires : tie.Need-pack-requires
 pack-requires c κs = (
-  rw (c .forms-of .ensures) (forms-fit _ (kind (c .before .before .before .before .before .before .before .before))),
+  rw (c .forms-of .ensures) (forms-fit _ (kind (c .before .before .before .before .before .before .before .before .before))),
   (
     omega (arith, c .before .before .before .pack-fields .ensures),
-    rw (c .before .mark .ensures) (mark-fits _ (omega (arith, kind (c .before .before .before .before .before .before .before .before))) (c .before .before .has-watching .result)),
+    rw (c .before .mark .ensures) (mark-fits _ (omega (arith, kind (c .before .before .before .before .before .before .before .before .before))) (c .before .before .has-watching .result)),
   ),
 )
 
 -- the mark, by the words of the nodes before
 marks :
     (c : tie.After-has-watching) →
-    let start = c .before .before .before .before .before .before .before .before .before in c .has-watching .result ≡ watches (processOf (start .args .s .now) (start .args .k))
+    let start = c .before .before .before .before .before .before .before .before .before .before in c .has-watching .result ≡ watches (processOf (start .args .s .now) (start .args .k))
 marks c =
-    let start = c .before .before .before .before .before .before .before .before .before in
-    let parts = c .before .before .before .before .before .children-of .ensures in
-    rw (c .has-watching .ensures, parts .0, parts .1, read (c .before .before .before .before .before .before))
+    let start = c .before .before .before .before .before .before .before .before .before .before in
+    let parts = c .before .before .before .before .before .before .children-of .ensures in
+    rw (c .has-watching .ensures, parts .0, parts .1, read (c .before .before .before .before .before .before .before))
     (watches-told (start .args .s .now) (start .pre .1 .0) (start .args .k)
     (omega (arith, start .pre .1 .1 .1 .1, nodes-are (start .pre .0)))
-    (start .args .plan .now) (start .pre .1 .1 .1 .0))
+    (start .args .words .now) (start .pre .1 .1 .1 .0))
 
 returns : tie.Need-returns
 returns c =
-    let start = c .before .before .before .before .before .before .before .before .before .before .before .before in
+    let start = c .before .before .before .before .before .before .before .before .before .before .before .before .before in
     let s = start .args .s .now in
     let k = start .args .k in
     let ok = start .pre .1 .0 in
     let known : k < nodeCount s = omega (arith, start .pre .1 .1 .1 .1, nodes-are (start .pre .0)) in
-    let parts = c .before .before .before .before .before .before .before .before .children-of .ensures in
-    let read-first = ap firstChild (read (c .before .before .before .before .before .before .before .before .before)) in
-    rw (c .pack .ensures, c .before .forms-of .ensures, c .before .before .mark .ensures, c .before .before .before .before .pack-fields .ensures, read (c .before .before .before .before .before .before .before .before .before))
+    let parts = c .before .before .before .before .before .before .before .before .before .children-of .ensures in
+    let read-first = ap firstChild (read (c .before .before .before .before .before .before .before .before .before .before)) in
+    rw (c .pack .ensures, c .before .forms-of .ensures, c .before .before .mark .ensures, c .before .before .before .before .pack-fields .ensures, read (c .before .before .before .before .before .before .before .before .before .before))
     (planned s k (kind-known s ok k known) (omega (arith, few start)) _ _ _ _
-    (omega (arith, parts .0, read-first)) (parts .1 ∙ ap secondChild (read (c .before .before .before .before .before .before .before .before .before)))
+    (omega (arith, parts .0, read-first)) (field-is (c .before .before .before .before .before .before .before))
     (λ h.
     let e =
     c .before .before .before .before .before .wide .ensures ∙ start .pre .1 .1 .0 _ (omega (arith, h, start .pre .1 .1 .1 .1, few start, parts .0, read-first))
@@ -112,6 +125,7 @@ node-word-spec =
     add-part-at
     part-at-requires
     children-of-requires
+    field-b-requires
     mul-wide
     element-copy-out-wide
     wide-requires

@@ -7,9 +7,9 @@ use lib.ListN.{length}
 use borrow.Author.Tests.{not-true, not-false}
 use Rattle.language.specs.Steps.{present, suspended}
 use Rattle.residual.specs.Residual.{own}
-use Rattle.plan.specs.declared.forms.Front.{Front}
-use Rattle.plan.specs.Forms.{mover, guarded, frontOf, partIn}
-use Rattle.plan.proofs.Fronts.{front-form}
+use Rattle.program.specs.declared.forms.Front.{Front}
+use Rattle.program.specs.Forms.{mover, guarded, frontOf, partIn}
+use Rattle.program.proofs.Fronts.{front-form}
 use Rattle.residual.specs.Nodes.{left}
 use Rattle.instants.specs.Contracts.{RearWaits}
 use Rattle.residual.proofs.Sights.{signalAt}
@@ -24,38 +24,38 @@ use Rattle.instants.proofs.suspension.+is_suspended+rear_waits.Lts-is_s
 use Rattle.instants.proofs.suspension.rear_waits.Reads as rear-waits
 use Rattle.instants.proofs.suspension.rear_waits.Kinds as rear-waits-kinds
 use Rattle.instants.proofs.suspension.+is_suspended+rear_waits.Lts-rear_waits as rear-waits-lts
-use Rattle.plan.proofs.forms.form_at.Reads as form-at-reads
-use Rattle.plan.proofs.forms.find_front.Reads as find-front-reads
-use Rattle.plan.proofs.forms.find_rear.Reads as find-rear-reads
+use Rattle.program.proofs.forms.form_at.Reads as form-at-reads
+use Rattle.program.proofs.forms.find_front.Reads as find-front-reads
+use Rattle.program.proofs.forms.find_rear.Reads as find-rear-reads
 use Rattle.evaluation.proofs.signal_is_present.Reads as signal-is-present-reads
 use Rattle.instants.proofs.suspension.+is_suspended+rear_waits.{statement}
 use Rattle.instants.proofs.suspension.+is_suspended+rear_waits.Tie.{close}
 
-abbrev μ-is-suspended : Measures 5 is-suspended-kinds.ps ℕ
-μ-is-suspended κs a = 2 * a .1 .1 .1 .1 .0 + 1
+abbrev μ-is-suspended : Measures 3 is-suspended-kinds.ps ℕ
+μ-is-suspended κs a = 2 * a .1 .1 .1 .0 + 1
 
-abbrev μ-rear-waits : Measures 5 rear-waits-kinds.ps ℕ
-μ-rear-waits κs a = 2 * a .1 .1 .1 .1 .0
+abbrev μ-rear-waits : Measures 3 rear-waits-kinds.ps ℕ
+μ-rear-waits κs a = 2 * a .1 .1 .1 .0
 
-abbrev is-suspended-at : ℕ → In 5 is-suspended-kinds.ps
+abbrev is-suspended-at : ℕ → In 3 is-suspended-kinds.ps
 is-suspended-at t =
-    and 5 is-suspended-kinds.ps (is 5 is-suspended-kinds.ps μ-is-suspended t) is-suspended.Pre
+    and 3 is-suspended-kinds.ps (is 3 is-suspended-kinds.ps μ-is-suspended t) is-suspended.Pre
 
-abbrev is-suspended-below : ℕ → In 5 is-suspended-kinds.ps
+abbrev is-suspended-below : ℕ → In 3 is-suspended-kinds.ps
 is-suspended-below t =
     and
-    5
+    3
     is-suspended-kinds.ps
-    (falls 5 is-suspended-kinds.ps _<_ μ-is-suspended t)
+    (falls 3 is-suspended-kinds.ps _<_ μ-is-suspended t)
     is-suspended.Pre
 
-abbrev rear-waits-at : ℕ → In 5 rear-waits-kinds.ps
+abbrev rear-waits-at : ℕ → In 3 rear-waits-kinds.ps
 rear-waits-at t =
-    and 5 rear-waits-kinds.ps (is 5 rear-waits-kinds.ps μ-rear-waits t) rear-waits.Pre
+    and 3 rear-waits-kinds.ps (is 3 rear-waits-kinds.ps μ-rear-waits t) rear-waits.Pre
 
-abbrev rear-waits-below : ℕ → In 5 rear-waits-kinds.ps
+abbrev rear-waits-below : ℕ → In 3 rear-waits-kinds.ps
 rear-waits-below t =
-    and 5 rear-waits-kinds.ps (falls 5 rear-waits-kinds.ps _<_ μ-rear-waits t) rear-waits.Pre
+    and 3 rear-waits-kinds.ps (falls 3 rear-waits-kinds.ps _<_ μ-rear-waits t) rear-waits.Pre
 
 abbrev R : ℕ → is-suspended-lts.Claims
 R t = (
@@ -78,26 +78,26 @@ Q t = (find-rear-reads.Asked, find-rear-reads.Learnt, is-suspended-below t, is-s
 found :
     (t : ℕ) (c : is-suspended-lts.Start (R t) (is-suspended-at t) is-suspended.Post) →
     let args = c .args in
-    Found (args .s .now .now) (args .values .now) (args .k) (args .state .now) (frontOf (args .s .now .now) (args .k) (own (args .state .now)) (length (args .state .now)))
-found t c = record { valued = c .pre .1 .0; at = c .pre .1 .1 .1; front = refl }
+    Found (args .program .now) (args .values .now) (args .k) (args .state .now) (frontOf (args .program .now) (args .k) (own (args .state .now)) (length (args .state .now)))
+found t c = record { valued = c .pre .1 .valued; at = c .pre .1 .node; front = refl }
 
 form-is :
     (t : ℕ) (c : is-suspended-lts.After-form-at (R t) (is-suspended-at t) is-suspended.Post) →
     let start = c .before .before .before in
     let args = start .args in
-    c .form-at .result ≡ (frontOf (args .s .now .now) (args .k) (own (args .state .now)) (length (args .state .now))) .form
+    c .form-at .result ≡ (frontOf (args .program .now) (args .k) (own (args .state .now)) (length (args .state .now))) .form
 form-is t c =
     let start = c .before .before .before in
     let args = start .args in
-    c .form-at .ensures ∙ sym (front-form (args .s .now .now) (args .k) (own (args .state .now)) (length (args .state .now)))
+    c .form-at .ensures ∙ sym (front-form (args .program .now) (args .k) (own (args .state .now)) (length (args .state .now)))
 
 -- a when around its part is open
 shown :
     (t : ℕ) (c : is-suspended-lts.Joined2 (R t) (is-suspended-at t) is-suspended.Post) →
     let start = c .before .before .before .before .before in
     let args = start .args in
-    (frontOf (args .s .now .now) (args .k) (own (args .state .now)) (length (args .state .now))) .form ≡ guarded →
-    present (args .values .now) (signalAt (args .s .now .now) (args .k)) ≡ true
+    (frontOf (args .program .now) (args .k) (own (args .state .now)) (length (args .state .now))) .form ≡ guarded →
+    present (args .values .now) (signalAt (args .program .now) (args .k)) ≡ true
 shown t c e =
     ⊎-elim (λ w. sym (w .1 .ensures) ∙ not-false _ (w .2 .left)) (λ w. absurd (w .left (form-is t (c .before .before) ∙ e))) (c .if2 .came)
 
@@ -105,14 +105,14 @@ some-part :
     (t : ℕ) (c : is-suspended-lts.Else1 (R t) (is-suspended-at t) is-suspended.Post) →
     let start = c .before .before .before .before in
     let args = start .args in
-    mover < (frontOf (args .s .now .now) (args .k) (own (args .state .now)) (length (args .state .now))) .form
+    mover < (frontOf (args .program .now) (args .k) (own (args .state .now)) (length (args .state .now))) .form
 some-part t c = subst (λ n. mover < n) (form-is t (c .before)) (c .if1 .left)
 
 part :
     (t : ℕ) (c : is-suspended-lts.After-find-front (R t) (is-suspended-at t) is-suspended.Post) →
     let start = c .before .before .before .before .before .before .before .before in
     let args = start .args in
-    Part (args .s .now .now) (args .k) (args .state .now) (c .find-front .result)
+    Part (args .program .now) (args .k) (args .state .now) (c .find-front .result)
 part t c =
     let start = c .before .before .before .before .before .before .before .before in
     rw (c .find-front .ensures) (front-part (found t start) (some-part t (c .before .before .before .before)))
@@ -120,13 +120,13 @@ part t c =
 is-suspended-shared-slice-read-tag : (t : ℕ) → is-suspended-lts.Need-shared-slice-read-tag (R t) (is-suspended-at t) is-suspended.Post
 is-suspended-shared-slice-read-tag t c =
     let start = c .before .before in
-    some-bytes (start .pre .1 .1 .1)
+    some-bytes (start .pre .1 .node)
 
 is-suspended-form-at-requires : (t : ℕ) → is-suspended-lts.Need-form-at-requires (R t) (is-suspended-at t) is-suspended.Post
 is-suspended-form-at-requires t c κs =
     let start = c .before .before in
     let pre = start .pre .1 in
-    (pre .0 .checked, (pre .1 .0, pre .1 .1 .known))
+    (pre .valued .runnable, pre .node .known)
 
 is-suspended-returns : (t : ℕ) → is-suspended-lts.Need-returns (R t) (is-suspended-at t) is-suspended.Post
 is-suspended-returns t c =
@@ -139,7 +139,7 @@ is-suspended-signal-is-present-requires t c κs =
     let pre = start .pre .1 in
     let e = form-is t (c .before .before) in
     let known = signal-known (found t start) (omega (arith, e, c .if2 .taken)) (omega (arith, e, c .if2 .taken)) in
-    (pre .0 .checked, (pre .1 .0, (pre .1 .1 .known, (pre .0 .named, known))))
+    (omega (arith, pre .node .known, pre .valued .runnable .fewNodes), known)
 
 is-suspended-returns-2 : (t : ℕ) → is-suspended-lts.Need-returns-2 (R t) (is-suspended-at t) is-suspended.Post
 is-suspended-returns-2 t c =
@@ -150,7 +150,7 @@ is-suspended-returns-2 t c =
 is-suspended-rear-waits-requires : (t : ℕ) → is-suspended-lts.Need-rear-waits-requires (R t) (is-suspended-at t) is-suspended.Post
 is-suspended-rear-waits-requires t c κs =
     let start = c .before .before .before .before .before in
-    (omega (arith, start .pre .0), (start .pre .1, form-is t (c .before .before)))
+    (omega (arith, start .pre .0), record { valued = start .pre .1 .valued; node = start .pre .1 .node; form = form-is t (c .before .before) })
 
 is-suspended-returns-3 : (t : ℕ) → is-suspended-lts.Need-returns-3 (R t) (is-suspended-at t) is-suspended.Post
 is-suspended-returns-3 t c =
@@ -158,14 +158,14 @@ is-suspended-returns-3 t c =
     let args = start .args in
     sym
     (awake-rear (found t start) (some-part t (c .before .before .before)) (shown t (c .before .before))
-    (subst (λ n. RearWaits (args .s .now .now) (args .k) (args .state .now) (args .values .now) n false) (form-is t (c .before .before .before .before))
-    (subst (RearWaits (args .s .now .now) (args .k) (args .state .now) (args .values .now) (c .before .before .before .before .form-at .result)) (not-true _ (c .if4 .taken)) (c .before .rear-waits .ensures))))
+    (subst (λ n. RearWaits (args .program .now) (args .k) (args .state .now) (args .values .now) n false) (form-is t (c .before .before .before .before))
+    (subst (RearWaits (args .program .now) (args .k) (args .state .now) (args .values .now) (c .before .before .before .before .form-at .result)) (not-true _ (c .if4 .taken)) (c .before .rear-waits .ensures))))
 
 is-suspended-find-front-requires : (t : ℕ) → is-suspended-lts.Need-find-front-requires (R t) (is-suspended-at t) is-suspended.Post
 is-suspended-find-front-requires t c κs =
     let start = c .before .before .before .before .before .before .before in
     let pre = start .pre .1 in
-    (pre .0 .checked, (pre .1 .0, pre .1 .1 .known))
+    (pre .valued .runnable, pre .node .known)
 
 is-suspended-sub-is-suspended : (t : ℕ) → is-suspended-lts.Need-sub-is-suspended (R t) (is-suspended-at t) is-suspended.Post
 is-suspended-sub-is-suspended t c = part t c .order
@@ -180,32 +180,32 @@ is-suspended-is-suspended-requires : (t : ℕ) → is-suspended-lts.Need-is-susp
 is-suspended-is-suspended-requires t c κs =
     let start = c .before .before .before .before .before .before .before .before .before in
     let p = part t (c .before) in
-    (omega (arith, start .pre .0, p .earlier), (start .pre .1 .0, (start .pre .1 .1 .0, p .at)))
+    (omega (arith, start .pre .0, p .earlier), record { valued = start .pre .1 .valued; node = p .at })
 
 is-suspended-returns-4 : (t : ℕ) → is-suspended-lts.Need-returns-4 (R t) (is-suspended-at t) is-suspended.Post
 is-suspended-returns-4 t c =
     let start = c .before .before .before .before .before .before .before .before .before .before in
     let args = start .args in
     c .is-suspended .ensures
-    ∙ ap (λ (f : Front). suspended (left (args .s .now .now) (f .child) (partIn f (args .state .now))) (args .values .now)) (c .before .before .find-front .ensures)
+    ∙ ap (λ (f : Front). suspended (left (args .program .now) (f .child) (partIn f (args .state .now))) (args .values .now)) (c .before .before .find-front .ensures)
     ∙ waiting-rear (found t start) (some-part t (c .before .before .before .before .before .before)) (shown t (c .before .before .before .before .before))
-    (subst (λ n. RearWaits (args .s .now .now) (args .k) (args .state .now) (args .values .now) n true) (form-is t (c .before .before .before .before .before .before .before))
-    (subst (RearWaits (args .s .now .now) (args .k) (args .state .now) (args .values .now) (c .before .before .before .before .before .before .before .form-at .result)) (not-false _ (c .before .before .before .if4 .left)) (c .before .before .before .before .rear-waits .ensures)))
+    (subst (λ n. RearWaits (args .program .now) (args .k) (args .state .now) (args .values .now) n true) (form-is t (c .before .before .before .before .before .before .before))
+    (subst (RearWaits (args .program .now) (args .k) (args .state .now) (args .values .now) (c .before .before .before .before .before .before .before .form-at .result)) (not-false _ (c .before .before .before .if4 .left)) (c .before .before .before .before .rear-waits .ensures)))
 
 -- the node is a parallel
 rear :
     (t : ℕ) (c : rear-waits-lts.Else1 (Q t) (rear-waits-at t) rear-waits.Post) →
     let args = c .before .before .args in
-    Rear (args .s .now .now) (args .k) (args .state .now)
-    (frontOf (args .s .now .now) (args .k) (own (args .state .now)) (length (args .state .now)))
+    Rear (args .program .now) (args .k) (args .state .now)
+    (frontOf (args .program .now) (args .k) (own (args .state .now)) (length (args .state .now)))
 rear t c =
     let pre = c .before .before .pre .1 in
-    rear-part (record { valued = pre .0 .0; at = pre .0 .1 .1; front = refl }) (omega (arith, pre .1, c .if1 .left))
+    rear-part (record { valued = pre .valued; at = pre .node; front = refl }) (omega (arith, pre .form, c .if1 .left))
 
 behind :
     (t : ℕ) (c : rear-waits-lts.After-find-rear (Q t) (rear-waits-at t) rear-waits.Post) →
     let args = c .before .before .before .before .args in
-    Part (args .s .now .now) (args .k) (args .state .now) (c .find-rear .result)
+    Part (args .program .now) (args .k) (args .state .now) (c .find-rear .result)
 behind t c = rw (c .find-rear .ensures) (rear t (c .before .before) .part)
 
 rear-waits-returns : (t : ℕ) → rear-waits-lts.Need-returns (Q t) (rear-waits-at t) rear-waits.Post
@@ -213,14 +213,14 @@ rear-waits-returns t c = record { none = λ h. refl; other = λ h. absurd (omega
 
 rear-waits-shared-slice-read-tag :
     (t : ℕ) → rear-waits-lts.Need-shared-slice-read-tag (Q t) (rear-waits-at t) rear-waits.Post
-rear-waits-shared-slice-read-tag t c = some-bytes (c .before .before .before .pre .1 .0 .1 .1)
+rear-waits-shared-slice-read-tag t c = some-bytes (c .before .before .before .pre .1 .node)
 
 rear-waits-find-rear-requires :
     (t : ℕ) → rear-waits-lts.Need-find-rear-requires (Q t) (rear-waits-at t) rear-waits.Post
 rear-waits-find-rear-requires t c κs =
     let start = c .before .before .before in
-    let pre = start .pre .1 .0 in
-    ((pre .0 .checked, (pre .1 .0, pre .1 .1 .known)), (start .pre .1 .1, c .before .if1 .left))
+    let pre = start .pre .1 in
+    ((pre .valued .runnable, pre .node .known), (pre .form, c .before .if1 .left))
 
 rear-waits-sub-is-suspended : (t : ℕ) → rear-waits-lts.Need-sub-is-suspended (Q t) (rear-waits-at t) rear-waits.Post
 rear-waits-sub-is-suspended t c = behind t c .order
@@ -238,7 +238,7 @@ rear-waits-is-suspended-requires :
 rear-waits-is-suspended-requires t c κs =
     let pre = c .before .before .before .before .before .pre in
     let part = behind t (c .before) in
-    (omega (arith, pre .0, part .earlier), (pre .1 .0 .0, (pre .1 .0 .1 .0, part .at)))
+    (omega (arith, pre .0, part .earlier), record { valued = pre .1 .valued; node = part .at })
 
 rear-waits-returns-2 : (t : ℕ) → rear-waits-lts.Need-returns-2 (Q t) (rear-waits-at t) rear-waits.Post
 rear-waits-returns-2 t c =
@@ -251,7 +251,7 @@ rear-waits-returns-2 t c =
       other =
           λ h.
           c .is-suspended .ensures
-          ∙ ap (λ f. suspended (left (args .s .now .now) (f .child) (partIn f (args .state .now))) (args .values .now)) rear;
+          ∙ ap (λ f. suspended (left (args .program .now) (f .child) (partIn f (args .state .now))) (args .values .now)) rear;
     }
 
 pub +is-suspended+rear-waits-spec : {M : Type 1} → statement M

@@ -1,0 +1,344 @@
+-- The words that are packed for a checked file are its program: they mean what the file means, and they can be run.
+-- Assumes nothing.
+use mathlib.Core.Path.{_≡_, refl, sym, ap, ap₂, _∙_, subst}
+use mathlib.Core.Bool.{true}
+use mathlib.Core.List.{List, [], _∷_, _++_}
+use Prim.Native.Nat.{ℕ, zero, suc, _-_, _≤_, _<_}
+use native.Mathlib.Omega.{arith}
+use lib.Dec.{eqb}
+use lib.ListN.{getD}
+use mir.Syntax.{w32}
+use mir.Val.{toZ}
+use Rattle.prelude.specs.Course.{course, entry}
+use Rattle.language.specs.Syntax.{Operator, add, subtract, multiply, divide, less, equal, Exp, constant, register, binary, negated, Proc, nil, assign, letIn, ifThenElse, while, sequence, emit, local, watching, when, parallel}
+use Rattle.language.specs.Shapes.{size, watches, leavesAlone}
+use Rattle.layout.specs.declared.entries.Part.{Part}
+use Rattle.layout.specs.Layout.{layoutOf, nameCount, expressionCount, nodeCount}
+use Rattle.layout.specs.Entries.{nameOf, partOf, node}
+use Rattle.layout.proofs.Layouts.{few-bounds}
+use Rattle.fields.specs.Fields.{firstChild, secondChild}
+use Rattle.reach.specs.Checked.{Checked}
+use Rattle.tree.specs.Tree.{expressionsFrom, noExpression, expressionOf, processesFrom, processOf}
+use Rattle.tree.proofs.Views.{code, ExpressionView, aConstant, aRegister, aBinary, aNegated, expression-view, UsesName, NodeView, aNil, anAssign, aLet, anIf, aWhile, aSequence, anEmit, aLocal, aWatching, aWhen, aParallel, node-view}
+use Rattle.tree.proofs.NodeSizes.{size-within, whole-size}
+use Rattle.packing.specs.Packing.{kindIn, operandIn, laterIn, aIn, bIn, firstIn, nodeKindIn, levelIn, signalIn}
+use Rattle.program.specs.Program as program
+use Rattle.program.specs.Program.{nameWord, expressionWord, nodeWord}
+use Rattle.program.specs.Runnable.{Holds, Leads, rowOf, FirstPart, ExpressionRuns, NodeRuns, Runnable}
+use Rattle.plan.specs.Plan.{Named, Spelled, Planned, KeepsNames, KeepsExpressions, KeepsNodes, ProgramOf}
+use Rattle.plan.proofs.Scopes.{alone-below}
+
+-- what is made alike of what went before is the same
+module _ {A : Type 0} (f g : ℕ → List A → A) where
+  course-same : (n : ℕ) → ((m : ℕ) → m < n → (l : List A) → f m l ≡ g m l) → course f n ≡ course g n
+  unfolding course
+  course-same zero h = refl
+  course-same (suc n) h =
+      let e = course-same n (λ m l. h m (omega arith)) in
+      ap₂ (λ xs x. xs ++ (x ∷ [])) e (ap (f n) e ∙ h n (omega arith) (course g n))
+
+  entry-same : (n : ℕ) → ((m : ℕ) → m ≤ n → (l : List A) → f m l ≡ g m l) → entry f n ≡ entry g n
+  unfolding entry
+  entry-same n h = ap (f n) (course-same n (λ m l. h m (omega arith))) ∙ h n (omega arith) (course g n)
+
+code-range : (o : Operator) → (2 ≤ code o) × (code o ≤ 7)
+code-range add = (omega arith, omega arith)
+code-range subtract = (omega arith, omega arith)
+code-range multiply = (omega arith, omega arith)
+code-range divide = (omega arith, omega arith)
+code-range less = (omega arith, omega arith)
+code-range equal = (omega arith, omega arith)
+
+-- the expressions with operands, by the operands' numbers
+abbrev rest : (ℕ → Exp) → ℕ → ℕ → List Exp
+rest operand a b =
+    register a
+    ∷ binary add (operand a) (operand b)
+    ∷ binary subtract (operand a) (operand b)
+    ∷ binary multiply (operand a) (operand b)
+    ∷ binary divide (operand a) (operand b)
+    ∷ binary less (operand a) (operand b)
+    ∷ binary equal (operand a) (operand b)
+    ∷ negated (operand a)
+    ∷ []
+
+-- an expression, by its word
+module _ (s : List ℕ) (e w : ℕ) (x : Spelled s e w) where
+  expression-made :
+      (l : List Exp) →
+      getD (program.expressionsFrom w (λ j. getD l j noExpression)) (kindIn w) noExpression
+      ≡ getD (expressionsFrom (partOf s e) (λ j. getD l j noExpression)) (partOf s e .kind) noExpression
+  expression-made l = ap (λ n. getD (program.expressionsFrom w (λ j. getD l j noExpression)) n noExpression) (x .kind) ∙ by-kind (partOf s e .kind) refl
+    where
+      by-kind :
+          (n : ℕ) → partOf s e .kind ≡ n →
+          getD (program.expressionsFrom w (λ j. getD l j noExpression)) n noExpression
+          ≡ getD (expressionsFrom (partOf s e) (λ j. getD l j noExpression)) n noExpression
+      by-kind zero q = ap (λ v. constant (toZ w32 v)) (x .constant q)
+      by-kind (suc n) q =
+          ap₂ (λ a b. getD (rest (λ j. getD l j noExpression) a b) n noExpression) (x .operand (λ z. omega (arith, z, q)))
+          (x .later)
+
+-- a file and its words
+pub record Packed (s words : List ℕ) : Type 0 where
+  pub names : program.nameCount words ≡ nameCount s
+  pub expressions : program.expressionCount words ≡ expressionCount s
+  pub nodes : program.nodeCount words ≡ nodeCount s
+  pub named : KeepsNames s (nameCount s) words
+  pub spelled : KeepsExpressions s (expressionCount s) words
+  pub planned : KeepsNodes s (nodeCount s) words
+
+module _ (s words : List ℕ) (ok : Checked s) (keeps : Packed s words) where
+  few-names : nameCount s ≤ 64
+  few-names = few-bounds (layoutOf s) (ok .laid .few) .0
+
+  few-expressions : expressionCount s ≤ 256
+  few-expressions = few-bounds (layoutOf s) (ok .laid .few) .1 .0
+
+  few-nodes : nodeCount s ≤ 256
+  few-nodes = few-bounds (layoutOf s) (ok .laid .few) .1 .1 .1
+
+  expression-same : (e : ℕ) → e < expressionCount s → program.expressionOf words e ≡ expressionOf s e
+  unfolding program.expressionOf expressionOf
+  expression-same e h =
+      entry-same _ _ e (λ m l. expression-made s m (expressionWord words m) (keeps .spelled m (omega arith)))
+
+  expression-runs : (e : ℕ) → e < expressionCount s → ExpressionRuns words e
+  expression-runs e h = view (expression-view s ok e h)
+    where
+      x : Spelled s e (expressionWord words e)
+      x = keeps .spelled e h
+
+      view : ExpressionView s e → ExpressionRuns words e
+      view (aConstant k v) =
+          record {
+            kind = omega (arith, k, x .kind);
+            register = λ q. absurd (omega (arith, k, q, x .kind));
+            first = λ l. absurd (omega (arith, k, l, x .kind));
+            second = λ l m. absurd (omega (arith, k, l, x .kind));
+          }
+      view (aRegister k v u) =
+          record {
+            kind = omega (arith, k, x .kind);
+            register = λ q. omega (arith, keeps .names, u .known, x .operand (λ z. omega (arith, k, z)));
+            first = λ l. absurd (omega (arith, k, l, x .kind));
+            second = λ l m. absurd (omega (arith, k, l, x .kind));
+          }
+      view (aBinary o k v a b) =
+          record {
+            kind = omega (arith, k, x .kind, code-range o);
+            register = λ q. absurd (omega (arith, k, q, x .kind, code-range o));
+            first = λ l. omega (arith, a .part .before, x .operand (λ z. omega (arith, k, z, code-range o)));
+            second = λ l m. omega (arith, b .part .before, x .later);
+          }
+      view (aNegated k v a) =
+          record {
+            kind = omega (arith, k, x .kind);
+            register = λ q. absurd (omega (arith, k, q, x .kind));
+            first = λ l. omega (arith, a .part .before, x .operand (λ z. omega (arith, k, z)));
+            second = λ l m. absurd (omega (arith, k, m, x .kind));
+          }
+
+  -- node k, by its word
+  module _ (k w : ℕ) (x : Planned s k w) (h : k < nodeCount s) where
+    abbrev p : Part
+    p = partOf s (node s k)
+
+    name-is : p .a < nameCount s → aIn w ≡ p .a
+    name-is l = x .a (omega (arith, l, few-names))
+
+    tested-is : p .a < expressionCount s → aIn w ≡ p .a
+    tested-is l = x .a (omega (arith, l, few-expressions))
+
+    stored-is : p .kind ≤ 2 → p .b < expressionCount s → bIn w ≡ p .b
+    stored-is q l = x .b q (omega (arith, l, few-expressions))
+
+    -- the expressions that it has, and the level of its name
+    tested : p .a < expressionCount s → program.expressionOf words (aIn w) ≡ expressionOf s (p .a)
+    tested l = ap (program.expressionOf words) (tested-is l) ∙ expression-same (p .a) l
+
+    stored : p .kind ≤ 2 → p .b < expressionCount s → program.expressionOf words (bIn w) ≡ expressionOf s (p .b)
+    stored q l = ap (program.expressionOf words) (stored-is q l) ∙ expression-same (p .b) l
+
+    level : p .a < nameCount s → levelIn (nameWord words (aIn w)) ≡ nameOf s (p .a) .level
+    level l = ap (λ y. levelIn (nameWord words y)) (name-is l) ∙ keeps .named (p .a) l .level
+
+    -- its children
+    first-is : (j : ℕ) → firstChild p ≡ j → j < k → firstIn w ≡ j
+    first-is j e l = x .first (omega (arith, e, l)) ∙ e
+
+    second-is : (j : ℕ) → secondChild p ≡ j → 2 < p .kind → j < k → bIn w ≡ j
+    second-is j e q l = x .second q (omega (arith, e, l)) ∙ e
+
+    process-made :
+        (l : List (Proc ℕ)) →
+        getD (program.processesFrom words w (λ j. getD l j nil)) (nodeKindIn w) nil
+        ≡ getD (processesFrom s p (λ j. getD l j nil)) (p .kind) nil
+    unfolding firstChild secondChild
+    process-made l = view (node-view s ok k h)
+      where
+        ours : ℕ → Proc ℕ
+        ours n = getD (program.processesFrom words w (λ j. getD l j nil)) n nil
+
+        theirs : ℕ → Proc ℕ
+        theirs n = getD (processesFrom s p (λ j. getD l j nil)) n nil
+
+        by-kind : (n : ℕ) → p .kind ≡ n → ours n ≡ theirs n → ours (nodeKindIn w) ≡ theirs (p .kind)
+        by-kind n e q = ap ours (x .kind ∙ e) ∙ q ∙ ap theirs (sym e)
+
+        first-part : (j : ℕ) → firstChild p ≡ j → j < k → getD l (firstIn w) nil ≡ getD l j nil
+        first-part j e b = ap (λ i. getD l i nil) (first-is j e b)
+
+        second-part : (j : ℕ) → secondChild p ≡ j → 2 < p .kind → j < k → getD l (bIn w) nil ≡ getD l j nil
+        second-part j e q b = ap (λ i. getD l i nil) (second-is j e q b)
+
+        view : NodeView s k → ours (nodeKindIn w) ≡ theirs (p .kind)
+        view (aNil e q) = by-kind 0 e refl
+        view (anAssign e q y z) = by-kind 1 e (ap₂ assign (name-is (y .known)) (stored (omega (arith, e)) (z .known)))
+        view (aLet e q y z r) =
+            by-kind 2 e
+            (rw (level (y .known), stored (omega (arith, e)) (z .known), first-part (p .c) (rw e) (r .before), name-is (y .known)))
+        view (anIf e q z r t) =
+            by-kind 3 e
+            (rw (tested (z .known), first-part (p .b) (rw e) (r .before), second-part (p .c) (rw e) (omega (arith, e)) (t .before)))
+        view (aWhile e q z r) = by-kind 4 e (ap₂ while (tested (z .known)) (first-part (p .b) (rw e) (r .before)))
+        view (aSequence e q r t) =
+            by-kind 5 e
+            (ap₂ sequence (first-part (p .a) (rw e) (r .before)) (second-part (p .b) (rw e) (omega (arith, e)) (t .before)))
+        view (anEmit e q y) = by-kind 6 e (ap emit (name-is (y .known)))
+        view (aLocal e q y r) =
+            by-kind 7 e (rw (level (y .known), first-part (p .b) (rw e) (r .before), name-is (y .known)))
+        view (aWatching e q y r) =
+            by-kind 8 e (ap₂ watching (name-is (y .known)) (first-part (p .b) (rw e) (r .before)))
+        view (aWhen e q y r) = by-kind 9 e (ap₂ when (name-is (y .known)) (first-part (p .b) (rw e) (r .before)))
+        view (aParallel e q r t) =
+            by-kind 10 e
+            (ap₂ parallel (first-part (p .a) (rw e) (r .before)) (second-part (p .b) (rw e) (omega (arith, e)) (t .before)))
+
+  process-same : (k : ℕ) → k < nodeCount s → program.processOf words k ≡ processOf s k
+  unfolding program.processOf processOf
+  process-same k h =
+      entry-same _ _ k
+      (λ m l. process-made m (nodeWord words m) (keeps .planned m (omega arith)) (omega arith))
+
+  node-runs : (k : ℕ) → k < nodeCount s → NodeRuns words k
+  unfolding firstChild secondChild
+  node-runs k h = view (node-view s ok k h)
+    where
+      w : ℕ
+      w = nodeWord words k
+
+      entry : Part
+      entry = partOf s (node s k)
+
+      x : Planned s k w
+      x = keeps .planned k h
+
+      leads : (j : ℕ) → firstChild entry ≡ j → j < k → FirstPart words k
+      leads j e l =
+          let i = first-is k w x h j e l in
+          record {
+            before = omega (arith, i, l);
+            sized =
+                x .size (omega (arith, e, l))
+                ∙ ap (λ j. size (processOf s j)) e
+                ∙ ap size (sym (process-same j (omega (arith, l, h))))
+                ∙ ap (λ j. size (program.processOf words j)) (sym i);
+          }
+
+      -- a node of kind n, by what its fields hold
+      runs :
+          (n : ℕ) → entry .kind ≡ n → n < 11 → Holds words k (rowOf n .a) (aIn w) → Holds words k (rowOf n .b) (bIn w) →
+          Leads words k (rowOf n .first) →
+          (n ≡ 8 → signalIn (nameWord words (aIn w)) ≡ true) →
+          (n ≡ 9 → leavesAlone (aIn w) (program.processOf words (firstIn w)) ≡ true) → NodeRuns words k
+      runs n e few a b first signal alone =
+          let kind : nodeKindIn w ≡ n = x .kind ∙ e in
+          record {
+            kind = omega (arith, kind, few);
+            forms = λ tag l. rw (x .kind) (x .forms tag l);
+            a = subst (λ n. Holds words k (rowOf n .a) (aIn w)) (sym kind) a;
+            b = subst (λ n. Holds words k (rowOf n .b) (bIn w)) (sym kind) b;
+            first = subst (λ n. Leads words k (rowOf n .first)) (sym kind) first;
+            watches = x .watches ∙ ap watches (sym (process-same k h));
+            small = rw (process-same k h) (size-within s ok k h);
+            signal = λ q. signal (sym kind ∙ q);
+            alone = λ q. alone (sym kind ∙ q);
+          }
+
+      signal : UsesName s (node s k) (entry .a) 1 → signalIn (nameWord words (aIn w)) ≡ true
+      signal u =
+          ap (λ y. signalIn (nameWord words y)) (name-is k w x h (u .known))
+          ∙ keeps .named (entry .a) (u .known) .signal
+          ∙ ap (λ n. eqb n 1) (u .kinded)
+
+      named : entry .a < nameCount s → aIn w < program.nameCount words
+      named l = omega (arith, name-is k w x h l, l, keeps .names)
+
+      tests : entry .a < expressionCount s → aIn w < program.expressionCount words
+      tests l = omega (arith, tested-is k w x h l, l, keeps .expressions)
+
+      stores : entry .kind ≤ 2 → entry .b < expressionCount s → bIn w < program.expressionCount words
+      stores q l = omega (arith, stored-is k w x h q l, l, keeps .expressions)
+
+      follows : (j : ℕ) → secondChild entry ≡ j → 2 < entry .kind → j < k → bIn w < k
+      follows j e q l = omega (arith, second-is k w x h j e q l, l)
+
+      alone :
+          UsesName s (node s k) (entry .a) 1 → (j : ℕ) → firstChild entry ≡ j → j < k →
+          leavesAlone (aIn w) (program.processOf words (firstIn w)) ≡ true
+      alone u j e l =
+          rw (name-is k w x h (u .known), first-is k w x h j e l, process-same j (omega (arith, l, h)))
+          (alone-below s ok (entry .a) k u h j l)
+
+      view : NodeView s k → NodeRuns words k
+      view (aNil e q) = runs 0 e (omega arith) tt tt tt (λ z. absurd (omega (arith, z))) (λ z. absurd (omega (arith, z)))
+      view (anAssign e q y z) =
+          runs 1 e (omega arith) (named (y .known)) (stores (omega (arith, e)) (z .known)) tt (λ z. absurd (omega (arith, z))) (λ z. absurd (omega (arith, z)))
+      view (aLet e q y z r) =
+          runs 2 e (omega arith) (named (y .known)) (stores (omega (arith, e)) (z .known)) (leads (entry .c) (rw e) (r .before))
+          (λ z. absurd (omega (arith, z))) (λ z. absurd (omega (arith, z)))
+      view (anIf e q z r t) =
+          runs 3 e (omega arith) (tests (z .known)) (follows (entry .c) (rw e) (omega (arith, e)) (t .before))
+          (leads (entry .b) (rw e) (r .before)) (λ z. absurd (omega (arith, z))) (λ z. absurd (omega (arith, z)))
+      view (aWhile e q z r) =
+          runs 4 e (omega arith) (tests (z .known)) tt (leads (entry .b) (rw e) (r .before)) (λ z. absurd (omega (arith, z))) (λ z. absurd (omega (arith, z)))
+      view (aSequence e q r t) =
+          runs 5 e (omega arith) tt (follows (entry .b) (rw e) (omega (arith, e)) (t .before))
+          (leads (entry .a) (rw e) (r .before)) (λ z. absurd (omega (arith, z))) (λ z. absurd (omega (arith, z)))
+      view (anEmit e q y) = runs 6 e (omega arith) (named (y .known)) tt tt (λ z. absurd (omega (arith, z))) (λ z. absurd (omega (arith, z)))
+      view (aLocal e q y r) =
+          runs 7 e (omega arith) (named (y .known)) tt (leads (entry .b) (rw e) (r .before)) (λ z. absurd (omega (arith, z))) (λ z. absurd (omega (arith, z)))
+      view (aWatching e q y r) =
+          runs 8 e (omega arith) (named (y .known)) tt (leads (entry .b) (rw e) (r .before)) (λ _. signal y) (λ z. absurd (omega (arith, z)))
+      view (aWhen e q y r) =
+          runs 9 e (omega arith) (named (y .known)) tt (leads (entry .b) (rw e) (r .before))
+          (λ z. absurd (omega (arith, z))) (λ _. alone y (entry .b) (rw e) (r .before))
+      view (aParallel e q r t) =
+          runs 10 e (omega arith) tt (follows (entry .b) (rw e) (omega (arith, e)) (t .before))
+          (leads (entry .a) (rw e) (r .before)) (λ z. absurd (omega (arith, z))) (λ z. absurd (omega (arith, z)))
+
+  pub program-of : ProgramOf s words
+  program-of =
+      record {
+        runnable =
+            record {
+              fewNames = omega (arith, keeps .names, few-names);
+              fewExpressions = omega (arith, keeps .expressions, few-expressions);
+              fewNodes = omega (arith, keeps .nodes, few-nodes);
+              some = omega (arith, keeps .nodes, few-bounds (layoutOf s) (ok .laid .few));
+              whole =
+                  ap (λ n. size (program.processOf words (n - 1))) (keeps .nodes)
+                  ∙ ap size (process-same (nodeCount s - 1) (omega (arith, few-bounds (layoutOf s) (ok .laid .few))))
+                  ∙ whole-size s ok
+                  ∙ sym (keeps .nodes);
+              expressions = λ e l. expression-runs e (omega (arith, l, keeps .expressions));
+              nodes = λ k l. node-runs k (omega (arith, l, keeps .nodes));
+            };
+        names = keeps .names;
+        expressions = keeps .expressions;
+        nodes = keeps .nodes;
+        named = keeps .named;
+        expression = expression-same;
+        process = process-same;
+      }

@@ -1,0 +1,87 @@
+-- The forms of each kind of node, in the order of specs/Residual.antt: what is in front, and what stands around it.
+use mathlib.Core.Bool.{Bool, cond, _||_}
+use mathlib.Core.List.{List, [], _∷_}
+use Prim.Native.Nat.{ℕ, _+_, _-_, _*_}
+use lib.Dec.{eqb, leb}
+use lib.ListN.{getD, take, drop}
+use Rattle.packing.specs.Packing.{sizeIn}
+use Rattle.program.specs.declared.forms.Front.{Front}
+use Rattle.program.specs.Program.{nodeWord, kindAt, firstAt, secondAt}
+
+-- nil
+abbrev pub gone : ℕ
+gone = 0
+
+-- the node's own move is next: assign, let, if, while, emit, local
+abbrev pub mover : ℕ
+mover = 1
+
+-- the first part alone, or the second
+abbrev pub first : ℕ
+first = 2
+
+abbrev pub second : ℕ
+second = 3
+
+-- the first part, and after it something else
+abbrev pub before : ℕ
+before = 4
+
+-- the first part, watching a signal, or under a when
+abbrev pub watched : ℕ
+watched = 5
+
+abbrev pub guarded : ℕ
+guarded = 6
+
+-- the first part in parallel with the second, or the other way round
+abbrev pub beside : ℕ
+beside = 7
+
+abbrev pub turned : ℕ
+turned = 8
+
+abbrev pub formRows : List (List ℕ)
+formRows =
+    []
+    ∷ (mover ∷ [])
+    ∷ (mover ∷ first ∷ [])
+    ∷ (mover ∷ first ∷ second ∷ [])
+    ∷ (mover ∷ before ∷ [])
+    ∷ (before ∷ second ∷ [])
+    ∷ (mover ∷ [])
+    ∷ (mover ∷ first ∷ [])
+    ∷ (watched ∷ [])
+    ∷ (guarded ∷ [])
+    ∷ (beside ∷ turned ∷ first ∷ second ∷ [])
+    ∷ []
+
+-- the form of a node of this kind with this byte of its own
+abbrev pub formOf : ℕ → ℕ → ℕ
+formOf kind tag = getD (getD formRows kind []) tag gone
+
+-- the second part is in front
+abbrev pub fromSecond : ℕ → Bool
+fromSecond form = eqb form second || eqb form turned
+
+-- The form of node k, and of the part in front: its node, and where its bytes stand among those of node k, of which
+-- there are so many. Where no part is in front that is of no meaning, and 0.
+unfoldable pub frontOf : List ℕ → ℕ → ℕ → ℕ → Front
+frontOf words k tag len =
+    let form : ℕ = formOf (kindAt words k) tag in
+    let middle : ℕ = 1 + sizeIn (nodeWord words k) in
+    cond
+    (leb form mover)
+    (record { form = form; child = 0; from = 0; to = 0 })
+    (cond
+    (fromSecond form)
+    (record { form = form; child = secondAt words k; from = middle; to = len })
+    (record { form = form; child = firstAt words k; from = 1; to = middle }))
+
+-- the bytes of the part in front
+abbrev pub partIn : Front → List ℕ → List ℕ
+partIn f st = take (f .to - f .from) (drop (f .from) st)
+
+-- the forms of a kind, as they stand in a word
+abbrev pub formsOf : ℕ → ℕ
+formsOf kind = formOf kind 0 + 16 * formOf kind 1 + 256 * formOf kind 2 + 4096 * formOf kind 3

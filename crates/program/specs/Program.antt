@@ -1,0 +1,135 @@
+-- A program: a word with the counts, then a word for each name, each expression and each node. Names, expressions and
+-- processes are read off the words: 'operands and child nodes have smaller numbers than their parent', so each is made of
+-- earlier ones.
+use mathlib.Core.List.{List, [], _∷_}
+use Prim.Native.Nat.{ℕ, _+_, _-_}
+use lib.IntN.{ℤ, pos}
+use lib.ListN.{getD}
+use mir.Syntax.{w32}
+use mir.Val.{toZ}
+use Rattle.prelude.specs.Course.{entry}
+use Rattle.language.specs.Syntax.{Names, add, subtract, multiply, divide, less, equal, Exp, constant, register, binary, negated, Proc, nil, assign, letIn, ifThenElse, while, sequence, emit, local, watching, when, parallel}
+use Rattle.packing.specs.Packing.{kindIn, constantIn, operandIn, laterIn, aIn, bIn, firstIn, sizeIn, nodeKindIn, levelIn, signalIn, sessionIn, namesIn, expressionsIn, nodesIn}
+
+-- 'at most 64 names, 256 expressions, 256 nodes'
+abbrev pub mostNames : ℕ
+mostNames = 64
+
+abbrev pub mostExpressions : ℕ
+mostExpressions = 256
+
+abbrev pub mostNodes : ℕ
+mostNodes = 256
+
+-- where the names, the expressions and the nodes begin, and how many words there are
+abbrev pub nameStart : ℕ
+nameStart = 1
+
+abbrev pub expressionStart : ℕ
+expressionStart = nameStart + mostNames
+
+abbrev pub nodeStart : ℕ
+nodeStart = expressionStart + mostExpressions
+
+abbrev pub wordCount : ℕ
+wordCount = nodeStart + mostNodes
+
+module _ (words : List ℕ) where
+  abbrev pub nameCount : ℕ
+  nameCount = namesIn (getD words 0 0)
+
+  abbrev pub expressionCount : ℕ
+  expressionCount = expressionsIn (getD words 0 0)
+
+  abbrev pub nodeCount : ℕ
+  nodeCount = nodesIn (getD words 0 0)
+
+  abbrev pub nameWord : ℕ → ℕ
+  nameWord x = getD words (nameStart + x) 0
+
+  abbrev pub expressionWord : ℕ → ℕ
+  expressionWord e = getD words (expressionStart + e) 0
+
+  abbrev pub nodeWord : ℕ → ℕ
+  nodeWord k = getD words (nodeStart + k) 0
+
+  abbrev pub kindAt : ℕ → ℕ
+  kindAt k = nodeKindIn (nodeWord k)
+
+  abbrev pub aAt : ℕ → ℕ
+  aAt k = aIn (nodeWord k)
+
+  abbrev pub bAt : ℕ → ℕ
+  bAt k = bIn (nodeWord k)
+
+  -- the children; a second stands in field b
+  abbrev pub firstAt : ℕ → ℕ
+  firstAt k = firstIn (nodeWord k)
+
+  abbrev pub secondAt : ℕ → ℕ
+  secondAt k = bIn (nodeWord k)
+
+  abbrev pub namesOf : Names ℕ
+  namesOf =
+      record {
+        isSignal = λ x. signalIn (nameWord x);
+        level = λ x. levelIn (nameWord x);
+        isSession = λ x. sessionIn (nameWord x);
+      }
+
+-- the expressions of the nine kinds, in the order of their numbers
+abbrev pub expressionsFrom : ℕ → (ℕ → Exp) → List Exp
+expressionsFrom w operand =
+    let a : Exp = operand (operandIn w) in
+    let b : Exp = operand (laterIn w) in
+    constant (toZ w32 (constantIn w))
+    ∷ register (operandIn w)
+    ∷ binary add a b
+    ∷ binary subtract a b
+    ∷ binary multiply a b
+    ∷ binary divide a b
+    ∷ binary less a b
+    ∷ binary equal a b
+    ∷ negated a
+    ∷ []
+
+abbrev pub noExpression : Exp
+noExpression = constant (pos 0)
+
+-- expression e
+unfoldable pub expressionOf : List ℕ → ℕ → Exp
+expressionOf words =
+    entry
+    (λ e earlier.
+    getD (expressionsFrom (expressionWord words e) (λ j. getD earlier j noExpression)) (kindIn (expressionWord words e))
+    noExpression)
+
+-- the processes of the eleven kinds, in the order of their numbers; a declaration carries its name's level
+abbrev pub processesFrom : List ℕ → ℕ → (ℕ → Proc ℕ) → List (Proc ℕ)
+processesFrom words w part =
+    let level : ℕ = levelIn (nameWord words (aIn w)) in
+    let one : Proc ℕ = part (firstIn w) in
+    let two : Proc ℕ = part (bIn w) in
+    nil
+    ∷ assign (aIn w) (expressionOf words (bIn w))
+    ∷ letIn (aIn w) level (expressionOf words (bIn w)) one
+    ∷ ifThenElse (expressionOf words (aIn w)) one two
+    ∷ while (expressionOf words (aIn w)) one
+    ∷ sequence one two
+    ∷ emit (aIn w)
+    ∷ local (aIn w) level one
+    ∷ watching (aIn w) one
+    ∷ when (aIn w) one
+    ∷ parallel one two
+    ∷ []
+
+-- node k
+unfoldable pub processOf : List ℕ → ℕ → Proc ℕ
+processOf words =
+    entry
+    (λ k earlier.
+    getD (processesFrom words (nodeWord words k) (λ j. getD earlier j nil)) (kindAt words k) nil)
+
+-- the last node is the script
+abbrev pub script : List ℕ → Proc ℕ
+script words = processOf words (nodeCount words - 1)
