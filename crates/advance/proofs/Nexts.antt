@@ -14,7 +14,7 @@ use borrow.Author.Tests.{eq-eqb, eqb-true}
 use Rattle.prelude.proofs.Bools.{by-cases}
 use Rattle.program.specs.Program.{kindAt, aAt}
 use Rattle.program.specs.declared.forms.Front.{Front}
-use Rattle.program.specs.Forms.{mover, frontOf, partIn}
+use Rattle.program.specs.Forms.{itself, frontOf, partIn}
 use Rattle.residual.specs.Residual.{own}
 use Rattle.residual.specs.Nodes.{Valued, At, left}
 use Rattle.instants.proofs.Deciding.{Found, Part, sees, front-part}
@@ -23,16 +23,16 @@ use Rattle.moves.specs.Moves.{Running, isSpent, gone, waits}
 use Rattle.moves.specs.Contracts.{Counted, IsWriter, runningAt, Advances}
 use Rattle.moves.proofs.Advancing.{ended}
 use Rattle.advance.specs.Contracts.{inside, into, moving, itselfOf, Alone, Follows, nothing, awaits, itself, stands, part, doneAt, Rests, Settles}
-use Rattle.advance.proofs.Entries.{writer-moves}
+use Rattle.advance.proofs.Entries.{writer-itself}
 use Rattle.advance.proofs.Places.{mid-whole, put-whole}
 use Rattle.advance.proofs.Turning.{Going, going, Turn, begins, turns-on, turns-to, part-turn, part-ends, part-rests, front-kept, settled}
 
 -- the two ways to go on
 pub data Way (words : List ℕ) (k : ℕ) (st : List ℕ) (vs : List ℤ) (why : ℕ) (f : Front) : Type 0 where
   byItself :
-      why ≡ moving → f ≡ itselfOf k (length st) → frontOf words k (own st) (length st) .form ≡ mover → Way words k st vs why f
+      why ≡ moving → f ≡ itselfOf k (length st) → frontOf words k (own st) (length st) .form ≡ itself → Way words k st vs why f
   byPart :
-      Going words k st f vs → Part words k st f → mover < f .form → f ≡ frontOf words k (own st) (length st) →
+      Going words k st f vs → Part words k st f → itself < f .form → f ≡ frontOf words k (own st) (length st) →
       (why ≡ moving → IsWriter (kindAt words (f .child)) × (own (partIn f st) ≡ 0)) → Way words k st vs why f
 
 -- the bytes with those of the part put back
@@ -60,13 +60,13 @@ module _ (words : List ℕ) (k : ℕ) (st : List ℕ) (vs : List ℤ) (why : ℕ
     at-front (byPart g p m q w) = p .at
 
     pub moves-next :
-        Way words k st vs why f → eqb why moving ≡ true → frontOf words (f .child) (own (partIn f st)) (length (partIn f st)) .form ≡ mover
+        Way words k st vs why f → eqb why moving ≡ true → frontOf words (f .child) (own (partIn f st)) (length (partIn f st)) .form ≡ itself
     moves-next (byItself e q m) t =
-        subst (λ (h : Front). frontOf words (h .child) (own (partIn h st)) (length (partIn h st)) .form ≡ mover) (sym q)
-        (subst (λ (z : List ℕ). frontOf words k (own z) (length z) .form ≡ mover) (sym (mid-whole st)) m)
+        subst (λ (h : Front). frontOf words (h .child) (own (partIn h st)) (length (partIn h st)) .form ≡ itself) (sym q)
+        (subst (λ (z : List ℕ). frontOf words k (own z) (length z) .form ≡ itself) (sym (mid-whole st)) m)
     moves-next (byPart g p m q w) t =
         let x = w (eqb-true why moving t) in
-        writer-moves words (f .child) (length (partIn f st)) (partIn f st) (x .0) (x .1)
+        writer-itself words (f .child) (length (partIn f st)) (partIn f st) (x .0) (x .1)
 
     pub falls-by : Way words k st vs why f → cond (eqb why moving) 0 (3 * f .child + 3) < 3 * k + 1
     falls-by (byItself e q m) = rw (eq-eqb why moving e) (omega arith)
@@ -109,7 +109,7 @@ module _ (words : List ℕ) (k : ℕ) (st : List ℕ) (vs : List ℤ) (why : ℕ
         let long : f .to - f .from ≡ length st = rw q (sub-zero (length st)) in
         ap length same ∙ l ∙ long
 
-    positive : Way words k st vs why f → mover < f .form → 0 < why′
+    positive : Way words k st vs why f → itself < f .form → 0 < why′
     positive (byItself e q m) h = absurd (omega (arith, h, ap (λ (g : Front). g .form) q))
     positive (byPart g p m q w) h = some (λ t. w (eqb-true why moving t) .0)
 
@@ -133,7 +133,7 @@ module _ (words : List ℕ) (k : ℕ) (st : List ℕ) (vs : List ℤ) (why : ℕ
     advanced-ends (byPart g p m q w) h = part-ends g at-first ys l (r, positive (byPart g p m q w) m) h
 
     pub front-rests :
-        Way words k st vs why f → why′ < isSpent → mover < f .form →
+        Way words k st vs why f → why′ < isSpent → itself < f .form →
         (f ≡ frontOf words k (own (reached f st ys)) (length (reached f st ys))) × Rests words k (reached f st ys) ws f why′
     front-rests (byItself e q m) h n = absurd (omega (arith, n, ap (λ (g : Front). g .form) q))
     front-rests (byPart g p m q w) h n =
@@ -141,9 +141,9 @@ module _ (words : List ℕ) (k : ℕ) (st : List ℕ) (vs : List ℤ) (why : ℕ
 
     -- the node has been left
     module _ (h : why′ < isSpent) {st′ : List ℕ} {d : Done}
-        (same : f .form ≤ mover → (d ≡ doneAt why′ steps′ lines′) × (st′ ≡ (reached f st ys)))
+        (same : f .form ≤ itself → (d ≡ doneAt why′ steps′ lines′) × (st′ ≡ (reached f st ys)))
         (settles :
-        mover < f .form →
+        itself < f .form →
         Settles limit (left words k (reached f st ys)) ws (left words k st′) steps′ lines′ why′ (d .why) (d .at .steps) (d .at .lines))
         (named : length ws ≡ length vs) (logged : length log′ ≡ length log) where
       pub left-by :

@@ -14,7 +14,7 @@ use lib.Seq.{length-take-le, take-length, drop-length, take-append-le, drop-appe
 use Rattle.program.specs.declared.forms.Front.{Front}
 use Rattle.residual.specs.Frames.{alone}
 use Rattle.residual.specs.Nodes.{Valued, At, left}
-use Rattle.residual.proofs.Sights.{Inside, Sight, sees-gone, sees-mover, sees-alone, sees-before, sees-watched, sees-guarded, sees-beside, length-put, part-put}
+use Rattle.residual.proofs.Sights.{Inside, Sight, sees-nothing, sees-itself, sees-alone, sees-before, sees-watched, sees-guarded, sees-beside, length-put, part-put}
 use Rattle.instants.proofs.Deciding.{Found, sees, front-part}
 use Rattle.moves.specs.declared.Counts.{Counts}
 use Rattle.moves.specs.Moves.{Running}
@@ -134,8 +134,8 @@ module _ {words : List ℕ} {k : ℕ} {st : List ℕ} {j a b : ℕ} (p : Stands 
     found = record { valued = v; at = p .at; front = o .0 }
 
     stays-alone : Sight words j (midOf a (b - a) st) f → Inside words j (midOf a (b - a) st) f alone
-    stays-alone (sees-gone e r) = absurd (omega (arith, e, o .1 .0))
-    stays-alone (sees-mover e z m) = absurd (omega (arith, e, o .1 .0))
+    stays-alone (sees-nothing e r) = absurd (omega (arith, e, o .1 .0))
+    stays-alone (sees-itself e z m) = absurd (omega (arith, e, o .1 .0))
     stays-alone (sees-alone e i) = i
     stays-alone (sees-before e z q i r) = absurd (omega (arith, e, o .1 .1))
     stays-alone (sees-watched e x i r) = absurd (omega (arith, e, o .1 .1))

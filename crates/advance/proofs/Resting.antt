@@ -12,14 +12,14 @@ use Rattle.language.specs.Syntax.{Proc, parallel, isNil}
 use Rattle.language.specs.Steps.{present, suspended}
 use Rattle.program.specs.declared.forms.Front.{Front}
 use Rattle.residual.specs.Residual.{own}
-use Rattle.program.specs.Forms.{mover, before, guarded, beside, frontOf, partIn}
+use Rattle.program.specs.Forms.{itself, before, guarded, beside, frontOf, partIn}
 use Rattle.residual.specs.Frames.{besideThe}
 use Rattle.moves.specs.Moves.{Silent, isGone, isSuspended}
 use Rattle.residual.specs.Nodes.{left}
 use Rattle.advance.specs.Contracts.{Byte, byteAfter, Rests}
 use Rattle.instants.specs.Contracts.{RearWaits}
 use Rattle.moves.proofs.Framing.{drop-before, drop-watched, drop-guarded, drop-beside, trade}
-use Rattle.residual.proofs.Sights.{signalAt, Inside, Sight, sees-gone, sees-mover, sees-alone, sees-before, sees-watched, sees-guarded, sees-beside, part-set}
+use Rattle.residual.proofs.Sights.{signalAt, Inside, Sight, sees-nothing, sees-itself, sees-alone, sees-before, sees-watched, sees-guarded, sees-beside, part-set}
 
 module _ (words : List ℕ) (k : ℕ) (st : List ℕ) (f : Front) (vs : List ℤ) where
   -- what is left of the part in front
@@ -48,8 +48,8 @@ module _ (words : List ℕ) (k : ℕ) (st : List ℕ) (f : Front) (vs : List ℤ
   drops :
       Sight words k st f → before ≤ f .form → isNil inFront ≡ true →
       (f .form ≡ guarded → present vs (signalAt words k) ≡ true) → Silent (left words k st) vs (after (f .form) isGone) vs
-  drops (sees-gone e r) h z p = absurd (omega (arith, e))
-  drops (sees-mover e o m) h z p = absurd (omega (arith, e))
+  drops (sees-nothing e r) h z p = absurd (omega (arith, e))
+  drops (sees-itself e o m) h z p = absurd (omega (arith, e))
   drops (sees-alone (inl e) i) h z p = absurd (omega (arith, e))
   drops (sees-alone (inr e) i) h z p = absurd (omega (arith, e))
   drops (sees-before e o q i r) h z p = moved-as isGone e (i .whole) r (drop-before vs z q)
@@ -62,8 +62,8 @@ module _ (words : List ℕ) (k : ℕ) (st : List ℕ) (f : Front) (vs : List ℤ
   trades :
       Sight words k st f → before ≤ f .form → suspended inFront vs ≡ true → RearWaits words k st vs (f .form) false →
       Silent (left words k st) vs (after (f .form) isSuspended) vs
-  trades (sees-gone e r) h z p = absurd (omega (arith, e))
-  trades (sees-mover e o m) h z p = absurd (omega (arith, e))
+  trades (sees-nothing e r) h z p = absurd (omega (arith, e))
+  trades (sees-itself e o m) h z p = absurd (omega (arith, e))
   trades (sees-alone (inl e) i) h z p = absurd (omega (arith, e))
   trades (sees-alone (inr e) i) h z p = absurd (omega (arith, e))
   trades (sees-before e o q i r) h z p = absurd (false≢true (p .none (omega (arith, e))))
@@ -76,10 +76,10 @@ module _ (words : List ℕ) (k : ℕ) (st : List ℕ) (f : Front) (vs : List ℤ
 
   -- a node whose part in front stands alone rests with it
   pub rests-alone :
-      Sight words k st f → mover < f .form → f .form < before →
+      Sight words k st f → itself < f .form → f .form < before →
       (isNil (left words k st) ≡ isNil inFront) × (suspended (left words k st) vs ≡ suspended inFront vs)
-  rests-alone (sees-gone e r) h l = absurd (omega (arith, e))
-  rests-alone (sees-mover e o m) h l = absurd (omega (arith, e))
+  rests-alone (sees-nothing e r) h l = absurd (omega (arith, e))
+  rests-alone (sees-itself e o m) h l = absurd (omega (arith, e))
   rests-alone (sees-alone e i) h l = (ap isNil (i .whole), ap (λ p. suspended p vs) (i .whole))
   rests-alone (sees-before e o q i r) h l = absurd (omega (arith, e))
   rests-alone (sees-watched e x i r) h l = absurd (omega (arith, e))
@@ -98,8 +98,8 @@ module _ (words : List ℕ) (k : ℕ) (st : List ℕ) (f : Front) (vs : List ℤ
       (r .known)
 
   pub byte-bound : Sight words k st f → before ≤ f .form → Byte (f .form) (own st)
-  byte-bound (sees-gone e r) h a b = absurd (omega (arith, e))
-  byte-bound (sees-mover e o m) h a b = absurd (omega (arith, e))
+  byte-bound (sees-nothing e r) h a b = absurd (omega (arith, e))
+  byte-bound (sees-itself e o m) h a b = absurd (omega (arith, e))
   byte-bound (sees-alone (inl e) i) h a b = absurd (omega (arith, e))
   byte-bound (sees-alone (inr e) i) h a b = absurd (omega (arith, e))
   byte-bound (sees-before e o q i r) h a b = o

@@ -15,7 +15,7 @@ use Rattle.language.specs.Syntax.{Proc, isNil}
 use Rattle.language.specs.Steps.{present, suspended}
 use Rattle.program.specs.declared.forms.Front.{Front}
 use Rattle.residual.specs.Residual.{own}
-use Rattle.program.specs.Forms.{mover, guarded, frontOf, partIn}
+use Rattle.program.specs.Forms.{itself, guarded, frontOf, partIn}
 use Rattle.residual.specs.Frames.{Frame, alone, beforeThe, watchedBy, guardedBy, besideThe, Open}
 use Rattle.moves.specs.Moves.{Running, isGone, isSuspended, isSpent, isFull, Path, stays, Ends, gone, waits, spent, full}
 use Rattle.moves.specs.Contracts.{mostSteps, Counted, runningAt, Advances}
@@ -23,7 +23,7 @@ use Rattle.residual.specs.Nodes.{Valued, At, left}
 use Rattle.advance.specs.Contracts.{inside, Rests, Settles, restsOn, atLimit, makesMove}
 use Rattle.moves.proofs.Framing.{joined, open-path, lift, ends-around}
 use Rattle.moves.proofs.Advancing.{ended, again}
-use Rattle.residual.proofs.Sights.{signalAt, Inside, Sight, sees-gone, sees-mover, sees-alone, sees-before, sees-watched, sees-guarded, sees-beside, own-put, length-put, part-put}
+use Rattle.residual.proofs.Sights.{signalAt, Inside, Sight, sees-nothing, sees-itself, sees-alone, sees-before, sees-watched, sees-guarded, sees-beside, own-put, length-put, part-put}
 
 module _ {seen : ℕ → Bool} {limit room : ℕ} {at : Running ℕ} {why : ℕ} where
   ended-gone : Ends seen limit room at why → why ≡ isGone → isNil (at .process) ≡ true
@@ -58,9 +58,9 @@ module _ (words : List ℕ) (k : ℕ) (st : List ℕ) (f : Front) (vs : List ℤ
     pub shown : (ys : List ℕ) (ws : List ℤ) → Open frame (left words (f .child) ys) ws → f .form ≡ guarded → present ws (signalAt words k) ≡ true
 
   pub going :
-      Sight words k st f → mover < f .form → (f .form ≡ guarded → present vs (signalAt words k) ≡ true) → Going
-  going (sees-gone e r) h p = absurd (omega (arith, e))
-  going (sees-mover e o m) h p = absurd (omega (arith, e))
+      Sight words k st f → itself < f .form → (f .form ≡ guarded → present vs (signalAt words k) ≡ true) → Going
+  going (sees-nothing e r) h p = absurd (omega (arith, e))
+  going (sees-itself e o m) h p = absurd (omega (arith, e))
   going (sees-alone (inl e) i) h p =
       record { frame = alone; inside = i; opened = tt; shown = λ ys ws o q. absurd (omega (arith, e, q)) }
   going (sees-alone (inr e) i) h p =
@@ -116,7 +116,7 @@ module _ {words : List ℕ} {k : ℕ} {st : List ℕ} {f : Front} {vs : List ℤ
       halts : isSpent ≤ why → Ends seen limit room (runningAt words k (put ys) ws log′ steps′ instant lines′) why
       halts h = rw (g .inside .after ys l) (ends-around (g .frame) stays-open stopped h)
 
-      rests : mover < f .form → why < isSpent → Rests words k (put ys) ws f why
+      rests : itself < f .form → why < isSpent → Rests words k (put ys) ws f why
       rests m h =
           record {
             known = one-or-two why some h;
@@ -247,7 +247,7 @@ module _ {seen : ℕ → Bool} {limit : ℕ} {at : Running ℕ} {st₀ : List �
         ends = λ _. halts g ys l here-too (r .1) h;
       }
 
-  pub part-rests : mover < f .form → why < isSpent → Rests words k (put g ys) ws f why
+  pub part-rests : itself < f .form → why < isSpent → Rests words k (put g ys) ws f why
   part-rests = rests g ys l here-too (r .1)
 
 -- what is left of a node settles

@@ -11,7 +11,7 @@ use Rattle.language.specs.Syntax.{Proc, isNil}
 use Rattle.language.specs.Steps.{present, suspended}
 use Rattle.program.specs.Program.{kindAt, aAt}
 use Rattle.program.specs.declared.forms.Front.{Front}
-use Rattle.program.specs.Forms.{mover, before, watched, guarded, frontOf, partIn}
+use Rattle.program.specs.Forms.{itself, before, watched, guarded, frontOf, partIn}
 use Rattle.residual.specs.Residual.{own}
 use Rattle.residual.specs.Nodes.{Valued, At, left}
 use Rattle.moves.specs.Moves.{Live, Silent, isGone, isSuspended, isSpent}
@@ -33,15 +33,15 @@ moving = 7
 
 -- at a node with no part in front
 abbrev pub ownNext : ℕ → ℕ
-ownNext form = cond (eqb form mover) moving isGone
+ownNext form = cond (eqb form itself) moving isGone
 
 -- the node itself as the part in front
 abbrev pub itselfOf : ℕ → ℕ → Front
-itselfOf k len = record { form = mover; child = k; from = 0; to = len }
+itselfOf k len = record { form = itself; child = k; from = 0; to = len }
 
 -- what is left of node k is what is left of its part in front
 abbrev pub Alone : List ℕ → ℕ → List ℕ → Front → Type 0
-Alone words k st f = (f ≡ frontOf words k (own st) (length st)) × ((mover < f .form) × (f .form < before))
+Alone words k st f = (f ≡ frontOf words k (own st) (length st)) × ((itself < f .form) × (f .form < before))
 
 -- What comes next at node k: nothing, since it is nil or suspended; its own move; its part in front, which stands alone; or
 -- that part in its frame, which may be one assignment or emission.
@@ -49,11 +49,11 @@ pub data Follows (words : List ℕ) (k : ℕ) (st : List ℕ) (values : List ℤ
   nothing : why ≡ isGone → isNil (left words k st) ≡ true → Follows words k st values why f
   awaits : why ≡ isSuspended → suspended (left words k st) values ≡ true → Follows words k st values why f
   itself :
-      why ≡ moving → f ≡ itselfOf k (length st) → frontOf words k (own st) (length st) .form ≡ mover →
+      why ≡ moving → f ≡ itselfOf k (length st) → frontOf words k (own st) (length st) .form ≡ itself →
       Follows words k st values why f
   stands : why ≡ inside → Alone words k st f → Follows words k st values why f
   part :
-      into ≤ why → f ≡ frontOf words k (own st) (length st) → mover < f .form →
+      into ≤ why → f ≡ frontOf words k (own st) (length st) → itself < f .form →
       (f .form ≡ guarded → present values (aAt words k) ≡ true) →
       (why ≡ moving → IsWriter (kindAt words (f .child)) × (own (partIn f st) ≡ 0)) →
       Follows words k st values why f
@@ -79,7 +79,7 @@ pub record Rests (words : List ℕ) (k : ℕ) (st : List ℕ) (values : List ℤ
   pub known : (why ≡ isGone) ⊎ (why ≡ isSuspended)
   pub gone : why ≡ isGone → isNil (left words (f .child) (partIn f st)) ≡ true
   pub waits : why ≡ isSuspended → suspended (left words (f .child) (partIn f st)) values ≡ true
-  pub part : mover < f .form
+  pub part : itself < f .form
   pub shown : f .form ≡ guarded → present values (aAt words k) ≡ true
 
 -- A process whose part in front rests: it rests for that reason, or the limit is reached, or it has made a move.
@@ -103,15 +103,15 @@ pub record CanLeave
   pub node : At words k st
   pub time : at .steps ≤ limit
   pub most : limit ≤ mostSteps
-  pub front : mover < f .form → f ≡ frontOf words k (own st) (length st)
-  pub rests : mover < f .form → Rests words k st values f why
+  pub front : itself < f .form → f ≡ frontOf words k (own st) (length st)
+  pub rests : itself < f .form → Rests words k st values f why
 
 pub record Leaves
     (words : List ℕ) (k : ℕ) (st : List ℕ) (values : List ℤ) (limit : ℕ) (at : Counts) (f : Front) (why : ℕ)
     (st′ : List ℕ) (r : Done) : Type 0 where
-  pub still : f .form ≤ mover → (r ≡ doneAt why (at .steps) (at .lines)) × (st′ ≡ st)
+  pub still : f .form ≤ itself → (r ≡ doneAt why (at .steps) (at .lines)) × (st′ ≡ st)
   pub settles :
-      mover < f .form →
+      itself < f .form →
       Settles limit (left words k st) values (left words k st′) (at .steps) (at .lines) why (r .why) (r .at .steps)
       (r .at .lines)
 
@@ -120,7 +120,7 @@ pub record CanMoveFront
     (words : List ℕ) (k : ℕ) (st : List ℕ) (values : List ℤ) (log : List ℕ) (limit : ℕ) (at : Counts) (moving : Bool)
     : Type 0 where
   pub can : CanMove words k st values log limit at
-  pub front : moving ≡ true → frontOf words k (own st) (length st) .form ≡ mover
+  pub front : moving ≡ true → frontOf words k (own st) (length st) .form ≡ itself
 
 -- A turn of node k: its part stands alone in its place, and nothing is made; or moves are made.
 pub record StandsAlone

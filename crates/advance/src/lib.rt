@@ -51,7 +51,7 @@ fn writes_next(program: &[usize; WORDS], k: usize, tag: u8) -> bool
 fn own_next(form: u8) -> usize
     ensures { λ r. ⌜ r ≡ ownNext form ⌝ }
 {
-    if form == forms::MOVER {
+    if form == forms::ITSELF {
         return MOVING;
     }
     moves::GONE
@@ -64,7 +64,7 @@ fn find_next(program: &[usize; WORDS], values: &[i32], state: &[u8], k: usize) -
 {
     let tag = state[0];
     let form = forms::form_at(program, k, tag);
-    if form <= forms::MOVER {
+    if form <= forms::ITSELF {
         let why = own_next(form);
         let front = Front {
             form,
@@ -102,7 +102,7 @@ fn byte_after(form: u8, why: usize, tag: u8) -> u8
         return 1 - tag;
     }
     if form == forms::WATCHED || form == forms::GUARDED {
-        return forms::NIL;
+        return forms::OVER;
     }
     if why == moves::SUSPENDED {
         return 1 - tag;

@@ -23,7 +23,7 @@ use Rattle.language.specs.Steps.{present, change}
 use Rattle.program.specs.Program.{kindAt}
 use Rattle.program.specs.declared.forms.Front.{Front}
 use Rattle.residual.specs.Residual.{own}
-use Rattle.program.specs.Forms.{gone, mover, watched, guarded, beside, formRows, formOf, frontOf, partIn}
+use Rattle.program.specs.Forms.{nothing, itself, watched, guarded, beside, formRows, formOf, frontOf, partIn}
 use Rattle.residual.specs.Frames.{around}
 use Rattle.residual.specs.Nodes.{left}
 use Rattle.residual.proofs.Sights.{signalAt, own-put, length-put, part-length, part-put}
@@ -73,7 +73,7 @@ below : List ℕ → Bool
 below [] = true
 below (n ∷ ns) = ltb n beside && below ns
 
-below-at : (row : List ℕ) (tag : ℕ) → below row ≡ true → getD row tag gone < beside
+below-at : (row : List ℕ) (tag : ℕ) → below row ≡ true → getD row tag nothing < beside
 unfolding below
 below-at [] tag h = omega arith
 below-at (n ∷ ns) zero h = ltb-true n beside (and-left (ltb n beside) _ h)
@@ -101,7 +101,7 @@ module _ (words : List ℕ) (k len : ℕ) where
   apart e (suc (suc t)) h = absurd (omega arith)
 
 module _ {words : List ℕ} {values : List ℤ} {k : ℕ} {st : List ℕ} {f : Front}
-    (found : Found words values k st f) (some : mover < f .form) (ys : List ℕ) (l : length ys ≡ length (partIn f st)) where
+    (found : Found words values k st f) (some : itself < f .form) (ys : List ℕ) (l : length ys ≡ length (partIn f st)) where
   abbrev one : Part words k st f
   one = front-part found some
 

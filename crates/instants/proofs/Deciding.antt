@@ -16,14 +16,14 @@ use Rattle.program.specs.Program.{nameCount, kindAt}
 use Rattle.program.proofs.Views.{NodeView, aNil, anAssign, aLet, anIf, aWhile, aSequence, anEmit, aLocal, aWatching, aWhen, aParallel, node-view}
 use Rattle.program.specs.declared.forms.Front.{Front}
 use Rattle.residual.specs.Residual.{own, residual}
-use Rattle.program.specs.Forms.{mover, first, second, before, watched, guarded, beside, turned, frontOf, partIn}
+use Rattle.program.specs.Forms.{itself, first, second, before, watched, guarded, beside, turned, frontOf, partIn}
 use Rattle.residual.specs.Frames.{Frame, around}
 use Rattle.residual.specs.Nodes.{Valued, At, left}
 use Rattle.instants.specs.Contracts.{RearWaits}
-use Rattle.residual.proofs.Sights.{Inside, signalAt, Mover, no-mover, Sight, sees-gone, sees-mover, sees-alone, sees-before, sees-watched, sees-guarded, sees-beside, sight, part-length}
+use Rattle.residual.proofs.Sights.{Inside, signalAt, MovesItself, not-itself, Sight, sees-nothing, sees-itself, sees-alone, sees-before, sees-watched, sees-guarded, sees-beside, sight, part-length}
 
 -- the forms of a part alone, and of a parallel
-alone-within : {n : ℕ} → (n ≡ first) ⊎ (n ≡ second) → (mover < n) × (n < before)
+alone-within : {n : ℕ} → (n ≡ first) ⊎ (n ≡ second) → (itself < n) × (n < before)
 alone-within = ⊎-elim (λ e. (omega arith, omega arith)) (λ e. (omega arith, omega arith))
 
 beside-above : {n : ℕ} → (n ≡ beside) ⊎ (n ≡ turned) → guarded < n
@@ -97,19 +97,19 @@ module _ {words : List ℕ} {k : ℕ} {st : List ℕ} (at : At words k st) (f : 
 
 mover-stays :
     {words : List ℕ} {k : ℕ} (st : List ℕ) (values : List ℤ) → NodeView words k → own st ≡ 0 →
-    Mover (kindAt words k) → Stays (left words k st) values false
+    MovesItself (kindAt words k) → Stays (left words k st) values false
 unfolding residual suspended change
 mover-stays st values (aNil e q) o m = rw q (record { waits = refl; same = refl })
 mover-stays st values (anAssign e q x y) o m = rw (q, o) (record { waits = refl; same = refl })
 mover-stays st values (aLet e q x y p) o m = rw (q, o) (record { waits = refl; same = refl })
 mover-stays st values (anIf e q y p r) o m = rw (q, o) (record { waits = refl; same = refl })
 mover-stays st values (aWhile e q y p) o m = rw (q, o) (record { waits = refl; same = refl })
-mover-stays st values (aSequence e q p r) o m = absurd (no-mover m e (inr (inl refl)))
+mover-stays st values (aSequence e q p r) o m = absurd (not-itself m e (inr (inl refl)))
 mover-stays st values (anEmit e q x) o m = rw (q, o) (record { waits = refl; same = refl })
 mover-stays st values (aLocal e q x p) o m = rw (q, o) (record { waits = refl; same = refl })
-mover-stays st values (aWatching e q x p g) o m = absurd (no-mover m e (inr (inr (omega arith))))
-mover-stays st values (aWhen e q x p l) o m = absurd (no-mover m e (inr (inr (omega arith))))
-mover-stays st values (aParallel e q p r) o m = absurd (no-mover m e (inr (inr (omega arith))))
+mover-stays st values (aWatching e q x p g) o m = absurd (not-itself m e (inr (inr (omega arith))))
+mover-stays st values (aWhen e q x p l) o m = absurd (not-itself m e (inr (inr (omega arith))))
+mover-stays st values (aParallel e q p r) o m = absurd (not-itself m e (inr (inr (omega arith))))
 
 module _ {words : List ℕ} {values : List ℤ} {k : ℕ} {st : List ℕ} {f : Front}
     (found : Found words values k st f) where
@@ -118,12 +118,12 @@ module _ {words : List ℕ} {values : List ℤ} {k : ℕ} {st : List ℕ} {f : F
       let at = found .at in
       subst (Sight words k st) (sym (found .front)) (sight words (found .valued .runnable) k (at .known) st (at .whole))
 
-  pub front-part : mover < f .form → Part words k st f
+  pub front-part : itself < f .form → Part words k st f
   front-part = part sees
     where
-      part : Sight words k st f → mover < f .form → Part words k st f
-      part (sees-gone e q) h = absurd (omega arith)
-      part (sees-mover e o m) h = absurd (omega arith)
+      part : Sight words k st f → itself < f .form → Part words k st f
+      part (sees-nothing e q) h = absurd (omega arith)
+      part (sees-itself e o m) h = absurd (omega arith)
       part (sees-alone e i) h = part-of (found .at) f _ i
       part (sees-before e o q i z) h = part-of (found .at) f _ i
       part (sees-watched e n i z) h = part-of (found .at) f _ i
@@ -134,8 +134,8 @@ module _ {words : List ℕ} {values : List ℤ} {k : ℕ} {st : List ℕ} {f : F
   rear-part = part sees
     where
       part : Sight words k st f → beside ≤ f .form → Rear words k st f
-      part (sees-gone e q) h = absurd (omega arith)
-      part (sees-mover e o m) h = absurd (omega arith)
+      part (sees-nothing e q) h = absurd (omega arith)
+      part (sees-itself e o m) h = absurd (omega arith)
       part (sees-alone e i) h = absurd (omega (arith, alone-within e))
       part (sees-before e o q i z) h = absurd (omega arith)
       part (sees-watched e n i z) h = absurd (omega arith)
@@ -143,13 +143,13 @@ module _ {words : List ℕ} {values : List ℤ} {k : ℕ} {st : List ℕ} {f : F
       part (sees-beside e o g u i j z) h =
           record { byte = o; part = rw (← u) (inside-part (found .at) g _ (1 - own st) j); whole = rw (← u) (i .whole) }
 
-  pub ahead : mover < f .form → f .form < beside → Ahead words k st f values
+  pub ahead : itself < f .form → f .form < beside → Ahead words k st f values
   unfolding suspended change
   ahead = part sees
     where
-      part : Sight words k st f → mover < f .form → f .form < beside → Ahead words k st f values
-      part (sees-gone e q) h l = absurd (omega arith)
-      part (sees-mover e o m) h l = absurd (omega arith)
+      part : Sight words k st f → itself < f .form → f .form < beside → Ahead words k st f values
+      part (sees-nothing e q) h l = absurd (omega arith)
+      part (sees-itself e o m) h l = absurd (omega arith)
       part (sees-alone e i) h l =
           record { frame = _; inside = i; waits = λ on p. refl; changes = λ off on p. refl }
       part (sees-before e o q i z) h l =
@@ -165,8 +165,8 @@ module _ {words : List ℕ} {values : List ℤ} {k : ℕ} {st : List ℕ} {f : F
   signalled = part sees
     where
       part : Sight words k st f → watched ≤ f .form → f .form ≤ guarded → Signalled words k st f values
-      part (sees-gone e q) h l = absurd (omega arith)
-      part (sees-mover e o m) h l = absurd (omega arith)
+      part (sees-nothing e q) h l = absurd (omega arith)
+      part (sees-itself e o m) h l = absurd (omega arith)
       part (sees-alone e i) h l = absurd (omega (arith, alone-within e))
       part (sees-before e o q i z) h l = absurd (omega arith)
       part (sees-watched e n i z) h l =
@@ -189,13 +189,13 @@ module _ {words : List ℕ} {values : List ℤ} {k : ℕ} {st : List ℕ} {f : F
   pub shuts : f .form ≡ guarded → present values (signalAt words k) ≡ false → Stays (left words k st) values true
   shuts e = signalled (omega arith) (omega arith) .shuts e
 
-  pub stays : f .form ≤ mover → Stays (left words k st) values false
+  pub stays : f .form ≤ itself → Stays (left words k st) values false
   unfolding suspended change
   stays = part sees
     where
-      part : Sight words k st f → f .form ≤ mover → Stays (left words k st) values false
-      part (sees-gone e q) h = rw q (record { waits = refl; same = refl })
-      part (sees-mover e o m) h =
+      part : Sight words k st f → f .form ≤ itself → Stays (left words k st) values false
+      part (sees-nothing e q) h = rw q (record { waits = refl; same = refl })
+      part (sees-itself e o m) h =
           mover-stays st values (node-view words (found .valued .runnable) k (found .at .known)) o m
       part (sees-alone e i) h = absurd (omega (arith, alone-within e))
       part (sees-before e o q i z) h = absurd (omega arith)
@@ -204,7 +204,7 @@ module _ {words : List ℕ} {values : List ℤ} {k : ℕ} {st : List ℕ} {f : F
       part (sees-beside e o g u i j z) h = absurd (omega (arith, beside-above e))
 
   -- whether it is suspended, where no when is shut
-  module _ (h : mover < f .form) (on : f .form ≡ guarded → present values (signalAt words k) ≡ true) where
+  module _ (h : itself < f .form) (on : f .form ≡ guarded → present values (signalAt words k) ≡ true) where
     abbrev front : Proc ℕ
     front = left words (f .child) (partIn f st)
 

@@ -26,11 +26,11 @@ fn change_instant(program: &[usize; WORDS], values: &[i32], state: &mut [u8], k:
     }
     let tag = state[0];
     let form = form_at(program, k, tag);
-    if form <= forms::MOVER {
+    if form <= forms::ITSELF {
         return;
     }
     if form == forms::WATCHED && evaluation::signal_is_present(program, values, k) {
-        state[0] = forms::NIL;
+        state[0] = forms::OVER;
         return;
     }
     if form == forms::GUARDED && !evaluation::signal_is_present(program, values, k) {

@@ -16,7 +16,7 @@ pub fn is_suspended(program: &[usize; WORDS], values: &[i32], state: &[u8], k: u
 {
     let tag = state[0];
     let form = form_at(program, k, tag);
-    if form <= forms::MOVER {
+    if form <= forms::ITSELF {
         return false;
     }
     if form == forms::GUARDED && !evaluation::signal_is_present(program, values, k) {

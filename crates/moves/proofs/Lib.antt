@@ -1,4 +1,4 @@
 -- Laws that the proofs of several functions use.
 pub mod Framing
 pub mod Advancing
-pub mod Movers
+pub mod OwnMoves

@@ -12,7 +12,7 @@ use Rattle.language.specs.Syntax.{Proc, nil}
 use Rattle.language.specs.Steps.{move}
 use Rattle.language.specs.Calls.{Line, System, lineFor, calledFor}
 use Rattle.program.specs.Program.{mostNames, nodeCount, kindAt, aAt}
-use Rattle.program.specs.Forms.{mover, frontOf}
+use Rattle.program.specs.Forms.{itself, frontOf}
 use Rattle.residual.specs.Residual.{own}
 use Rattle.residual.specs.Nodes.{Valued, At, left}
 use Rattle.moves.specs.declared.log.Noted.{Noted}
@@ -59,7 +59,7 @@ pub record CanMove
 pub record CanMoveOwn
     (words : List ℕ) (k : ℕ) (st : List ℕ) (values : List ℤ) (log : List ℕ) (limit : ℕ) (at : Counts) : Type 0 where
   pub can : CanMove words k st values log limit at
-  pub front : frontOf words k (own st) (length st) .form ≡ mover
+  pub front : frontOf words k (own st) (length st) .form ≡ itself
 
 -- node k is of this kind, and as it is written
 pub record Unmoved (words : List ℕ) (k : ℕ) (st : List ℕ) (values : List ℤ) (n : ℕ) : Type 0 where

@@ -104,7 +104,7 @@ fn move_while(program: &[usize; WORDS], values: &[i32], state: &mut [u8], k: usi
         state[0] = 1;
         clear_body(&mut state[1..]);
     } else {
-        state[0] = forms::NIL;
+        state[0] = forms::OVER;
     }
 }
 
@@ -170,7 +170,7 @@ fn write(
         return Done { why: FULL, at };
     }
     values[x] = value;
-    state[0] = forms::NIL;
+    state[0] = forms::OVER;
     Done {
         why: GONE,
         at: Counts {

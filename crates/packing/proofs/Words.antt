@@ -1,11 +1,10 @@
 -- What was packed into a word is what it tells.
--- Assumes nothing.
-use mathlib.Core.Path.{_≡_}
+use mathlib.Core.Path.{_≡_, refl, ap, _∙_}
 use mathlib.Core.Bool.{Bool, true, false}
 use Prim.Native.Nat.{ℕ, zero, suc, _+_, _*_, _/_, _%_, _^_, _<_}
 use native.Mathlib.Omega.{arith}
 use lib.Dec.{eqb}
-use Rattle.packing.specs.Packing.{formIn, aIn, bIn, firstIn, sizeIn, nodeKindIn, watchesIn, packedFields, marked, packed, levelIn, signalIn, sessionIn, named}
+use Rattle.packing.specs.Packing.{formIn, aIn, bIn, firstIn, sizeIn, nodeKindIn, watchesIn, packedFields, marked, packed, levelIn, signalIn, sessionIn, seenIn, bit, named}
 
 -- the forms are the lowest 16 bits
 pub low : (forms rest tag : ℕ) → tag < 4 → formIn (forms + 65536 * rest) tag ≡ formIn forms tag
@@ -50,16 +49,33 @@ module _ (forms a b first size kind : ℕ) (few : forms < 65536) (fits : kind < 
       let e : made forms kind a b first size few / 2 ^ 63 ≡ 0 = omega (arith, few, fits) in
       rw e
 
+-- a bit that was packed
+bit-told : (b : Bool) → eqb (bit b) 1 ≡ b
+bit-told true = refl
+bit-told false = refl
+
+pub bit-small : (b : Bool) → bit b < 2
+bit-small true = omega arith
+bit-small false = omega arith
+
 -- the word of a name
-module _ (level kind : ℕ) (h : level < 256) (k : kind < 2) where
-  pub level-told : (b : Bool) → levelIn (named level kind b) ≡ level
-  level-told true = omega (arith, h, k)
-  level-told false = omega (arith, h, k)
+module _ (level kind : ℕ) (session seen : Bool) (h : level < 256) (k : kind < 2) where
+  abbrev named-so : ℕ
+  named-so = named level kind session seen
 
-  pub signal-told : (b : Bool) → signalIn (named level kind b) ≡ eqb kind 1
-  signal-told true = let e : named level kind true / 256 % 2 ≡ kind = omega (arith, h, k) in rw e
-  signal-told false = let e : named level kind false / 256 % 2 ≡ kind = omega (arith, h, k) in rw e
+  pub level-told : levelIn named-so ≡ level
+  level-told = omega (arith, h, k, bit-small session)
 
-  pub session-told : (b : Bool) → sessionIn (named level kind b) ≡ b
-  session-told true = let e : named level kind true / 512 ≡ 1 = omega (arith, h, k) in rw e
-  session-told false = let e : named level kind false / 512 ≡ 0 = omega (arith, h, k) in rw e
+  pub signal-told : signalIn named-so ≡ eqb kind 1
+  signal-told =
+      let e : named-so / 256 % 2 ≡ kind = omega (arith, h, k, bit-small session) in ap (λ n. eqb n 1) e
+
+  pub session-told : sessionIn named-so ≡ session
+  session-told =
+      let e : named-so / 512 % 2 ≡ bit session = omega (arith, h, k, bit-small session, bit-small seen) in
+      ap (λ n. eqb n 1) e ∙ bit-told session
+
+  pub seen-told : seenIn named-so ≡ seen
+  seen-told =
+      let e : named-so / 1024 ≡ bit seen = omega (arith, h, k, bit-small session, bit-small seen) in
+      ap (λ n. eqb n 1) e ∙ bit-told seen

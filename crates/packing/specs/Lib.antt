@@ -1,2 +1,2 @@
--- The words of a plan, as numbers.
+-- The words of a program, as numbers.
 pub mod Packing

@@ -1,4 +1,4 @@
--- The words of a plan, as numbers: what each tells, and a word that tells it.
+-- The words of a program, as numbers: what each tells, and a word that tells it.
 use mathlib.Core.Bool.{Bool, cond}
 use Prim.Native.Nat.{ℕ, _+_, _*_, _/_, _%_, _^_}
 use lib.Dec.{eqb}
@@ -53,7 +53,7 @@ marked kind watches = cond watches (kind + 128) kind
 abbrev pub packed : ℕ → ℕ → ℕ → ℕ
 packed forms fields kind = forms + 2 ^ 16 * (fields + 2 ^ 40 * kind)
 
--- what the word of a name tells: its level, whether it is a signal, whether it is the session's
+-- what the word of a name tells: its level, whether it is a signal, whether it is the session's, whether the reader sees it
 abbrev pub levelIn : ℕ → ℕ
 levelIn w = w % 256
 
@@ -61,11 +61,17 @@ abbrev pub signalIn : ℕ → Bool
 signalIn w = eqb (w / 256 % 2) 1
 
 abbrev pub sessionIn : ℕ → Bool
-sessionIn w = eqb (w / 512) 1
+sessionIn w = eqb (w / 512 % 2) 1
+
+abbrev pub seenIn : ℕ → Bool
+seenIn w = eqb (w / 1024) 1
 
 -- a word that tells these
-abbrev pub named : ℕ → ℕ → Bool → ℕ
-named level kind session = cond session (level + 256 * kind + 512) (level + 256 * kind)
+abbrev pub bit : Bool → ℕ
+bit b = cond b 1 0
+
+abbrev pub named : ℕ → ℕ → Bool → Bool → ℕ
+named level kind session seen = level + 256 * (kind + 2 * (bit session + 2 * bit seen))
 
 -- what the word of the counts tells: how many names, expressions and nodes there are
 abbrev pub namesIn : ℕ → ℕ

@@ -2,10 +2,10 @@
 // (16 each), then the kind; that of a node the forms (four bits for each byte of state), field a (a name or an expression),
 // field b (an expression or the second child), the first child, the size of the first (10 bits each), the kind (7 bits),
 // and whether a watching stands in the node; that of a name its level (8 bits), whether it is a signal, whether it is the
-// session's; that of the counts how many names, expressions and nodes there are (16 bits each).
+// session's, whether the reader sees it; that of the counts how many names, expressions and nodes there are (16 bits each).
 ghost use mathlib.Core.Path.{_≡_};
 ghost use Prim.Native.Nat.{_<_};
-ghost use Rattle.packing.specs.Packing.{kindIn, constantIn, operandIn, laterIn, spelled, formIn, aIn, bIn, firstIn, sizeIn, nodeKindIn, watchesIn, packedFields, marked, packed, levelIn, signalIn, sessionIn, named, namesIn, expressionsIn, nodesIn, counted};
+ghost use Rattle.packing.specs.Packing.{kindIn, constantIn, operandIn, laterIn, spelled, formIn, aIn, bIn, firstIn, sizeIn, nodeKindIn, watchesIn, packedFields, marked, packed, signalIn, sessionIn, seenIn, bit, named, namesIn, expressionsIn, nodesIn, counted};
 
 // The bit above the kind of a node: a watching stands in it.
 const MARK: usize = 128;
@@ -121,18 +121,31 @@ pub fn is_signal_in(w: usize) -> bool
 pub fn is_session_in(w: usize) -> bool
     ensures { λ r. ⌜ r ≡ sessionIn w ⌝ }
 {
-    w >> 9 == 1
+    (w >> 9) % 2 == 1
 }
 
-pub fn name(level: usize, kind: usize, session: bool) -> usize
-    requires { ⌜ (level < 256) × (kind < 2) ⌝ }
-    ensures { λ r. ⌜ r ≡ named level kind session ⌝ }
+pub fn is_seen_in(w: usize) -> bool
+    ensures { λ r. ⌜ r ≡ seenIn w ⌝ }
 {
-    let w = level + 256 * kind;
-    if session {
-        return w + 512;
+    w >> 10 == 1
+}
+
+fn bit_of(b: bool) -> usize
+    ensures { λ r. ⌜ (r ≡ bit b) × (r < 2) ⌝ }
+{
+    if b {
+        return 1;
     }
-    w
+    0
+}
+
+pub fn name(level: usize, kind: usize, session: bool, seen: bool) -> usize
+    requires { ⌜ (level < 256) × (kind < 2) ⌝ }
+    ensures { λ r. ⌜ r ≡ named level kind session seen ⌝ }
+{
+    let own = bit_of(session);
+    let read = bit_of(seen);
+    level + 256 * (kind + 2 * (own + 2 * read))
 }
 
 // What the word of the counts tells.

@@ -18,7 +18,7 @@ use Rattle.prelude.proofs.Searches.{all-elim}
 use Rattle.packing.specs.Packing.{sizeIn}
 use Rattle.program.specs.declared.forms.Front.{Front}
 use Rattle.program.specs.Program.{nodeWord, kindAt, firstAt, secondAt}
-use Rattle.program.specs.Forms.{gone, mover, beside, turned, formRows, formOf, fromSecond, frontOf}
+use Rattle.program.specs.Forms.{nothing, itself, beside, turned, formRows, formOf, fromSecond, frontOf}
 
 -- a number that is none of the first n
 pub past-all : (n k : ℕ) → Each (λ m. k ≡ m → ⊥) n → n ≤ k
@@ -33,9 +33,9 @@ short : (kind : ℕ) → kind < 11 → length (getD formRows kind []) ≤ 4
 unfolding all any search-for.first firstFrom
 short kind h = leb-true _ _ (all-elim (λ k. leb (length (getD formRows k [])) 4) 11 refl kind h)
 
-pub form-past : (kind tag : ℕ) → kind < 11 → 4 ≤ tag → gone ≡ formOf kind tag
+pub form-past : (kind tag : ℕ) → kind < 11 → 4 ≤ tag → nothing ≡ formOf kind tag
 form-past kind tag h l =
-    sym (List·getD-eq-default {A = ℕ} (getD formRows kind []) gone {n = tag} (le-trans (short kind h) l))
+    sym (List·getD-eq-default {A = ℕ} (getD formRows kind []) nothing {n = tag} (le-trans (short kind h) l))
 
 -- a parallel has two forms, by its byte
 abbrev turns : ℕ → ℕ → Bool
@@ -67,7 +67,7 @@ module _ (words : List ℕ) (k tag len : ℕ) where
   pub front-form : frontOf words k tag len .form ≡ formOf (kindAt words k) tag
   unfolding frontOf
   front-form =
-      by-cases (λ (f : Front). f .form ≡ formOf (kindAt words k) tag) (leb (formOf (kindAt words k) tag) mover)
+      by-cases (λ (f : Front). f .form ≡ formOf (kindAt words k) tag) (leb (formOf (kindAt words k) tag) itself)
       (λ _. refl)
       (λ _.
       by-cases (λ (f : Front). f .form ≡ formOf (kindAt words k) tag) (fromSecond (formOf (kindAt words k) tag))
@@ -75,13 +75,13 @@ module _ (words : List ℕ) (k tag len : ℕ) where
 
   -- the front that is found
   module _ {form : ℕ} (f : form ≡ formOf (kindAt words k) tag) where
-    pub front-none : form ≤ mover → record { form = form; child = 0; from = 0; to = 0 } ≡ frontOf words k tag len
+    pub front-none : form ≤ itself → record { form = form; child = 0; from = 0; to = 0 } ≡ frontOf words k tag len
     unfolding frontOf
-    front-none l = rw (f, le-leb (formOf (kindAt words k) tag) mover (subst (λ x. x ≤ mover) f l))
+    front-none l = rw (f, le-leb (formOf (kindAt words k) tag) itself (subst (λ x. x ≤ itself) f l))
 
-    module _ (l : mover < form) {n : ℕ} (m : n ≡ sizeIn (nodeWord words k)) where
-      more : leb (formOf (kindAt words k) tag) mover ≡ false
-      more = lt-leb (formOf (kindAt words k) tag) mover (subst (λ x. mover < x) f l)
+    module _ (l : itself < form) {n : ℕ} (m : n ≡ sizeIn (nodeWord words k)) where
+      more : leb (formOf (kindAt words k) tag) itself ≡ false
+      more = lt-leb (formOf (kindAt words k) tag) itself (subst (λ x. itself < x) f l)
 
       pub front-second :
           {two : ℕ} → two ≡ secondAt words k → fromSecond form ≡ true →

@@ -15,8 +15,8 @@ nodeOf kind a b first size = packed (formsOf kind) (packedFields a b first size)
 abbrev pub twoSignals : List ℕ
 twoSignals =
     counted 2 0 3
-    ∷ named 3 1 true
-    ∷ named 5 1 false
+    ∷ named 3 1 true true
+    ∷ named 5 1 false false
     ∷ (replicate (nodeStart - 3) 0 ++ (nodeOf 6 0 0 0 0 ∷ nodeOf 6 1 0 0 0 ∷ nodeOf 5 0 1 0 1 ∷ []))
 
 abbrev pub TwoSignals : Type 0

@@ -9,12 +9,12 @@ use Rattle.program.specs.declared.forms.Front.{Front}
 use Rattle.program.specs.Program.{nodeWord, kindAt, firstAt, secondAt}
 
 -- nil
-abbrev pub gone : ℕ
-gone = 0
+abbrev pub nothing : ℕ
+nothing = 0
 
 -- the node's own move is next: assign, let, if, while, emit, local
-abbrev pub mover : ℕ
-mover = 1
+abbrev pub itself : ℕ
+itself = 1
 
 -- the first part alone, or the second
 abbrev pub first : ℕ
@@ -44,13 +44,13 @@ turned = 8
 abbrev pub formRows : List (List ℕ)
 formRows =
     []
-    ∷ (mover ∷ [])
-    ∷ (mover ∷ first ∷ [])
-    ∷ (mover ∷ first ∷ second ∷ [])
-    ∷ (mover ∷ before ∷ [])
+    ∷ (itself ∷ [])
+    ∷ (itself ∷ first ∷ [])
+    ∷ (itself ∷ first ∷ second ∷ [])
+    ∷ (itself ∷ before ∷ [])
     ∷ (before ∷ second ∷ [])
-    ∷ (mover ∷ [])
-    ∷ (mover ∷ first ∷ [])
+    ∷ (itself ∷ [])
+    ∷ (itself ∷ first ∷ [])
     ∷ (watched ∷ [])
     ∷ (guarded ∷ [])
     ∷ (beside ∷ turned ∷ first ∷ second ∷ [])
@@ -58,7 +58,7 @@ formRows =
 
 -- the form of a node of this kind with this byte of its own
 abbrev pub formOf : ℕ → ℕ → ℕ
-formOf kind tag = getD (getD formRows kind []) tag gone
+formOf kind tag = getD (getD formRows kind []) tag nothing
 
 -- the second part is in front
 abbrev pub fromSecond : ℕ → Bool
@@ -71,7 +71,7 @@ frontOf words k tag len =
     let form : ℕ = formOf (kindAt words k) tag in
     let middle : ℕ = 1 + sizeIn (nodeWord words k) in
     cond
-    (leb form mover)
+    (leb form itself)
     (record { form = form; child = 0; from = 0; to = 0 })
     (cond
     (fromSecond form)

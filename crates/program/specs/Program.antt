@@ -1,6 +1,7 @@
 -- A program: a word with the counts, then a word for each name, each expression and each node. Names, expressions and
 -- processes are read off the words: 'operands and child nodes have smaller numbers than their parent', so each is made of
 -- earlier ones.
+use mathlib.Core.Bool.{Bool}
 use mathlib.Core.List.{List, [], _∷_}
 use Prim.Native.Nat.{ℕ, _+_, _-_}
 use lib.IntN.{ℤ, pos}
@@ -9,7 +10,7 @@ use mir.Syntax.{w32}
 use mir.Val.{toZ}
 use Rattle.prelude.specs.Course.{entry}
 use Rattle.language.specs.Syntax.{Names, add, subtract, multiply, divide, less, equal, Exp, constant, register, binary, negated, Proc, nil, assign, letIn, ifThenElse, while, sequence, emit, local, watching, when, parallel}
-use Rattle.packing.specs.Packing.{kindIn, constantIn, operandIn, laterIn, aIn, bIn, firstIn, sizeIn, nodeKindIn, levelIn, signalIn, sessionIn, namesIn, expressionsIn, nodesIn}
+use Rattle.packing.specs.Packing.{kindIn, constantIn, operandIn, laterIn, aIn, bIn, firstIn, sizeIn, nodeKindIn, levelIn, signalIn, sessionIn, seenIn, namesIn, expressionsIn, nodesIn}
 
 -- 'at most 64 names, 256 expressions, 256 nodes'
 abbrev pub mostNames : ℕ
@@ -76,6 +77,10 @@ module _ (words : List ℕ) where
         level = λ x. levelIn (nameWord x);
         isSession = λ x. sessionIn (nameWord x);
       }
+
+  -- the names that the reader sees
+  abbrev pub seenBy : ℕ → Bool
+  seenBy x = seenIn (nameWord x)
 
 -- the expressions of the nine kinds, in the order of their numbers
 abbrev pub expressionsFrom : ℕ → (ℕ → Exp) → List Exp

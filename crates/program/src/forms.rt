@@ -7,9 +7,9 @@ ghost use Rattle.program.specs.Forms.{beside, formOf, frontOf, formsOf};
 ghost use Rattle.program.specs.Runnable.{Runnable};
 
 // Nil.
-pub const GONE: u8 = 0;
+pub const NOTHING: u8 = 0;
 // The node's own move is next.
-pub const MOVER: u8 = 1;
+pub const ITSELF: u8 = 1;
 // The first part alone, or the second.
 pub const FIRST: u8 = 2;
 
@@ -33,13 +33,13 @@ const TWO: usize = 256;
 
 const THREE: usize = 4096;
 
-const WRITER: usize = MOVER as usize;
+const WRITER: usize = ITSELF as usize;
 
-const DECLARATION: usize = (MOVER as usize) + ONE * (FIRST as usize);
+const DECLARATION: usize = (ITSELF as usize) + ONE * (FIRST as usize);
 
-const CHOICE: usize = (MOVER as usize) + ONE * (FIRST as usize) + TWO * (SECOND as usize);
+const CHOICE: usize = (ITSELF as usize) + ONE * (FIRST as usize) + TWO * (SECOND as usize);
 
-const LOOP: usize = (MOVER as usize) + ONE * (BEFORE as usize);
+const LOOP: usize = (ITSELF as usize) + ONE * (BEFORE as usize);
 
 const SEQUENCE: usize = (BEFORE as usize) + ONE * (SECOND as usize);
 
@@ -53,7 +53,7 @@ const PARALLEL: usize = (BESIDE as usize)
     + THREE * (SECOND as usize);
 
 // A byte past all forms: the node is nil.
-pub const NIL: u8 = 4;
+pub const OVER: u8 = 4;
 
 // The part in front: its node, and where its bytes stand among those of its parent.
 pub struct Front {
@@ -88,8 +88,8 @@ pub fn form_at(program: &[usize; WORDS], k: usize, tag: u8) -> u8
     requires { ⌜ Runnable (now program) × (k < nodeCount (now program)) ⌝ }
     ensures { λ r. ⌜ r ≡ formOf (kindAt (now (program .entry)) k) tag ⌝ }
 {
-    if NIL <= tag {
-        return GONE;
+    if OVER <= tag {
+        return NOTHING;
     }
     packing::form_in(crate::word_at(program, k), prelude::wide(tag)) as u8
 }
@@ -100,7 +100,7 @@ pub fn find_front(program: &[usize; WORDS], k: usize, tag: u8, len: usize) -> Fr
     ensures { λ r. ⌜ r ≡ frontOf (now (program .entry)) k tag len ⌝ }
 {
     let form = form_at(program, k, tag);
-    if form <= MOVER {
+    if form <= ITSELF {
         return Front {
             form,
             child: 0,

@@ -4,7 +4,7 @@ pub mod forms; // forms.rt: the form that a node has come to
 
 ghost use mathlib.Core.Path.{_≡_};
 ghost use Prim.Native.Nat.{_<_};
-ghost use Rattle.program.specs.Program.{mostNames, mostExpressions, mostNodes, nameCount, nodeCount, nameWord, expressionWord, nodeWord, kindAt, aAt, bAt};
+ghost use Rattle.program.specs.Program.{mostNames, mostExpressions, mostNodes, nameCount, nodeCount, nameWord, seenBy, expressionWord, nodeWord, kindAt, aAt, bAt};
 ghost use Rattle.packing.specs.Packing.{watchesIn, signalIn, sessionIn};
 
 // Where the words stand: the counts, the names, the expressions, the nodes.
@@ -42,6 +42,13 @@ pub fn is_session(program: &[usize; WORDS], x: usize) -> bool
     ensures { λ r. ⌜ r ≡ sessionIn (nameWord (now (program .entry)) x) ⌝ }
 {
     packing::is_session_in(program[NAMES + x])
+}
+
+pub fn is_seen(program: &[usize; WORDS], x: usize) -> bool
+    requires { ⌜ x < mostNames ⌝ }
+    ensures { λ r. ⌜ r ≡ seenBy (now (program .entry)) x ⌝ }
+{
+    packing::is_seen_in(program[NAMES + x])
 }
 
 pub fn expression_at(program: &[usize; WORDS], e: usize) -> usize

@@ -16,7 +16,7 @@ use Rattle.program.specs.Runnable.{FirstPart, Runnable}
 use Rattle.program.proofs.Views.{NodeView, aNil, anAssign, aLet, anIf, aWhile, aSequence, anEmit, aLocal, aWatching, aWhen, aParallel, node-view}
 use Rattle.program.specs.declared.forms.Front.{Front}
 use Rattle.residual.specs.Residual.{own, firstOf, secondOf, residual}
-use Rattle.program.specs.Forms.{gone, mover, first, second, before, watched, guarded, beside, turned, frontOf, partIn}
+use Rattle.program.specs.Forms.{nothing, itself, first, second, before, watched, guarded, beside, turned, frontOf, partIn}
 use Rattle.residual.specs.Frames.{Frame, alone, beforeThe, watchedBy, guardedBy, besideThe, around}
 use Rattle.residual.proofs.Residuals.{residual-leaves}
 
@@ -37,20 +37,20 @@ abbrev pub signalAt : List ℕ → ℕ → ℕ
 signalAt words k = aAt words k
 
 -- assign, let, if, while, emit or local
-pub record Mover (kind : ℕ) : Type 0 where
+pub record MovesItself (kind : ℕ) : Type 0 where
   pub others :
       (kind ≡ 1 → ⊥) → (kind ≡ 2 → ⊥) → (kind ≡ 3 → ⊥) → (kind ≡ 4 → ⊥) → (kind ≡ 6 → ⊥) → kind ≡ 7
 
 -- nil, sequence, watching, when and parallel have none
-pub no-mover : {kind n : ℕ} → Mover kind → kind ≡ n → (n ≡ 0) ⊎ ((n ≡ 5) ⊎ (8 ≤ n)) → ⊥
-no-mover m e (inl q) = omega (arith, e, q, m .others (λ x. omega (arith, e, q, x)) (λ x. omega (arith, e, q, x)) (λ x. omega (arith, e, q, x)) (λ x. omega (arith, e, q, x)) (λ x. omega (arith, e, q, x)))
-no-mover m e (inr (inl q)) = omega (arith, e, q, m .others (λ x. omega (arith, e, q, x)) (λ x. omega (arith, e, q, x)) (λ x. omega (arith, e, q, x)) (λ x. omega (arith, e, q, x)) (λ x. omega (arith, e, q, x)))
-no-mover m e (inr (inr q)) = omega (arith, e, q, m .others (λ x. omega (arith, e, q, x)) (λ x. omega (arith, e, q, x)) (λ x. omega (arith, e, q, x)) (λ x. omega (arith, e, q, x)) (λ x. omega (arith, e, q, x)))
+pub not-itself : {kind n : ℕ} → MovesItself kind → kind ≡ n → (n ≡ 0) ⊎ ((n ≡ 5) ⊎ (8 ≤ n)) → ⊥
+not-itself m e (inl q) = omega (arith, e, q, m .others (λ x. omega (arith, e, q, x)) (λ x. omega (arith, e, q, x)) (λ x. omega (arith, e, q, x)) (λ x. omega (arith, e, q, x)) (λ x. omega (arith, e, q, x)))
+not-itself m e (inr (inl q)) = omega (arith, e, q, m .others (λ x. omega (arith, e, q, x)) (λ x. omega (arith, e, q, x)) (λ x. omega (arith, e, q, x)) (λ x. omega (arith, e, q, x)) (λ x. omega (arith, e, q, x)))
+not-itself m e (inr (inr q)) = omega (arith, e, q, m .others (λ x. omega (arith, e, q, x)) (λ x. omega (arith, e, q, x)) (λ x. omega (arith, e, q, x)) (λ x. omega (arith, e, q, x)) (λ x. omega (arith, e, q, x)))
 
 -- node k with the bytes st, form by form
 pub data Sight (words : List ℕ) (k : ℕ) (st : List ℕ) (f : Front) : Type 0 where
-  sees-gone : f .form ≡ gone → residual (processOf words k) st ≡ nil → Sight words k st f
-  sees-mover : f .form ≡ mover → own st ≡ 0 → Mover (kindAt words k) → Sight words k st f
+  sees-nothing : f .form ≡ nothing → residual (processOf words k) st ≡ nil → Sight words k st f
+  sees-itself : f .form ≡ itself → own st ≡ 0 → MovesItself (kindAt words k) → Sight words k st f
   sees-alone : (f .form ≡ first) ⊎ (f .form ≡ second) → Inside words k st f alone → Sight words k st f
   sees-before :
       f .form ≡ before → own st ≤ 1 → (q : Proc ℕ) → Inside words k st f (beforeThe q) →
@@ -224,29 +224,29 @@ module _ (words : List ℕ) (k : ℕ) (st : List ℕ) where
 
     see-nil : kind ≡ 0 → processOf words k ≡ nil → Seen
     unfolding residual frontOf
-    see-nil e q = rw e (sees-gone refl (rw q))
+    see-nil e q = rw e (sees-nothing refl (rw q))
 
     see-assign : {x : ℕ} {y : Exp} → kind ≡ 1 → processOf words k ≡ assign x y → (tag : ℕ) → own st ≡ tag → Seen
     unfolding residual frontOf
-    see-assign e q zero o = rw (e, o) (sees-mover refl o (omega (arith, e)))
-    see-assign e q (suc t) o = rw (e, o) (sees-gone refl (rw (q, o)))
+    see-assign e q zero o = rw (e, o) (sees-itself refl o (omega (arith, e)))
+    see-assign e q (suc t) o = rw (e, o) (sees-nothing refl (rw (q, o)))
 
     see-let :
         {x δ : ℕ} {y : Exp} → kind ≡ 2 → processOf words k ≡ letIn x δ y (processOf words i) → FirstPart words k →
         (tag : ℕ) → own st ≡ tag → Seen
     unfolding residual frontOf size
-    see-let e q l zero o = rw (e, o) (sees-mover refl o (omega (arith, e)))
+    see-let e q l zero o = rw (e, o) (sees-itself refl o (omega (arith, e)))
     see-let e q l (suc zero) o =
         rw (e, o, l .sized)
         (sees-alone (inl refl)
         (first-inside words i k st alone first (l .before) (omega (arith, length-is q)) (λ bytes t r. rw (q, t, o))))
-    see-let e q l (suc (suc t)) o = rw (e, o) (sees-gone refl (rw (q, o)))
+    see-let e q l (suc (suc t)) o = rw (e, o) (sees-nothing refl (rw (q, o)))
 
     see-if :
         {y : Exp} → kind ≡ 3 → processOf words k ≡ ifThenElse y (processOf words i) (processOf words j) → FirstPart words k → j < k →
         (tag : ℕ) → own st ≡ tag → Seen
     unfolding residual frontOf size
-    see-if e q l m zero o = rw (e, o) (sees-mover refl o (omega (arith, e)))
+    see-if e q l m zero o = rw (e, o) (sees-itself refl o (omega (arith, e)))
     see-if e q l m (suc zero) o =
         rw (e, o, l .sized)
         (sees-alone (inl refl)
@@ -255,19 +255,19 @@ module _ (words : List ℕ) (k : ℕ) (st : List ℕ) where
         rw (e, o, l .sized)
         (sees-alone (inr refl)
         (second-inside words i k st alone second j (length st) m refl (length-is q) (λ bytes t r. rw (q, t, o))))
-    see-if e q l m (suc (suc (suc t))) o = rw (e, o) (sees-gone refl (rw (q, o)))
+    see-if e q l m (suc (suc (suc t))) o = rw (e, o) (sees-nothing refl (rw (q, o)))
 
     see-while :
         {y : Exp} → kind ≡ 4 → processOf words k ≡ while y (processOf words i) → FirstPart words k → (tag : ℕ) → own st ≡ tag → Seen
     unfolding residual frontOf size
-    see-while e q l zero o = rw (e, o) (sees-mover refl o (omega (arith, e)))
+    see-while e q l zero o = rw (e, o) (sees-itself refl o (omega (arith, e)))
     see-while {y} e q l (suc zero) o =
         let loop : Proc ℕ = while y (processOf words i) in
         rw (e, o, l .sized)
         (sees-before refl (omega arith) loop
         (first-inside words i k st (beforeThe loop) before (l .before) (omega (arith, length-is q)) (λ bytes t r. rw (q, t, o)))
         (rw (q, getD-set-same st 0 (1 - own st) 0 (omega (arith, length-is q)), o)))
-    see-while e q l (suc (suc t)) o = rw (e, o) (sees-gone refl (rw (q, o)))
+    see-while e q l (suc (suc t)) o = rw (e, o) (sees-nothing refl (rw (q, o)))
 
     see-sequence :
         kind ≡ 5 → processOf words k ≡ sequence (processOf words i) (processOf words j) → FirstPart words k → j < k →
@@ -284,22 +284,22 @@ module _ (words : List ℕ) (k : ℕ) (st : List ℕ) where
         rw (e, o, l .sized)
         (sees-alone (inr refl)
         (second-inside words i k st alone second j (length st) m refl (length-is q) (λ bytes t r. rw (q, t, o))))
-    see-sequence e q l m (suc (suc t)) o = rw (e, o) (sees-gone refl (rw (q, o)))
+    see-sequence e q l m (suc (suc t)) o = rw (e, o) (sees-nothing refl (rw (q, o)))
 
     see-emit : {x : ℕ} → kind ≡ 6 → processOf words k ≡ emit x → (tag : ℕ) → own st ≡ tag → Seen
     unfolding residual frontOf
-    see-emit e q zero o = rw (e, o) (sees-mover refl o (omega (arith, e)))
-    see-emit e q (suc t) o = rw (e, o) (sees-gone refl (rw (q, o)))
+    see-emit e q zero o = rw (e, o) (sees-itself refl o (omega (arith, e)))
+    see-emit e q (suc t) o = rw (e, o) (sees-nothing refl (rw (q, o)))
 
     see-local :
         {x δ : ℕ} → kind ≡ 7 → processOf words k ≡ local x δ (processOf words i) → FirstPart words k → (tag : ℕ) → own st ≡ tag → Seen
     unfolding residual frontOf size
-    see-local e q l zero o = rw (e, o) (sees-mover refl o (omega (arith, e)))
+    see-local e q l zero o = rw (e, o) (sees-itself refl o (omega (arith, e)))
     see-local e q l (suc zero) o =
         rw (e, o, l .sized)
         (sees-alone (inl refl)
         (first-inside words i k st alone first (l .before) (omega (arith, length-is q)) (λ bytes t r. rw (q, t, o))))
-    see-local e q l (suc (suc t)) o = rw (e, o) (sees-gone refl (rw (q, o)))
+    see-local e q l (suc (suc t)) o = rw (e, o) (sees-nothing refl (rw (q, o)))
 
     see-watching :
         kind ≡ 8 → processOf words k ≡ watching a (processOf words i) → a < nameCount words → FirstPart words k → (tag : ℕ) → own st ≡ tag → Seen
@@ -309,7 +309,7 @@ module _ (words : List ℕ) (k : ℕ) (st : List ℕ) where
         (sees-watched refl n
         (first-inside words i k st (watchedBy a) watched (l .before) (omega (arith, length-is q)) (λ bytes t r. rw (q, t, o)))
         (rw (q, getD-set-same st 0 4 0 (omega (arith, length-is q)))))
-    see-watching e q n l (suc t) o = rw (e, o) (sees-gone refl (rw (q, o)))
+    see-watching e q n l (suc t) o = rw (e, o) (sees-nothing refl (rw (q, o)))
 
     see-when :
         kind ≡ 9 → processOf words k ≡ when a (processOf words i) → a < nameCount words →
@@ -320,7 +320,7 @@ module _ (words : List ℕ) (k : ℕ) (st : List ℕ) where
         (sees-guarded refl n leaves
         (first-inside words i k st (guardedBy a) guarded (l .before) (omega (arith, length-is q)) (λ bytes t r. rw (q, t, o)))
         (rw (q, getD-set-same st 0 4 0 (omega (arith, length-is q)))))
-    see-when e q n leaves l (suc t) o = rw (e, o) (sees-gone refl (rw (q, o)))
+    see-when e q n leaves l (suc t) o = rw (e, o) (sees-nothing refl (rw (q, o)))
 
     module _ (e : kind ≡ 10) (q : processOf words k ≡ parallel (processOf words i) (processOf words j)) (l : FirstPart words k) (m : j < k) where
       abbrev one : Proc ℕ
@@ -386,7 +386,7 @@ module _ (words : List ℕ) (k : ℕ) (st : List ℕ) where
           rw (e, o, l .sized)
           (sees-alone (inr refl)
           (second-inside words i k st alone second j (length st) m refl length-both (λ bytes t r. rw (q, t, o))))
-      see-parallel (suc (suc (suc (suc t)))) o = rw (e, o) (sees-gone refl (rw (q, o)))
+      see-parallel (suc (suc (suc (suc t)))) o = rw (e, o) (sees-nothing refl (rw (q, o)))
 
 pub sight :
     (words : List ℕ) → Runnable words → (k : ℕ) → k < nodeCount words → (st : List ℕ) → length st ≡ size (processOf words k) →

@@ -9,7 +9,7 @@ use borrow.Author.Tests.{not-true, not-false}
 use Rattle.language.specs.Steps.{present}
 use Rattle.program.specs.Program.{kindAt, aAt}
 use Rattle.program.specs.declared.forms.Front.{Front}
-use Rattle.program.specs.Forms.{mover, before, guarded, frontOf}
+use Rattle.program.specs.Forms.{itself, before, guarded, frontOf}
 use Rattle.program.proofs.Fronts.{front-form}
 use Rattle.residual.specs.Residual.{own}
 use Rattle.residual.proofs.Residuals.{some-bytes}
@@ -42,8 +42,8 @@ same-form : (c : tie.After-find-front) → c .before .before .form-at .result �
 same-form c = form-is (c .before .before) ∙ ap (λ (f : Front). f .form) (sym (c .find-front .ensures))
 
 -- a part is in front
-ahead : (c : tie.After-find-front) → mover < c .find-front .result .form
-ahead c = subst (λ n. mover < n) (same-form c) (c .before .if1 .left)
+ahead : (c : tie.After-find-front) → itself < c .find-front .result .form
+ahead c = subst (λ n. itself < n) (same-form c) (c .before .if1 .left)
 
 in-front :
     (c : tie.After-find-front) →

@@ -8,7 +8,7 @@ use denote.Ref.{now}
 use lib.ListN.{set}
 use Prim.Native.Nat.{_<_}
 use Rattle.program.specs.declared.forms.Front.{Front}
-use Rattle.program.specs.Forms.{mover}
+use Rattle.program.specs.Forms.{itself}
 use Rattle.residual.specs.Residual.{own}
 use Rattle.moves.specs.Moves.{Silent}
 use Rattle.residual.specs.Nodes.{left}
@@ -23,7 +23,7 @@ use Rattle.advance.proofs.leave.Tie as tie
 
 -- what is found of the node
 found :
-    (c : tie.Start) → mover < c .args .f .form →
+    (c : tie.Start) → itself < c .args .f .form →
     Found (now (c .args .program)) (now (c .args .values)) (c .args .k) (now (c .args .state)) (c .args .f)
 found c h = record { valued = c .pre .valued; at = c .pre .node; front = c .pre .front h }
 
@@ -38,7 +38,7 @@ moves-on :
     (now (start .args .values))
 moves-on c =
     let start = c .before .before .before in
-    let h : mover < start .args .f .form = omega (arith, c .before .if1 .left) in
+    let h : itself < start .args .f .form = omega (arith, c .before .if1 .left) in
     settles (now (start .args .program)) (start .args .k) (now (start .args .state)) (start .args .f) (now (start .args .values)) (sees (found start h)) (start .pre .rests h) (c .before .if1 .left)
     (λ e.
     ⊎-elim
@@ -69,7 +69,7 @@ same-length c = search needs
 returns-2 : tie.Need-returns-2
 returns-2 c =
     let start = c .before .before .before .before .before .before in
-    let h : mover < start .args .f .form = omega (arith, c .before .before .before .before .if1 .left) in
+    let h : itself < start .args .f .form = omega (arith, c .before .before .before .before .if1 .left) in
     let r = start .pre .rests h in
     record {
       still = λ l. absurd (omega (arith, l, h));
@@ -80,7 +80,7 @@ returns-2 c =
 returns-3 : tie.Need-returns-3
 returns-3 c =
     let start = c .before .before .before .before .before .before in
-    let h : mover < start .args .f .form = omega (arith, c .before .before .before .before .if1 .left) in
+    let h : itself < start .args .f .form = omega (arith, c .before .before .before .before .if1 .left) in
     record {
       still = λ l. absurd (omega (arith, l, h));
       settles = λ _. atLimit refl refl refl refl (moves-on (c .before .before .before) .0) (le-antisymm (start .pre .time) (c .if4 .taken));
@@ -110,7 +110,7 @@ same-length-2 c = search needs
 returns-4 : tie.Need-returns-4
 returns-4 c =
     let start = c .before .before .before .before .before .before .before .before .before in
-    let h : mover < start .args .f .form = omega (arith, c .before .before .before .before .before .before .before .if1 .left) in
+    let h : itself < start .args .f .form = omega (arith, c .before .before .before .before .before .before .before .if1 .left) in
     record {
       still = λ l. absurd (omega (arith, l, h));
       settles = λ _. makesMove refl (add-one (start .args .at .steps)) refl (c .before .before .before .if4 .left) (rw (c .before .byte-after .ensures) (moves-on (c .before .before .before .before .before .before)));

@@ -9,7 +9,7 @@ use borrow.Author.Tests.{not-true, not-false}
 use Rattle.language.specs.Steps.{present}
 use Rattle.program.specs.Program.{processOf}
 use Rattle.program.specs.declared.forms.Front.{Front}
-use Rattle.program.specs.Forms.{mover, watched, guarded, beside, frontOf}
+use Rattle.program.specs.Forms.{itself, watched, guarded, beside, frontOf}
 use Rattle.program.proofs.Fronts.{front-form}
 use Rattle.residual.specs.Residual.{own}
 use Rattle.residual.proofs.Sights.{signalAt}
@@ -88,8 +88,8 @@ some-part :
     (t : ℕ) (c : change-instant-lts.Else2 (R t) (change-instant-at t) change-instant.Post) →
     let start = c .before .before .before .before .before .before in
     let args = start .args in
-    mover < (frontOf (args .program .now) (args .k) (own (args .state .now)) (length (args .state .now))) .form
-some-part t c = subst (λ n. mover < n) (form-is t (c .before)) (c .if2 .left)
+    itself < (frontOf (args .program .now) (args .k) (own (args .state .now)) (length (args .state .now))) .form
+some-part t c = subst (λ n. itself < n) (form-is t (c .before)) (c .if2 .left)
 
 -- no signal ends a watching around its part ..
 silent :
@@ -120,7 +120,7 @@ standing t c =
     record { valued = start .pre .1 .valued; at = start .pre .1 .node; front = c .find-front .ensures }
 
 ahead :
-    (t : ℕ) (c : change-instant-lts.After-find-front (R t) (change-instant-at t) change-instant.Post) → mover < c .find-front .result .form
+    (t : ℕ) (c : change-instant-lts.After-find-front (R t) (change-instant-at t) change-instant.Post) → itself < c .find-front .result .form
 ahead t c = rw (c .find-front .ensures) (some-part t (c .before .before .before))
 
 part :

@@ -4,7 +4,7 @@ use native.Mathlib.Omega.{arith}
 use Rattle.language.specs.Steps.{test}
 use Rattle.program.specs.Program.{kindAt, aAt, expressionOf}
 use Rattle.residual.proofs.Residuals.{some-bytes}
-use Rattle.moves.proofs.Movers.{known, then-moves, else-moves}
+use Rattle.moves.proofs.OwnMoves.{known, then-moves, else-moves}
 use borrow.Author.Needs.{needs}
 use Rattle.moves.proofs.move_if.Statement.{statement}
 use Rattle.moves.proofs.move_if.Tie as tie

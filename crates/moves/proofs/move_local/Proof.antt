@@ -1,7 +1,7 @@
 -- `move_local`: the signal is absent, and the node's byte says that it is in its body.
 use native.Mathlib.Omega.{arith}
 use Rattle.residual.proofs.Residuals.{some-bytes}
-use Rattle.moves.proofs.Movers.{known, local-moves}
+use Rattle.moves.proofs.OwnMoves.{known, local-moves}
 use borrow.Author.Needs.{fits-under}
 use borrow.Author.Needs.{needs}
 use Rattle.moves.proofs.move_local.Statement.{statement}

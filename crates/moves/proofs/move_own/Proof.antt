@@ -12,11 +12,11 @@ use lib.ListN.{length}
 use Rattle.program.specs.Program.{nameCount, kindAt, aAt}
 use Rattle.residual.specs.Residual.{own}
 use Rattle.residual.proofs.Residuals.{some-bytes}
-use Rattle.residual.proofs.Sights.{Mover, sight}
+use Rattle.residual.proofs.Sights.{MovesItself, sight}
 use Rattle.moves.specs.Moves.{spent}
 use Rattle.moves.specs.Contracts.{isWriter, IsWriter, runningAt}
 use Rattle.moves.proofs.Advancing.{ended, again}
-use Rattle.moves.proofs.Movers.{known, is-mover, writer-is, writer-was, is-silent, mover-live}
+use Rattle.moves.proofs.OwnMoves.{known, is-itself, writer-is, writer-was, is-silent, itself-live}
 use borrow.Author.Needs.{needs}
 use Rattle.moves.proofs.move_own.Statement.{statement}
 use Rattle.moves.proofs.move_own.Tie as tie
@@ -24,9 +24,9 @@ use Rattle.moves.proofs.move_own.Tie as tie
 -- the node is as its form tells
 moves-itself :
     (c : tie.Start) →
-    (own (c .args .state .now) ≡ 0) × Mover (kindAt (c .args .program .now) (c .args .k))
+    (own (c .args .state .now) ≡ 0) × MovesItself (kindAt (c .args .program .now) (c .args .k))
 moves-itself c =
-    is-mover
+    is-itself
     (sight (c .args .program .now) (c .pre .can .valued .runnable) (c .args .k) (c .pre .can .node .known) (c .args .state .now) (c .pre .can .node .whole))
     (c .pre .front)
 
@@ -52,7 +52,7 @@ returns c =
     record {
       made =
           ended (start .pre .can .counted .time) (lines-within start) (λ e. absurd (omega (arith, e)))
-          (spent refl (mover-live (start .args .program .now) (start .pre .can .valued .runnable) (start .args .k) (start .pre .can .node .known)
+          (spent refl (itself-live (start .args .program .now) (start .pre .can .valued .runnable) (start .args .k) (start .pre .can .node .known)
           (start .args .state .now) (some-bytes (start .pre .can .node)) (moves-itself start .0) (start .args .values .now) (moves-itself start .1))
           (le-antisymm (start .pre .can .counted .time) (c .if1 .taken)));
       some = λ _. omega arith;
@@ -114,7 +114,7 @@ move-silently-requires c κs =
         kind = sym (c .before .before .before .before .kind-at .ensures);
         clear = moves-itself start .0;
       },
-      is-silent (subst Mover (sym (c .before .before .before .before .kind-at .ensures)) (moves-itself start .1)) (sym (c .before .before .before .is-writer .ensures) ∙ c .before .before .if2 .left),
+      is-silent (subst MovesItself (sym (c .before .before .before .before .kind-at .ensures)) (moves-itself start .1)) (sym (c .before .before .before .is-writer .ensures) ∙ c .before .before .if2 .left),
     )
 
 add-t27 : tie.Need-add-t27

@@ -5,7 +5,7 @@ use native.Mathlib.Omega.{arith}
 use Rattle.language.specs.Steps.{test}
 use Rattle.program.specs.Program.{kindAt, aAt, expressionOf}
 use Rattle.residual.proofs.Residuals.{some-bytes}
-use Rattle.moves.proofs.Movers.{known, done-moves, round-moves, cleared-long}
+use Rattle.moves.proofs.OwnMoves.{known, done-moves, round-moves, cleared-long}
 use borrow.Author.Needs.{needs}
 use Rattle.moves.proofs.move_while.Statement.{statement}
 use Rattle.moves.proofs.move_while.Tie as tie

@@ -5,7 +5,7 @@ use native.Mathlib.Omega.{arith}
 use mir.Syntax.{w32}
 use mir.Facts.{toZ-ofZ}
 use Rattle.program.specs.Program.{kindAt, aAt}
-use Rattle.moves.proofs.Movers.{known, assign-writes, emit-writes}
+use Rattle.moves.proofs.OwnMoves.{known, assign-writes, emit-writes}
 use borrow.Author.Needs.{needs}
 use Rattle.moves.proofs.written.Statement.{statement}
 use Rattle.moves.proofs.written.Tie as tie

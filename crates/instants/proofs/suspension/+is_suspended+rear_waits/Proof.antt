@@ -8,7 +8,7 @@ use borrow.Author.Tests.{not-true, not-false}
 use Rattle.language.specs.Steps.{present, suspended}
 use Rattle.residual.specs.Residual.{own}
 use Rattle.program.specs.declared.forms.Front.{Front}
-use Rattle.program.specs.Forms.{mover, guarded, frontOf, partIn}
+use Rattle.program.specs.Forms.{itself, guarded, frontOf, partIn}
 use Rattle.program.proofs.Fronts.{front-form}
 use Rattle.residual.specs.Nodes.{left}
 use Rattle.instants.specs.Contracts.{RearWaits}
@@ -105,8 +105,8 @@ some-part :
     (t : ℕ) (c : is-suspended-lts.Else1 (R t) (is-suspended-at t) is-suspended.Post) →
     let start = c .before .before .before .before in
     let args = start .args in
-    mover < (frontOf (args .program .now) (args .k) (own (args .state .now)) (length (args .state .now))) .form
-some-part t c = subst (λ n. mover < n) (form-is t (c .before)) (c .if1 .left)
+    itself < (frontOf (args .program .now) (args .k) (own (args .state .now)) (length (args .state .now))) .form
+some-part t c = subst (λ n. itself < n) (form-is t (c .before)) (c .if1 .left)
 
 part :
     (t : ℕ) (c : is-suspended-lts.After-find-front (R t) (is-suspended-at t) is-suspended.Post) →

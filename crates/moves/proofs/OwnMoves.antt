@@ -21,14 +21,14 @@ use Rattle.program.specs.Runnable.{Runnable}
 use Rattle.language.specs.Shapes.{size}
 use Rattle.program.proofs.Views.{NodeView, aNil, anAssign, aLet, anIf, aWhile, aSequence, anEmit, aLocal, aWatching, aWhen, aParallel, node-view}
 use Rattle.program.specs.declared.forms.Front.{Front}
-use Rattle.program.specs.Forms.{mover}
+use Rattle.program.specs.Forms.{itself}
 use Rattle.residual.specs.Residual.{own, firstOf, secondOf, residual}
 use Rattle.moves.specs.Moves.{Live, Silent}
 use Rattle.residual.specs.Nodes.{left}
 use Rattle.moves.specs.Contracts.{IsSilent, isWriter, IsWriter, Writes}
 use Rattle.residual.proofs.Residuals.{zeros}
 use Rattle.residual.proofs.Residuals.{own-set-at}
-use Rattle.residual.proofs.Sights.{Mover, no-mover, Sight, sees-gone, sees-mover, sees-alone, sees-before, sees-watched, sees-guarded, sees-beside, own-put, length-put, first-put}
+use Rattle.residual.proofs.Sights.{MovesItself, not-itself, Sight, sees-nothing, sees-itself, sees-alone, sees-before, sees-watched, sees-guarded, sees-beside, own-put, length-put, first-put}
 
 module _ (words : List ℕ) (k : ℕ) where
   abbrev kind : ℕ
@@ -83,18 +83,18 @@ pub known : (words : List ℕ) → Runnable words → (k : ℕ) → k < nodeCoun
 known words ok k h e = subst (KnownAt words k) e (known-of words k (node-view words ok k h))
 
 -- what the form of a node with a move of its own tells
-pub is-mover :
-    {words : List ℕ} {k : ℕ} {st : List ℕ} {f : Front} → Sight words k st f → f .form ≡ mover →
-    (own st ≡ 0) × Mover (kind words k)
-is-mover (sees-gone e r) q = absurd (omega (arith, e, q))
-is-mover (sees-mover e o m) q = (o, m)
-is-mover (sees-alone (inl e) i) q = absurd (omega (arith, e, q))
-is-mover (sees-alone (inr e) i) q = absurd (omega (arith, e, q))
-is-mover (sees-before e o p i r) q = absurd (omega (arith, e, q))
-is-mover (sees-watched e x i r) q = absurd (omega (arith, e, q))
-is-mover (sees-guarded e x a i r) q = absurd (omega (arith, e, q))
-is-mover (sees-beside (inl e) o g p i j r) q = absurd (omega (arith, e, q))
-is-mover (sees-beside (inr e) o g p i j r) q = absurd (omega (arith, e, q))
+pub is-itself :
+    {words : List ℕ} {k : ℕ} {st : List ℕ} {f : Front} → Sight words k st f → f .form ≡ itself →
+    (own st ≡ 0) × MovesItself (kind words k)
+is-itself (sees-nothing e r) q = absurd (omega (arith, e, q))
+is-itself (sees-itself e o m) q = (o, m)
+is-itself (sees-alone (inl e) i) q = absurd (omega (arith, e, q))
+is-itself (sees-alone (inr e) i) q = absurd (omega (arith, e, q))
+is-itself (sees-before e o p i r) q = absurd (omega (arith, e, q))
+is-itself (sees-watched e x i r) q = absurd (omega (arith, e, q))
+is-itself (sees-guarded e x a i r) q = absurd (omega (arith, e, q))
+is-itself (sees-beside (inl e) o g p i j r) q = absurd (omega (arith, e, q))
+is-itself (sees-beside (inr e) o g p i j r) q = absurd (omega (arith, e, q))
 
 -- assignments and emissions
 pub writer-is : (kind : ℕ) → isWriter kind ≡ true → IsWriter kind
@@ -109,7 +109,7 @@ writer-was (inl e) = ap isWriter e
 writer-was (inr e) = ap isWriter e
 
 -- let, if, while and local are left
-pub is-silent : {kind : ℕ} → Mover kind → isWriter kind ≡ false → IsSilent kind
+pub is-silent : {kind : ℕ} → MovesItself kind → isWriter kind ≡ false → IsSilent kind
 is-silent {kind} m e =
     let a : kind ≡ 1 → ⊥ = λ q. true≢false (sym (ap isWriter q) ∙ e) in
     let b : kind ≡ 6 → ⊥ = λ q. true≢false (sym (ap isWriter q) ∙ e) in
@@ -138,22 +138,22 @@ module _ (words : List ℕ) (ok : Runnable words) (k : ℕ) (h : k < nodeCount w
 
   module _ (z : own st ≡ 0) (vs : List ℤ) where
     -- a node whose own move is next is neither nil nor suspended
-    live-of : Mover (kind words k) → NodeView words k → Live (left words k st) vs
+    live-of : MovesItself (kind words k) → NodeView words k → Live (left words k st) vs
     unfolding residual suspended isNil
-    live-of m (aNil e q) = absurd (no-mover m e (inl refl))
+    live-of m (aNil e q) = absurd (not-itself m e (inl refl))
     live-of m (anAssign e q x y) = rw (q, z) (record { some = refl; awake = refl })
     live-of m (aLet e q x y w) = rw (q, z) (record { some = refl; awake = refl })
     live-of m (anIf e q x y w) = rw (q, z) (record { some = refl; awake = refl })
     live-of m (aWhile e q x y) = rw (q, z) (record { some = refl; awake = refl })
-    live-of m (aSequence e q x y) = absurd (no-mover m e (inr (inl refl)))
+    live-of m (aSequence e q x y) = absurd (not-itself m e (inr (inl refl)))
     live-of m (anEmit e q x) = rw (q, z) (record { some = refl; awake = refl })
     live-of m (aLocal e q x y) = rw (q, z) (record { some = refl; awake = refl })
-    live-of m (aWatching e q x y g) = absurd (no-mover m e (inr (inr (omega arith))))
-    live-of m (aWhen e q x y l) = absurd (no-mover m e (inr (inr (omega arith))))
-    live-of m (aParallel e q x y) = absurd (no-mover m e (inr (inr (omega arith))))
+    live-of m (aWatching e q x y g) = absurd (not-itself m e (inr (inr (omega arith))))
+    live-of m (aWhen e q x y l) = absurd (not-itself m e (inr (inr (omega arith))))
+    live-of m (aParallel e q x y) = absurd (not-itself m e (inr (inr (omega arith))))
 
-    pub mover-live : Mover (kind words k) → Live (left words k st) vs
-    mover-live m = live-of m (node-view words ok k h)
+    pub itself-live : MovesItself (kind words k) → Live (left words k st) vs
+    itself-live m = live-of m (node-view words ok k h)
 
     pub let-moves :
         kind words k ≡ 2 →
