@@ -3,8 +3,8 @@ use mathlib.Core.Path.{_≡_, refl, sym, ap, _∙_, subst}
 use mathlib.Core.Bool.{Bool, true, false}
 use mathlib.Core.Option.{Option, none, some}
 use mathlib.Core.List.{List}
-use Prim.Native.Nat.{ℕ, suc, _*_, _/_, _≤_, _<_}
-use native.Mathlib.Nat.{le-refl, le-trans}
+use Prim.Native.Nat.{ℕ, suc, _/_, _≤_, _<_}
+use native.Mathlib.Nat.{le-refl}
 use native.Mathlib.Omega.{arith}
 use lib.IntN.{ℤ}
 use lib.ListN.{length, set}
@@ -12,11 +12,11 @@ use borrow.Author.Tests.{ltb-true}
 use Rattle.language.specs.Syntax.{Proc, nil, isNil}
 use Rattle.language.specs.Calls.{Line, lineFor}
 use Rattle.moves.specs.declared.counts.Counts.{Counts}
-use Rattle.moves.specs.declared.counts.Reason.the-variants.{Nil, Full}
+use Rattle.moves.specs.declared.counts.Reason.the-variants.{Nil}
 use Rattle.moves.specs.declared.counts.Moved.{Moved}
 use Rattle.moves.specs.declared.counts.Moved.the-variants.{Again, Rests}
 use Rattle.moves.specs.Moves.{Running, system, logAfter, linesAfter, hasRoom, nextLine, moved, Silent, Path, stays, moves, Goes, Stops, Comes, IsFull}
-use Rattle.moves.specs.Contracts.{Counted, Writes}
+use Rattle.moves.specs.Contracts.{Counted, Writes, runningWith}
 use Rattle.moves.proofs.Framing.{joined, silently, silent-move}
 
 lines-fit : (room : ℕ) (l : Option Line) (n : ℕ) → n ≤ room → hasRoom room l n ≡ true → linesAfter l n ≤ room
@@ -47,20 +47,15 @@ module _ {seen : ℕ → Bool} {limit room : ℕ} where
 
 -- what is counted stays within the limits
 pub counted-on :
-    {seen : ℕ → Bool} {limit : ℕ} {log log′ : List ℕ} {c d : Counts} {at to : Running ℕ} →
-    Path seen limit (length log / 4) at to → Counted limit log c → length log′ ≡ length log →
-    at .steps ≡ c .steps → at .instants ≡ c .instants → at .lines ≡ c .lines →
-    to .steps ≡ d .steps → to .instants ≡ d .instants → to .lines ≡ d .lines → Counted limit log′ d
-counted-on {log = log} p c l a i n a′ i′ n′ =
-    let later = path-later p in
-    let time = path-time p (omega (arith, a, c .time)) in
-    let same = path-instants p in
-    let space = path-space p (omega (arith, n, c .space)) in
+    {seen : ℕ → Bool} {limit : ℕ} {p p′ : Proc ℕ} {vs vs′ : List ℤ} {log log′ : List ℕ} {c d : Counts} →
+    Path seen limit (length log / 4) (runningWith p vs log c) (runningWith p′ vs′ log′ d) → Counted limit log c →
+    length log′ ≡ length log → Counted limit log′ d
+counted-on path c l =
     record {
-      time = omega (arith, time, a′);
+      time = path-time path (c .time);
       most = c .most;
-      instants = omega (arith, same, i, i′, c .instants, later, a, a′);
-      space = omega (arith, space, n′, l);
+      instants = omega (arith, path-instants path, c .instants, path-later path);
+      space = omega (arith, path-space path (omega (arith, c .space)), l);
     }
 
 module _ {seen : ℕ → Bool} {limit room : ℕ} where

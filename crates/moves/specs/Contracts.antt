@@ -71,17 +71,20 @@ pub record CanMoveItself
   pub can : CanMove words k st values log limit at
   pub form : frontOf words k (own st) (length st) .form ≡ itself
 
--- node k with its bytes, the values, the log and what has been counted, as the definitions see it
-abbrev pub nodeAt : List ℕ → ℕ → List ℕ → List ℤ → List ℕ → Counts → Running ℕ
-nodeAt words k st values log at =
+-- a process with the values, the log and what has been counted, as the definitions see it; node k with its bytes
+abbrev pub runningWith : Proc ℕ → List ℤ → List ℕ → Counts → Running ℕ
+runningWith p values log at =
     record {
-      process = left words k st;
+      process = p;
       values = values;
       log = log;
       steps = at .steps;
       instants = at .instants;
       lines = at .lines;
     }
+
+abbrev pub nodeAt : List ℕ → ℕ → List ℕ → List ℤ → List ℕ → Counts → Running ℕ
+nodeAt words k st values log at = runningWith (left words k st) values log at
 
 -- What it leaves: node k has made moves, to these bytes, values and log.
 abbrev pub Makes :

@@ -24,13 +24,7 @@ pub struct Noted {
 }
 
 // Writes the line that a step calls for which gives x this value, if the reader sees x and there is room.
-pub fn note(
-    program: &[usize; WORDS],
-    log: &mut [u32],
-    at: Counts,
-    x: usize,
-    value: i32,
-) -> Noted
+pub fn note(program: &[usize; WORDS], log: &mut [u32], at: Counts, x: usize, value: i32) -> Noted
     requires { ⌜ CanNote (now log) at x ⌝ }
     ensures { λ r. ⌜ Notes (length (now (log .entry)) / 4) (lineOf (now (program .entry)) at x value) (at .lines) (now (log .entry)) r (now (log .exit)) ⌝ }
 {

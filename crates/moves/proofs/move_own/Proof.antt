@@ -170,8 +170,7 @@ returns-3 c =
 move-silently-requires : tie.Need-move-silently-requires
 move-silently-requires c κs =
     let start = c .before .before .before .before .before .before .before .before .before in
-    let can = start .pre .can in
-    (
+    let can = start .pre .can in (
       record {
         valued = can .valued;
         node = can .node;
