@@ -1,6 +1,5 @@
 -- What comes of a script that runs: moves and instant changes keep it; what it is where the script stops; and the words
 -- of its log.
--- Assumes nothing.
 use mathlib.Core.Path.{_≡_, refl, sym, ap, ap₂, _∙_}
 use mathlib.Core.Bool.{Bool, true, false, cond, true≢false}
 use mathlib.Core.Option.{Option, none, some}
@@ -124,7 +123,7 @@ module _ {L : Type 0} (names : Names L) (seen : ℕ → Bool) (limit room : ℕ)
 
     rest-moves : Live (at .process) (at .values) → rest ≡ goes (move (at .process) (at .values)) false
     rest-moves l =
-        rest-goes (l .some) ∙ ap₂ goes (step-moves names (at .process) (at .values) (l .awake)) (l .awake)
+        rest-goes (l .some) ∙ ap₂ goes (step-moves names (at .process) (at .values) (l .moving)) (l .moving)
 
     rest-changes :
         suspended (at .process) (at .values) ≡ true →
