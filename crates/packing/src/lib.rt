@@ -5,7 +5,7 @@
 // session's, whether the reader sees it; that of the counts how many names, expressions and nodes there are (16 bits each).
 ghost use mathlib.Core.Path.{_≡_};
 ghost use Prim.Native.Nat.{_<_};
-ghost use Rattle.packing.specs.Packing.{kindIn, constantIn, operandIn, laterIn, packedExpression, formIn, aIn, bIn, firstIn, sizeIn, nodeKindIn, watchesIn, packedFields, marked, packedNode, signalIn, sessionIn, seenIn, bit, packedName, namesIn, expressionsIn, nodesIn, packedCounts};
+ghost use Rattle.packing.specs.Packing.{kindIn, constantIn, operandIn, laterIn, packedExpression, formIn, aIn, bIn, firstIn, sizeIn, nodeKindIn, watchesIn, packedFields, marked, packedNode, signalIn, sessionIn, seenIn, bit, packedName, namesIn, nodesIn, packedCounts};
 
 // The bit above the kind of a node: a watching stands in it.
 const MARK: usize = 128;

@@ -10,7 +10,7 @@ use lib.Seq.{getD-set-same}
 use mir.Syntax.{w32}
 use mir.Val.{toZ}
 use Rattle.prelude.specs.Course.{course, entry}
-use Rattle.language.specs.Syntax.{Operator, add, subtract, multiply, divide, less, equal, Exp, constant, register, binary, negated, Proc, nil, assign, letIn, ifThenElse, while, sequence, emit, local, watching, when, parallel}
+use Rattle.language.specs.Syntax.{Operator, add, subtract, multiply, divide, less, equal, Exp, constant, register, binary, negated, Proc, nil, assign, while, sequence, emit, watching, when, parallel}
 use Rattle.language.specs.Shapes.{size, watches, leavesAlone}
 use Rattle.layout.specs.declared.Script.{Script}
 use Rattle.layout.specs.declared.entries.Part.{Part}
@@ -22,10 +22,10 @@ use Rattle.reach.specs.Checked.{Checked}
 use Rattle.tree.specs.Tree.{expressionsFrom, noExpression, expressionOf, processesFrom, processOf}
 use Rattle.tree.proofs.Views.{code, ExpressionView, aConstant, aRegister, aBinary, aNegated, expression-view, UsesName, NodeView, aNil, anAssign, aLet, anIf, aWhile, aSequence, anEmit, aLocal, aWatching, aWhen, aParallel, node-view}
 use Rattle.tree.proofs.NodeSizes.{size-within, whole-size}
-use Rattle.packing.specs.Packing.{kindIn, operandIn, laterIn, aIn, bIn, firstIn, nodeKindIn, levelIn, signalIn, packedCounts}
+use Rattle.packing.specs.Packing.{kindIn, aIn, bIn, firstIn, nodeKindIn, levelIn, signalIn, packedCounts}
 use Rattle.program.specs.Program as program
 use Rattle.program.specs.Program.{nameWord, expressionWord, nodeWord}
-use Rattle.program.specs.Runnable.{Holds, Leads, rowOf, FirstPart, ExpressionRuns, NodeRuns, Runnable}
+use Rattle.program.specs.Runnable.{Holds, Leads, rowOf, FirstPart, ExpressionRuns, NodeRuns}
 use Rattle.plan.specs.Plan.{ExpressionPacked, NodePacked, Keeps, ProgramOf}
 use Rattle.plan.proofs.Plans.{counts-kept}
 use Rattle.plan.proofs.Scopes.{alone-below}

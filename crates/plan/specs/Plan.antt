@@ -4,7 +4,7 @@ use mathlib.Core.Bool.{Bool, _&&_, _||_}
 use mathlib.Core.List.{List}
 use Prim.Native.Nat.{ℕ, _+_, _*_, _^_, _≤_, _<_}
 use lib.Dec.{eqb, ltb}
-use lib.ListN.{getD, length}
+use lib.ListN.{length}
 use Rattle.book.specs.declared.Book.{Book}
 use Rattle.book.specs.LevelBook.{mostLevels, atOrBelow}
 use Rattle.packing.specs.Packing.{kindIn, constantIn, operandIn, laterIn, formIn, aIn, bIn, firstIn, sizeIn, nodeKindIn, watchesIn, levelIn, signalIn, sessionIn, seenIn}

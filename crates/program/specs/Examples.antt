@@ -5,7 +5,7 @@ use mathlib.Core.List.{List, [], _∷_, _++_}
 use lib.ListN.{replicate}
 use Prim.Native.Nat.{ℕ, _-_}
 use Rattle.packing.specs.Packing.{packedName, packedCounts, packedFields, packedNode}
-use Rattle.language.specs.Syntax.{Proc, emit, sequence}
+use Rattle.language.specs.Syntax.{emit, sequence}
 use Rattle.program.specs.Program.{nodeStart, script}
 use Rattle.program.specs.Forms.{formsOf}
 

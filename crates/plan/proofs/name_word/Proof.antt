@@ -1,6 +1,6 @@
 -- `name_word`: the entry, packed.
 use mathlib.Core.Path.{ap, _∙_}
-use Prim.Native.Nat.{_+_, _*_, _<_}
+use Prim.Native.Nat.{_<_}
 use native.Mathlib.Omega.{arith}
 use Rattle.book.specs.LevelBook.{mostLevels, atOrBelow}
 use Rattle.layout.proofs.Layouts.{names-are}
