@@ -1,5 +1,4 @@
 -- What a call of run that is not refused has: of its book and script, of its values, of its reader and its limit.
--- Assumes nothing.
 use mathlib.Core.Path.{_≡_, refl, sym, _∙_}
 use mathlib.Core.Bool.{Bool, true, false, cond, not, _||_, false≢true}
 use mathlib.Core.List.{List}

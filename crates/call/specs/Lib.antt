@@ -1,3 +1,2 @@
--- What run asks besides a book and a script: rows 12 to 14 of 01's table of refusals, and which names the reader sees.
+-- What run asks besides a book and a script: rows 12 to 14 of 01's table of refusals.
 pub mod Refusals
-pub mod Readers

@@ -1,16 +1,14 @@
-// What is asked of a call besides a book and a script: refusals 12 to 14. And which names the reader sees.
-use book::Book;
+// What is asked of a call besides a book and a script: refusals 12 to 14.
 use layout::Script;
 use prelude::Refusal;
-use program::MAX_NAMES;
 ghost use mathlib.Core.Path.{_≡_};
-ghost use Prim.Native.Nat.{_≤_, _<_};
+ghost use Prim.Native.Nat.{_<_};
 ghost use lib.ListN.{length};
-ghost use Rattle.book.specs.LevelBook.{mostLevels};
 ghost use Rattle.layout.specs.Layout.{Laid};
-ghost use Rattle.reach.specs.Checked.{Levelled};
 ghost use Rattle.call.specs.Refusals.{valueIsRight, valuesRefusal, callRefusal, firstWrong};
-ghost use Rattle.call.specs.Readers.{Sees};
+
+// The most steps that a call may allow.
+pub const MAX_STEPS: u32 = 1000000;
 
 // Whether name x may have this value at the start.
 fn value_is_right(s: &[u8], c: Script, values: &[i32], x: usize) -> bool
@@ -99,25 +97,4 @@ pub fn call_refusal(
         number: 0,
         place: 0,
     }
-}
-
-// The most steps that a call may allow.
-pub const MAX_STEPS: u32 = 1000000;
-
-// For each name 1 if the reader sees it, else 0.
-pub fn find_seen(s: &[u8], c: Script, b: Book, reader: usize) -> [u8; MAX_NAMES]
-    requires { ⌜ Laid (now s) c × (Levelled (now s) (b .count) × ((b .count ≤ mostLevels) × (reader < b .count))) ⌝ }
-    ensures { λ r. ⌜ Sees b (now (s .entry)) reader r ⌝ }
-{
-    let mut seen = [0u8; MAX_NAMES];
-    let n = c.names;
-    let mut x: usize = 0;
-    while x < n {
-        let name = layout::entries::name_at(s, c, x);
-        if book::at_or_below(b, name.level, reader) {
-            seen[x] = 1;
-        }
-        x += 1;
-    }
-    seen
 }

@@ -10,7 +10,6 @@ use Rattle.language.specs.Syntax.{Operator, add, subtract, multiply, divide, le
 use Rattle.language.specs.Steps.{apply, evaluate, value}
 use Rattle.packing.specs.Packing.{kindIn, operandIn, laterIn}
 use Rattle.program.specs.Program.{nameCount, expressionWord, expressionOf}
-use Rattle.program.specs.Runnable.{Runnable}
 use Rattle.program.proofs.Views.{code, ExpressionView, aConstant, aRegister, aBinary, aNegated, expression-view}
 use Rattle.evaluation.specs.Evaluation.{operatorOf, applied, leafValue, Evaluable}
 

@@ -1,5 +1,4 @@
 -- What the form of a node tells: its parts, and by them whether it is suspended and what an instant change makes of it.
--- Assumes nothing.
 use mathlib.Core.Path.{_≡_, refl, sym, _∙_, subst}
 use mathlib.Core.Bool.{Bool, true, false, and-true, and-false, false≢true}
 use mathlib.Core.Logic.{_⊎_, inl, inr, ⊎-elim}
@@ -15,10 +14,11 @@ use Rattle.language.specs.Steps.{present, suspended, change}
 use Rattle.program.specs.Program.{nameCount, kindAt}
 use Rattle.program.proofs.Views.{NodeView, aNil, anAssign, aLet, anIf, aWhile, aSequence, anEmit, aLocal, aWatching, aWhen, aParallel, node-view}
 use Rattle.program.specs.declared.forms.Front.{Front}
+use Rattle.program.proofs.Fronts.{front-form, rear-is, parts-meet}
 use Rattle.residual.specs.Residual.{own, residual}
-use Rattle.program.specs.Forms.{itself, first, second, before, watched, guarded, beside, turned, frontOf, partIn}
+use Rattle.program.specs.Forms.{itself, first, second, before, watched, guarded, beside, turned, formOf, rearOf, partIn}
 use Rattle.residual.specs.Frames.{Frame, around}
-use Rattle.residual.specs.Nodes.{Valued, At, left}
+use Rattle.residual.specs.Nodes.{Valued, At, frontIn, rearIn, left}
 use Rattle.instants.specs.Contracts.{RearWaits}
 use Rattle.residual.proofs.Sights.{Inside, signalAt, MovesItself, not-itself, Sight, sees-nothing, sees-itself, sees-alone, sees-before, sees-watched, sees-guarded, sees-beside, sight, part-length}
 
@@ -33,7 +33,7 @@ beside-above = ⊎-elim (λ e. omega arith) (λ e. omega arith)
 pub record Found (words : List ℕ) (values : List ℤ) (k : ℕ) (st : List ℕ) (f : Front) : Type 0 where
   pub valued : Valued words values
   pub at : At words k st
-  pub front : f ≡ frontOf words k (own st) (length st)
+  pub front : f ≡ frontIn words k st
 
 -- a part of it, which is a node with its own bytes
 pub record Part (words : List ℕ) (k : ℕ) (st : List ℕ) (f : Front) : Type 0 where
@@ -43,17 +43,12 @@ pub record Part (words : List ℕ) (k : ℕ) (st : List ℕ) (f : Front) : Type 
   pub within : f .to ≤ length st
   pub at : At words (f .child) (partIn f st)
 
--- the part of a parallel that is not in front
-abbrev pub rearOf : List ℕ → ℕ → List ℕ → Front
-rearOf words k st = frontOf words k (1 - own st) (length st)
-
 -- node k is a parallel
 pub record Rear (words : List ℕ) (k : ℕ) (st : List ℕ) (f : Front) : Type 0 where
-  pub byte : own st ≤ 1
-  pub part : Part words k st (rearOf words k st)
+  pub part : Part words k st (rearIn words k st)
   pub whole :
       left words k st
-      ≡ parallel (left words (f .child) (partIn f st)) (left words (rearOf words k st .child) (partIn (rearOf words k st) st))
+      ≡ parallel (left words (f .child) (partIn f st)) (left words (rearIn words k st .child) (partIn (rearIn words k st) st))
 
 -- p is suspended or not, and an instant change leaves it as it is
 pub record Stays (p : Proc ℕ) (values : List ℤ) (waiting : Bool) : Type 0 where
@@ -141,7 +136,23 @@ module _ {words : List ℕ} {values : List ℤ} {k : ℕ} {st : List ℕ} {f : F
       part (sees-watched e n i z) h = absurd (omega arith)
       part (sees-guarded e n l i z) h = absurd (omega arith)
       part (sees-beside e o g u i j z) h =
-          record { byte = o; part = rw (← u) (inside-part (found .at) g _ (1 - own st) j); whole = rw (← u) (i .whole) }
+          record { part = rw (← u) (inside-part (found .at) g _ (1 - own st) j); whole = rw (← u) (i .whole) }
+
+  -- its parts: the other one as it is found by the form, and where they lie
+  module _ {n : ℕ} (e : n ≡ frontIn words k st .form) (b : beside ≤ n) where
+    form-is : n ≡ formOf (kindAt words k) (own st)
+    form-is = e ∙ front-form words k (own st) (length st)
+
+    kind-known : kindAt words k < 11
+    kind-known = found .valued .runnable .nodes k (found .at .known) .kind
+
+    pub rear-found : rearOf words k n (length st) ≡ rearIn words k st
+    rear-found = rear-is words k (own st) (length st) form-is kind-known b
+
+    pub parts-apart : (f .to ≤ rearIn words k st .from) ⊎ (rearIn words k st .to ≤ f .from)
+    parts-apart =
+        rw (found .front)
+        (⊎-elim (λ m. inl (omega arith)) (λ m. inr (omega arith)) (parts-meet words k (own st) (length st) form-is kind-known b))
 
   pub ahead : itself < f .form → f .form < beside → Ahead words k st f values
   unfolding suspended change

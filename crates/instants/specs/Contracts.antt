@@ -2,31 +2,26 @@
 use mathlib.Core.Path.{_≡_}
 use mathlib.Core.Bool.{Bool, true, _&&_}
 use mathlib.Core.List.{List}
-use Prim.Native.Nat.{ℕ, _-_, _≤_, _<_}
+use Prim.Native.Nat.{ℕ, _≤_, _<_}
 use lib.IntN.{ℤ}
 use lib.ListN.{length}
 use Rattle.prelude.specs.Search.{any}
 use Rattle.language.specs.Syntax.{Names}
 use Rattle.language.specs.Steps.{present, suspended}
-use Rattle.program.specs.Forms.{beside, frontOf, partIn}
-use Rattle.residual.specs.Residual.{own}
-use Rattle.residual.specs.Nodes.{Valued, At, left}
+use Rattle.program.specs.Forms.{beside, partIn}
+use Rattle.residual.specs.Nodes.{Valued, At, frontIn, rearIn, left}
 
 -- a node that has come to this form
 pub record RearAsked (words : List ℕ) (k : ℕ) (st : List ℕ) (values : List ℤ) (n : ℕ) : Type 0 where
   pub valued : Valued words values
   pub node : At words k st
-  pub form : n ≡ frontOf words k (own st) (length st) .form
+  pub form : n ≡ frontIn words k st .form
 
 -- Of a node with this form nothing behind the part in front could move in its place.
 pub record RearWaits (words : List ℕ) (k : ℕ) (st : List ℕ) (values : List ℤ) (form : ℕ) (waits : Bool) : Type 0 where
   pub none : form < beside → waits ≡ true
   pub other :
-      beside ≤ form →
-      waits
-      ≡ suspended
-      (left words (frontOf words k (1 - own st) (length st) .child) (partIn (frontOf words k (1 - own st) (length st)) st))
-      values
+      beside ≤ form → waits ≡ suspended (left words (rearIn words k st .child) (partIn (rearIn words k st) st)) values
 
 -- a signal that is present, and whether there is one
 abbrev pub isPresentSignal : Names ℕ → List ℤ → ℕ → Bool

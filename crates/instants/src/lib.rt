@@ -42,7 +42,7 @@ fn change_instant(program: &[usize; WORDS], values: &[i32], state: &mut [u8], k:
     let to = f.to;
     change_instant(program, values, &mut state[from..to], f.child);
     if forms::BESIDE <= form {
-        let g = find_rear(program, k, tag, len, form);
+        let g = find_rear(program, k, len, form);
         let start = g.from;
         let end = g.to;
         change_instant(program, values, &mut state[start..end], g.child);

@@ -46,8 +46,7 @@ pub fn rear_waits(
     if form < forms::BESIDE {
         return true;
     }
-    let tag = state[0];
-    let g = find_rear(program, k, tag, state.len(), form);
+    let g = find_rear(program, k, state.len(), form);
     let start = g.from;
     let end = g.to;
     is_suspended(program, values, &state[start..end], g.child)

@@ -4,7 +4,7 @@ use mathlib.Core.Bool.{Bool, true, false}
 use Prim.Native.Nat.{ℕ, zero, suc, _+_, _*_, _/_, _%_, _^_, _<_}
 use native.Mathlib.Omega.{arith}
 use lib.Dec.{eqb}
-use Rattle.packing.specs.Packing.{formIn, aIn, bIn, firstIn, sizeIn, nodeKindIn, watchesIn, packedFields, marked, packed, levelIn, signalIn, sessionIn, seenIn, bit, named}
+use Rattle.packing.specs.Packing.{formIn, aIn, bIn, firstIn, sizeIn, nodeKindIn, watchesIn, packedFields, marked, packedNode, levelIn, signalIn, sessionIn, seenIn, bit, packedName}
 
 -- the forms are the lowest 16 bits
 pub low : (forms rest tag : ℕ) → tag < 4 → formIn (forms + 65536 * rest) tag ≡ formIn forms tag
@@ -17,7 +17,7 @@ low forms rest (suc (suc (suc (suc t)))) l = absurd (omega (arith, l))
 -- the fields of a packed word, whatever its forms and its kind are
 module _ (forms kind a b first size : ℕ) (few : forms < 65536) where
   abbrev pub made : ℕ
-  made = packed forms (packedFields a b first size) kind
+  made = packedNode forms (packedFields a b first size) kind
 
   pub a-told : aIn made ≡ a % 1024
   a-told = omega (arith, few)
@@ -60,22 +60,22 @@ bit-small false = omega arith
 
 -- the word of a name
 module _ (level kind : ℕ) (session seen : Bool) (h : level < 256) (k : kind < 2) where
-  abbrev named-so : ℕ
-  named-so = named level kind session seen
+  abbrev name-word : ℕ
+  name-word = packedName level kind session seen
 
-  pub level-told : levelIn named-so ≡ level
+  pub level-told : levelIn name-word ≡ level
   level-told = omega (arith, h, k, bit-small session)
 
-  pub signal-told : signalIn named-so ≡ eqb kind 1
+  pub signal-told : signalIn name-word ≡ eqb kind 1
   signal-told =
-      let e : named-so / 256 % 2 ≡ kind = omega (arith, h, k, bit-small session) in ap (λ n. eqb n 1) e
+      let e : name-word / 256 % 2 ≡ kind = omega (arith, h, k, bit-small session) in ap (λ n. eqb n 1) e
 
-  pub session-told : sessionIn named-so ≡ session
+  pub session-told : sessionIn name-word ≡ session
   session-told =
-      let e : named-so / 512 % 2 ≡ bit session = omega (arith, h, k, bit-small session, bit-small seen) in
+      let e : name-word / 512 % 2 ≡ bit session = omega (arith, h, k, bit-small session, bit-small seen) in
       ap (λ n. eqb n 1) e ∙ bit-told session
 
-  pub seen-told : seenIn named-so ≡ seen
+  pub seen-told : seenIn name-word ≡ seen
   seen-told =
-      let e : named-so / 1024 ≡ bit seen = omega (arith, h, k, bit-small session, bit-small seen) in
+      let e : name-word / 1024 ≡ bit seen = omega (arith, h, k, bit-small session, bit-small seen) in
       ap (λ n. eqb n 1) e ∙ bit-told seen

@@ -17,8 +17,8 @@ abbrev pub laterIn : ℕ → ℕ
 laterIn w = w / 2 ^ 16 % 2 ^ 16
 
 -- a word that tells these
-abbrev pub spelled : ℕ → ℕ → ℕ → ℕ
-spelled kind later operand = 2 ^ 32 * kind + (2 ^ 16 * later + operand)
+abbrev pub packedExpression : ℕ → ℕ → ℕ → ℕ
+packedExpression kind later operand = 2 ^ 32 * kind + (2 ^ 16 * later + operand)
 
 -- what the word of a node tells: the form by its own byte; field a, a name or an expression; field b, an expression or
 -- the second child; the first child, and its size; the kind, and whether a watching stands in the node
@@ -50,8 +50,8 @@ packedFields a b first size = a % 1024 + 1024 * (b % 1024 + 1024 * (first % 1024
 abbrev pub marked : ℕ → Bool → ℕ
 marked kind watches = cond watches (kind + 128) kind
 
-abbrev pub packed : ℕ → ℕ → ℕ → ℕ
-packed forms fields kind = forms + 2 ^ 16 * (fields + 2 ^ 40 * kind)
+abbrev pub packedNode : ℕ → ℕ → ℕ → ℕ
+packedNode forms fields kind = forms + 2 ^ 16 * (fields + 2 ^ 40 * kind)
 
 -- what the word of a name tells: its level, whether it is a signal, whether it is the session's, whether the reader sees it
 abbrev pub levelIn : ℕ → ℕ
@@ -70,8 +70,8 @@ seenIn w = eqb (w / 1024) 1
 abbrev pub bit : Bool → ℕ
 bit b = cond b 1 0
 
-abbrev pub named : ℕ → ℕ → Bool → Bool → ℕ
-named level kind session seen = level + 256 * (kind + 2 * (bit session + 2 * bit seen))
+abbrev pub packedName : ℕ → ℕ → Bool → Bool → ℕ
+packedName level kind session seen = level + 256 * (kind + 2 * (bit session + 2 * bit seen))
 
 -- what the word of the counts tells: how many names, expressions and nodes there are
 abbrev pub namesIn : ℕ → ℕ
@@ -84,5 +84,5 @@ abbrev pub nodesIn : ℕ → ℕ
 nodesIn w = w / 2 ^ 32
 
 -- a word that tells these
-abbrev pub counted : ℕ → ℕ → ℕ → ℕ
-counted names expressions nodes = names + 2 ^ 16 * (expressions + 2 ^ 16 * nodes)
+abbrev pub packedCounts : ℕ → ℕ → ℕ → ℕ
+packedCounts names expressions nodes = names + 2 ^ 16 * (expressions + 2 ^ 16 * nodes)

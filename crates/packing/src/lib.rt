@@ -5,7 +5,7 @@
 // session's, whether the reader sees it; that of the counts how many names, expressions and nodes there are (16 bits each).
 ghost use mathlib.Core.Path.{_≡_};
 ghost use Prim.Native.Nat.{_<_};
-ghost use Rattle.packing.specs.Packing.{kindIn, constantIn, operandIn, laterIn, spelled, formIn, aIn, bIn, firstIn, sizeIn, nodeKindIn, watchesIn, packedFields, marked, packed, signalIn, sessionIn, seenIn, bit, named, namesIn, expressionsIn, nodesIn, counted};
+ghost use Rattle.packing.specs.Packing.{kindIn, constantIn, operandIn, laterIn, packedExpression, formIn, aIn, bIn, firstIn, sizeIn, nodeKindIn, watchesIn, packedFields, marked, packedNode, signalIn, sessionIn, seenIn, bit, packedName, namesIn, nodesIn, packedCounts};
 
 // The bit above the kind of a node: a watching stands in it.
 const MARK: usize = 128;
@@ -35,9 +35,9 @@ pub fn later_in(w: usize) -> usize
     (w >> 16) % 65536
 }
 
-pub fn spell(kind: usize, later: usize, operand: usize) -> usize
+pub fn pack_expression(kind: usize, later: usize, operand: usize) -> usize
     requires { ⌜ (kind < 256) × ((later < 65536) × (operand < 65536)) ⌝ }
-    ensures { λ r. ⌜ r ≡ spelled kind later operand ⌝ }
+    ensures { λ r. ⌜ r ≡ packedExpression kind later operand ⌝ }
 {
     4294967296 * kind + (65536 * later + operand)
 }
@@ -104,9 +104,9 @@ pub fn mark(kind: usize, watches: bool) -> usize
     kind
 }
 
-pub fn pack(forms: usize, fields: usize, kind: usize) -> usize
+pub fn pack_node(forms: usize, fields: usize, kind: usize) -> usize
     requires { ⌜ (forms < 65536) × ((fields < 1099511627776) × (kind < 256)) ⌝ }
-    ensures { λ r. ⌜ r ≡ packed forms fields kind ⌝ }
+    ensures { λ r. ⌜ r ≡ packedNode forms fields kind ⌝ }
 {
     forms + 65536 * (fields + 1099511627776 * kind)
 }
@@ -139,9 +139,9 @@ fn bit_of(b: bool) -> usize
     0
 }
 
-pub fn name(level: usize, kind: usize, session: bool, seen: bool) -> usize
+pub fn pack_name(level: usize, kind: usize, session: bool, seen: bool) -> usize
     requires { ⌜ (level < 256) × (kind < 2) ⌝ }
-    ensures { λ r. ⌜ r ≡ named level kind session seen ⌝ }
+    ensures { λ r. ⌜ r ≡ packedName level kind session seen ⌝ }
 {
     let own = bit_of(session);
     let read = bit_of(seen);
@@ -161,9 +161,9 @@ pub fn nodes_in(w: usize) -> usize
     w >> 32
 }
 
-pub fn count(names: usize, expressions: usize, nodes: usize) -> usize
+pub fn pack_counts(names: usize, expressions: usize, nodes: usize) -> usize
     requires { ⌜ (names < 65536) × ((expressions < 65536) × (nodes < 65536)) ⌝ }
-    ensures { λ r. ⌜ r ≡ counted names expressions nodes ⌝ }
+    ensures { λ r. ⌜ r ≡ packedCounts names expressions nodes ⌝ }
 {
     names + 65536 * (expressions + 65536 * nodes)
 }

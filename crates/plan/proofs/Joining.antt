@@ -1,31 +1,33 @@
 -- The words that are packed for a checked file are its program: they mean what the file means, and they can be run.
--- Assumes nothing.
 use mathlib.Core.Path.{_≡_, refl, sym, ap, ap₂, _∙_, subst}
-use mathlib.Core.Bool.{true}
+use mathlib.Core.Bool.{Bool, true}
 use mathlib.Core.List.{List, [], _∷_, _++_}
 use Prim.Native.Nat.{ℕ, zero, suc, _-_, _≤_, _<_}
 use native.Mathlib.Omega.{arith}
 use lib.Dec.{eqb}
-use lib.ListN.{getD}
+use lib.ListN.{getD, set}
+use lib.Seq.{getD-set-same}
 use mir.Syntax.{w32}
 use mir.Val.{toZ}
 use Rattle.prelude.specs.Course.{course, entry}
-use Rattle.language.specs.Syntax.{Operator, add, subtract, multiply, divide, less, equal, Exp, constant, register, binary, negated, Proc, nil, assign, letIn, ifThenElse, while, sequence, emit, local, watching, when, parallel}
+use Rattle.language.specs.Syntax.{Operator, add, subtract, multiply, divide, less, equal, Exp, constant, register, binary, negated, Proc, nil, assign, while, sequence, emit, watching, when, parallel}
 use Rattle.language.specs.Shapes.{size, watches, leavesAlone}
+use Rattle.layout.specs.declared.Script.{Script}
 use Rattle.layout.specs.declared.entries.Part.{Part}
-use Rattle.layout.specs.Layout.{layoutOf, nameCount, expressionCount, nodeCount}
+use Rattle.layout.specs.Layout.{layoutOf, nameCount, expressionCount, nodeCount, Laid}
 use Rattle.layout.specs.Entries.{nameOf, partOf, node}
-use Rattle.layout.proofs.Layouts.{few-bounds}
+use Rattle.layout.proofs.Layouts.{few-bounds, names-are, expressions-are, nodes-are}
 use Rattle.fields.specs.Fields.{firstChild, secondChild}
 use Rattle.reach.specs.Checked.{Checked}
 use Rattle.tree.specs.Tree.{expressionsFrom, noExpression, expressionOf, processesFrom, processOf}
 use Rattle.tree.proofs.Views.{code, ExpressionView, aConstant, aRegister, aBinary, aNegated, expression-view, UsesName, NodeView, aNil, anAssign, aLet, anIf, aWhile, aSequence, anEmit, aLocal, aWatching, aWhen, aParallel, node-view}
 use Rattle.tree.proofs.NodeSizes.{size-within, whole-size}
-use Rattle.packing.specs.Packing.{kindIn, operandIn, laterIn, aIn, bIn, firstIn, nodeKindIn, levelIn, signalIn}
+use Rattle.packing.specs.Packing.{kindIn, aIn, bIn, firstIn, nodeKindIn, levelIn, signalIn, packedCounts}
 use Rattle.program.specs.Program as program
 use Rattle.program.specs.Program.{nameWord, expressionWord, nodeWord}
-use Rattle.program.specs.Runnable.{Holds, Leads, rowOf, FirstPart, ExpressionRuns, NodeRuns, Runnable}
-use Rattle.plan.specs.Plan.{Named, Spelled, Planned, KeepsNames, KeepsExpressions, KeepsNodes, ProgramOf}
+use Rattle.program.specs.Runnable.{Holds, Leads, rowOf, FirstPart, ExpressionRuns, NodeRuns}
+use Rattle.plan.specs.Plan.{ExpressionPacked, NodePacked, Keeps, ProgramOf}
+use Rattle.plan.proofs.Plans.{counts-kept}
 use Rattle.plan.proofs.Scopes.{alone-below}
 
 -- what is made alike of what went before is the same
@@ -63,7 +65,7 @@ rest operand a b =
     ∷ []
 
 -- an expression, by its word
-module _ (s : List ℕ) (e w : ℕ) (x : Spelled s e w) where
+module _ (s : List ℕ) (e w : ℕ) (x : ExpressionPacked s e w) where
   expression-made :
       (l : List Exp) →
       getD (program.expressionsFrom w (λ j. getD l j noExpression)) (kindIn w) noExpression
@@ -79,16 +81,28 @@ module _ (s : List ℕ) (e w : ℕ) (x : Spelled s e w) where
           ap₂ (λ a b. getD (rest (λ j. getD l j noExpression) a b) n noExpression) (x .operand (λ z. omega (arith, z, q)))
           (x .later)
 
--- a file and its words
-pub record Packed (s words : List ℕ) : Type 0 where
+-- a file and its words, with the counts
+pub record Packed (s : List ℕ) (sees : ℕ → Bool) (words : List ℕ) : Type 0 where
   pub names : program.nameCount words ≡ nameCount s
   pub expressions : program.expressionCount words ≡ expressionCount s
   pub nodes : program.nodeCount words ≡ nodeCount s
-  pub named : KeepsNames s (nameCount s) words
-  pub spelled : KeepsExpressions s (expressionCount s) words
-  pub planned : KeepsNodes s (nodeCount s) words
+  pub keeps : Keeps s sees (nameCount s) (expressionCount s) (nodeCount s) words
 
-module _ (s words : List ℕ) (ok : Checked s) (keeps : Packed s words) where
+pub packed :
+    {s : List ℕ} {sees : ℕ → Bool} {words : List ℕ} (c : Script) → Laid s c →
+    Keeps s sees (c .names) (c .expressions) (c .nodes) words →
+    (w : ℕ) → w ≡ packedCounts (c .names) (c .expressions) (c .nodes) → Packed s sees (set words 0 w)
+packed {s} {sees} {words} c laid keeps w e =
+    let few = few-bounds c (laid .few) in
+    let first : getD (set words 0 w) 0 0 ≡ w = getD-set-same words 0 w 0 (omega (arith, keeps .long)) in
+    record {
+      names = omega (arith, few, first, e, names-are laid);
+      expressions = omega (arith, few, first, e, expressions-are laid);
+      nodes = omega (arith, few, first, e, nodes-are laid);
+      keeps = subst (λ (l : Script). Keeps s sees (l .names) (l .expressions) (l .nodes) (set words 0 w)) (laid .same) (counts-kept keeps w);
+    }
+
+module _ (s : List ℕ) (sees : ℕ → Bool) (words : List ℕ) (ok : Checked s) (made : Packed s sees words) where
   few-names : nameCount s ≤ 64
   few-names = few-bounds (layoutOf s) (ok .laid .few) .0
 
@@ -101,13 +115,13 @@ module _ (s words : List ℕ) (ok : Checked s) (keeps : Packed s words) where
   expression-same : (e : ℕ) → e < expressionCount s → program.expressionOf words e ≡ expressionOf s e
   unfolding program.expressionOf expressionOf
   expression-same e h =
-      entry-same _ _ e (λ m l. expression-made s m (expressionWord words m) (keeps .spelled m (omega arith)))
+      entry-same _ _ e (λ m l. expression-made s m (expressionWord words m) (made .keeps .expression m (omega arith)))
 
   expression-runs : (e : ℕ) → e < expressionCount s → ExpressionRuns words e
   expression-runs e h = view (expression-view s ok e h)
     where
-      x : Spelled s e (expressionWord words e)
-      x = keeps .spelled e h
+      x : ExpressionPacked s e (expressionWord words e)
+      x = made .keeps .expression e h
 
       view : ExpressionView s e → ExpressionRuns words e
       view (aConstant k v) =
@@ -120,7 +134,7 @@ module _ (s words : List ℕ) (ok : Checked s) (keeps : Packed s words) where
       view (aRegister k v u) =
           record {
             kind = omega (arith, k, x .kind);
-            register = λ q. omega (arith, keeps .names, u .known, x .operand (λ z. omega (arith, k, z)));
+            register = λ q. omega (arith, made .names, u .known, x .operand (λ z. omega (arith, k, z)));
             first = λ l. absurd (omega (arith, k, l, x .kind));
             second = λ l m. absurd (omega (arith, k, l, x .kind));
           }
@@ -140,7 +154,7 @@ module _ (s words : List ℕ) (ok : Checked s) (keeps : Packed s words) where
           }
 
   -- node k, by its word
-  module _ (k w : ℕ) (x : Planned s k w) (h : k < nodeCount s) where
+  module _ (k w : ℕ) (x : NodePacked s k w) (h : k < nodeCount s) where
     abbrev p : Part
     p = partOf s (node s k)
 
@@ -161,7 +175,7 @@ module _ (s words : List ℕ) (ok : Checked s) (keeps : Packed s words) where
     stored q l = ap (program.expressionOf words) (stored-is q l) ∙ expression-same (p .b) l
 
     level : p .a < nameCount s → levelIn (nameWord words (aIn w)) ≡ nameOf s (p .a) .level
-    level l = ap (λ y. levelIn (nameWord words y)) (name-is l) ∙ keeps .named (p .a) l .level
+    level l = ap (λ y. levelIn (nameWord words y)) (name-is l) ∙ made .keeps .name (p .a) l .level
 
     -- its children
     first-is : (j : ℕ) → firstChild p ≡ j → j < k → firstIn w ≡ j
@@ -219,7 +233,7 @@ module _ (s words : List ℕ) (ok : Checked s) (keeps : Packed s words) where
   unfolding program.processOf processOf
   process-same k h =
       entry-same _ _ k
-      (λ m l. process-made m (nodeWord words m) (keeps .planned m (omega arith)) (omega arith))
+      (λ m l. process-made m (nodeWord words m) (made .keeps .node m (omega arith)) (omega arith))
 
   node-runs : (k : ℕ) → k < nodeCount s → NodeRuns words k
   unfolding firstChild secondChild
@@ -231,8 +245,8 @@ module _ (s words : List ℕ) (ok : Checked s) (keeps : Packed s words) where
       entry : Part
       entry = partOf s (node s k)
 
-      x : Planned s k w
-      x = keeps .planned k h
+      x : NodePacked s k w
+      x = made .keeps .node k h
 
       leads : (j : ℕ) → firstChild entry ≡ j → j < k → FirstPart words k
       leads j e l =
@@ -269,17 +283,17 @@ module _ (s words : List ℕ) (ok : Checked s) (keeps : Packed s words) where
       signal : UsesName s (node s k) (entry .a) 1 → signalIn (nameWord words (aIn w)) ≡ true
       signal u =
           ap (λ y. signalIn (nameWord words y)) (name-is k w x h (u .known))
-          ∙ keeps .named (entry .a) (u .known) .signal
+          ∙ made .keeps .name (entry .a) (u .known) .signal
           ∙ ap (λ n. eqb n 1) (u .kinded)
 
       named : entry .a < nameCount s → aIn w < program.nameCount words
-      named l = omega (arith, name-is k w x h l, l, keeps .names)
+      named l = omega (arith, name-is k w x h l, l, made .names)
 
       tests : entry .a < expressionCount s → aIn w < program.expressionCount words
-      tests l = omega (arith, tested-is k w x h l, l, keeps .expressions)
+      tests l = omega (arith, tested-is k w x h l, l, made .expressions)
 
       stores : entry .kind ≤ 2 → entry .b < expressionCount s → bIn w < program.expressionCount words
-      stores q l = omega (arith, stored-is k w x h q l, l, keeps .expressions)
+      stores q l = omega (arith, stored-is k w x h q l, l, made .expressions)
 
       follows : (j : ℕ) → secondChild entry ≡ j → 2 < entry .kind → j < k → bIn w < k
       follows j e q l = omega (arith, second-is k w x h j e q l, l)
@@ -318,27 +332,28 @@ module _ (s words : List ℕ) (ok : Checked s) (keeps : Packed s words) where
           runs 10 e (omega arith) tt (follows (entry .b) (rw e) (omega (arith, e)) (t .before))
           (leads (entry .a) (rw e) (r .before)) (λ z. absurd (omega (arith, z))) (λ z. absurd (omega (arith, z)))
 
-  pub program-of : ProgramOf s words
+  pub program-of : ProgramOf s sees words
   program-of =
       record {
         runnable =
             record {
-              fewNames = omega (arith, keeps .names, few-names);
-              fewExpressions = omega (arith, keeps .expressions, few-expressions);
-              fewNodes = omega (arith, keeps .nodes, few-nodes);
-              some = omega (arith, keeps .nodes, few-bounds (layoutOf s) (ok .laid .few));
+              fewNames = omega (arith, made .names, few-names);
+              fewExpressions = omega (arith, made .expressions, few-expressions);
+              fewNodes = omega (arith, made .nodes, few-nodes);
+              some = omega (arith, made .nodes, few-bounds (layoutOf s) (ok .laid .few));
               whole =
-                  ap (λ n. size (program.processOf words (n - 1))) (keeps .nodes)
+                  ap (λ n. size (program.processOf words (n - 1))) (made .nodes)
                   ∙ ap size (process-same (nodeCount s - 1) (omega (arith, few-bounds (layoutOf s) (ok .laid .few))))
                   ∙ whole-size s ok
-                  ∙ sym (keeps .nodes);
-              expressions = λ e l. expression-runs e (omega (arith, l, keeps .expressions));
-              nodes = λ k l. node-runs k (omega (arith, l, keeps .nodes));
+                  ∙ sym (made .nodes);
+              expressions = λ e l. expression-runs e (omega (arith, l, made .expressions));
+              nodes = λ k l. node-runs k (omega (arith, l, made .nodes));
             };
-        names = keeps .names;
-        expressions = keeps .expressions;
-        nodes = keeps .nodes;
-        named = keeps .named;
+        names = made .names;
+        expressions = made .expressions;
+        nodes = made .nodes;
+        named = made .keeps .name;
+        seen = λ x l. made .keeps .name x l .seen;
         expression = expression-same;
         process = process-same;
       }

@@ -1,5 +1,4 @@
 -- A signal that a node uses is left alone by the nodes below: they declare no name that is in reach above them.
--- Assumes nothing.
 use mathlib.Core.Path.{_≡_, sym, ap, _∙_, subst}
 use mathlib.Core.Bool.{true, false, not}
 use mathlib.Core.List.{List}

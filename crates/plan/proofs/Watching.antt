@@ -1,6 +1,5 @@
 -- A watching stands in a node that is one, and in a node with a child in which one stands: so the words of the nodes before
 -- a node tell it.
--- Assumes nothing.
 use mathlib.Core.Path.{_≡_, refl, sym, ap, ap₂, _∙_}
 use mathlib.Core.Bool.{Bool, true, false, _&&_, _||_, and-false, or-false}
 use mathlib.Core.List.{List}

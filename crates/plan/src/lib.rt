@@ -1,15 +1,14 @@
-// The program of a checked file, found once for a call.
+// The program of a checked file for a reader, found once for a call.
+use book::Book;
 use fields::children::Children;
 use layout::Script;
 use program::WORDS;
 ghost use mathlib.Core.Path.{_≡_};
-ghost use Prim.Native.Nat.{_≤_, _<_};
+ghost use Prim.Native.Nat.{_<_};
 ghost use lib.Dec.{leb};
 ghost use mathlib.Core.Bool.{cond};
-ghost use Rattle.layout.specs.Layout.{mostNodes, nameCount, expressionCount, nodeCount, Laid};
-ghost use Rattle.tree.specs.Tree.{KeepsSizes};
-ghost use Rattle.reach.specs.Checked.{Checked};
-ghost use Rattle.plan.specs.Plan.{Named, Spelled, Planned, watchesBefore, watchesBy, KeepsNames, KeepsExpressions, KeepsNodes, ProgramOf};
+ghost use Rattle.layout.specs.Layout.{mostNodes, Laid};
+ghost use Rattle.plan.specs.Plan.{CanPlan, seesIn, NamePacked, ExpressionPacked, NodePacked, Keeps, CanPack, watchesBefore, watchesBy, ProgramOf};
 
 // The kind of a watching.
 const WATCHING: usize = 8;
@@ -61,8 +60,8 @@ fn node_word(
     words: &[usize; WORDS],
     k: usize,
 ) -> usize
-    requires { ⌜ Laid (now s) c × (Checked (now s) × (KeepsSizes (now s) (c .nodes) (now sizes) × (KeepsNodes (now s) k (now words) × (k < c .nodes)))) ⌝ }
-    ensures { λ r. ⌜ Planned (now (s .entry)) k r ⌝ }
+    requires { ⌜ CanPack (now s) c (now sizes) (now words) k ⌝ }
+    ensures { λ r. ⌜ NodePacked (now (s .entry)) k r ⌝ }
 {
     let p = layout::entries::part_at(s, c, c.expressions + k);
     let parts = fields::children::children_of(p);
@@ -70,51 +69,53 @@ fn node_word(
     let b = field_b(p.kind, p.b, parts.second);
     let fields = packing::pack_fields(p.a, b, first, wide(sizes[first]));
     let kind = packing::mark(p.kind, has_watching(words, k, p.kind, parts));
-    packing::pack(program::forms::forms_of(p.kind), fields, kind)
+    packing::pack_node(program::forms::forms_of(p.kind), fields, kind)
 }
 
 // The word of expression e.
 fn expression_word(s: &[u8], c: Script, e: usize) -> usize
     requires { ⌜ Laid (now s) c × (e < c .expressions) ⌝ }
-    ensures { λ r. ⌜ Spelled (now (s .entry)) e r ⌝ }
+    ensures { λ r. ⌜ ExpressionPacked (now (s .entry)) e r ⌝ }
 {
     let p = layout::entries::part_at(s, c, e);
     if p.kind == 0 {
-        return packing::spell(0, p.b, p.c);
+        return packing::pack_expression(0, p.b, p.c);
     }
-    packing::spell(p.kind, p.b, p.a)
+    packing::pack_expression(p.kind, p.b, p.a)
 }
 
-// The word of name x.
-fn name_word(s: &[u8], c: Script, x: usize) -> usize
-    requires { ⌜ Laid (now s) c × (Checked (now s) × (x < c .names)) ⌝ }
-    ensures { λ r. ⌜ Named (now (s .entry)) x r ⌝ }
+// The word of name x. The reader sees a name at or below its level: others make no line, so that nothing of them shows in
+// the log.
+fn name_word(s: &[u8], c: Script, b: Book, reader: usize, x: usize) -> usize
+    requires { ⌜ CanPlan (now s) c b reader × (x < c .names) ⌝ }
+    ensures { λ r. ⌜ NamePacked (now (s .entry)) (seesIn b (now (s .entry)) reader) x r ⌝ }
 {
     let n = layout::entries::name_at(s, c, x);
-    packing::name(n.level, n.kind, n.owner == layout::entries::SESSION)
+    let seen = book::at_or_below(b, n.level, reader);
+    packing::pack_name(n.level, n.kind, n.owner == layout::entries::SESSION, seen)
 }
 
 // The words of the names.
-fn find_names(s: &[u8], c: Script) -> [usize; WORDS]
-    requires { ⌜ Laid (now s) c × Checked (now s) ⌝ }
-    ensures { λ r. ⌜ KeepsNames (now (s .entry)) (nameCount (now (s .entry))) r ⌝ }
+fn find_names(s: &[u8], c: Script, b: Book, reader: usize) -> [usize; WORDS]
+    requires { ⌜ CanPlan (now s) c b reader ⌝ }
+    ensures { λ r. ⌜ Keeps (now (s .entry)) (seesIn b (now (s .entry)) reader) (c .names) 0 0 r ⌝ }
 {
     let mut words = [0usize; WORDS];
     let n = c.names;
     let mut x: usize = 0;
     while x < n {
-        words[program::NAMES + x] = name_word(s, c, x);
+        words[program::NAMES + x] = name_word(s, c, b, reader, x);
         x += 1;
     }
     words
 }
 
 // And those of the expressions.
-fn find_expressions(s: &[u8], c: Script) -> [usize; WORDS]
-    requires { ⌜ Laid (now s) c × Checked (now s) ⌝ }
-    ensures { λ r. ⌜ KeepsNames (now (s .entry)) (nameCount (now (s .entry))) r × KeepsExpressions (now (s .entry)) (expressionCount (now (s .entry))) r ⌝ }
+fn find_expressions(s: &[u8], c: Script, b: Book, reader: usize) -> [usize; WORDS]
+    requires { ⌜ CanPlan (now s) c b reader ⌝ }
+    ensures { λ r. ⌜ Keeps (now (s .entry)) (seesIn b (now (s .entry)) reader) (c .names) (c .expressions) 0 r ⌝ }
 {
-    let mut words = find_names(s, c);
+    let mut words = find_names(s, c, b, reader);
     let n = c.expressions;
     let mut e: usize = 0;
     while e < n {
@@ -124,18 +125,19 @@ fn find_expressions(s: &[u8], c: Script) -> [usize; WORDS]
     words
 }
 
-pub fn find_plan(s: &[u8], c: Script) -> [usize; WORDS]
-    requires { ⌜ Laid (now s) c × Checked (now s) ⌝ }
-    ensures { λ r. ⌜ ProgramOf (now (s .entry)) r ⌝ }
+// The whole program.
+pub fn find_plan(s: &[u8], c: Script, b: Book, reader: usize) -> [usize; WORDS]
+    requires { ⌜ CanPlan (now s) c b reader ⌝ }
+    ensures { λ r. ⌜ ProgramOf (now (s .entry)) (seesIn b (now (s .entry)) reader) r ⌝ }
 {
     let sizes = tree::sizes::find_sizes(s, c);
-    let mut words = find_expressions(s, c);
+    let mut words = find_expressions(s, c, b, reader);
     let n = c.nodes;
     let mut k: usize = 0;
     while k < n {
         words[program::NODES + k] = node_word(s, c, &sizes, &words, k);
         k += 1;
     }
-    words[0] = packing::count(c.names, c.expressions, n);
+    words[0] = packing::pack_counts(c.names, c.expressions, n);
     words
 }

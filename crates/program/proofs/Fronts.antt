@@ -1,24 +1,23 @@
 -- The form of a node, as it is found.
--- Assumes nothing.
-use mathlib.Core.Path.{_≡_, refl, sym, ap, _∙_, subst}
+use mathlib.Core.Path.{_≡_, refl, sym, _∙_}
 use mathlib.Core.Bool.{Bool, true, false, _&&_, _||_}
+use mathlib.Core.Logic.{_⊎_, inl, inr}
 use mathlib.Core.List.{List, []}
 use Prim.Native.Nat.{ℕ, _+_, _-_, _≤_, _<_}
 use native.Mathlib.Omega.{arith}
-use native.Mathlib.Decide.{decLt}
+use native.Mathlib.Decide.{decLt, ℕ-discrete}
 use native.Mathlib.Nat.{le-trans}
 use lib.Dec.{eqb, leb, ltb}
 use lib.ListN.{getD, length, List·getD-eq-default}
-use borrow.Author.Tests.{eqb-true, leb-true, le-leb, lt-leb, le-ltb}
+use borrow.Author.Tests.{eqb-true, eq-eqb, ne-eqb, leb-true, le-leb, lt-leb, le-ltb}
 use Rattle.prelude.specs.Search.{all, any, firstFrom}
 use Rattle.prelude.specs.Search as search-for
 use Rattle.prelude.proofs.Each.{Each, each}
 use Rattle.prelude.proofs.Bools.{and-left, and-right, or-second, by-cases}
 use Rattle.prelude.proofs.Searches.{all-elim}
-use Rattle.packing.specs.Packing.{sizeIn}
 use Rattle.program.specs.declared.forms.Front.{Front}
-use Rattle.program.specs.Program.{nodeWord, kindAt, firstAt, secondAt}
-use Rattle.program.specs.Forms.{nothing, itself, beside, turned, formRows, formOf, fromSecond, frontOf}
+use Rattle.program.specs.Program.{kindAt}
+use Rattle.program.specs.Forms.{nothing, itself, beside, turned, formRows, formOf, fromSecond, firstFront, secondFront, frontOf, rearOf}
 
 -- a number that is none of the first n
 pub past-all : (n k : ℕ) → Each (λ m. k ≡ m → ⊥) n → n ≤ k
@@ -41,24 +40,20 @@ form-past kind tag h l =
 abbrev turns : ℕ → ℕ → Bool
 turns kind tag =
     ltb (formOf kind tag) beside
-    || (leb tag 1 && (leb (formOf kind tag) turned && eqb (formOf kind tag + formOf kind (1 - tag)) 15))
+    || (leb (formOf kind tag) turned && eqb (formOf kind tag + formOf kind (1 - tag)) 15)
 
-pub rear-form :
+rear-form :
     (kind tag : ℕ) → kind < 11 → beside ≤ formOf kind tag →
-    (tag ≤ 1) × ((formOf kind tag ≤ turned) × (formOf kind tag + formOf kind (1 - tag) ≡ 15))
+    (formOf kind tag ≤ turned) × (formOf kind tag + formOf kind (1 - tag) ≡ 15)
 unfolding all any search-for.first firstFrom
 rear-form kind tag h l =
     elim (decLt tag 4) [
       | yes few ↦
           let t =
           sym (or-second (ltb (formOf kind tag) beside) _ (le-ltb (formOf kind tag) beside l))
-          ∙ all-elim (turns kind) 4 (all-elim (λ k. all (turns k) 4) 11 refl kind h) tag few in
-          let u = and-right (leb tag 1) _ t in (
-            leb-true tag 1 (and-left (leb tag 1) _ t),
-            (
-              leb-true (formOf kind tag) turned (and-left (leb (formOf kind tag) turned) _ u),
-              eqb-true (formOf kind tag + formOf kind (1 - tag)) 15 (and-right (leb (formOf kind tag) turned) _ u),
-            ),
+          ∙ all-elim (turns kind) 4 (all-elim (λ k. all (turns k) 4) 11 refl kind h) tag few in (
+            leb-true (formOf kind tag) turned (and-left (leb (formOf kind tag) turned) _ t),
+            eqb-true (formOf kind tag + formOf kind (1 - tag)) 15 (and-right (leb (formOf kind tag) turned) _ t),
           )
       | no many ↦ absurd (omega (arith, l, form-past kind tag h (omega arith)))
     ]
@@ -75,22 +70,46 @@ module _ (words : List ℕ) (k tag len : ℕ) where
 
   -- the front that is found
   module _ {form : ℕ} (f : form ≡ formOf (kindAt words k) tag) where
-    pub front-none : form ≤ itself → record { form = form; child = 0; from = 0; to = 0 } ≡ frontOf words k tag len
+    pub front-none : form ≤ itself → frontOf words k tag len ≡ record { form = form; child = 0; from = 0; to = 0 }
     unfolding frontOf
-    front-none l = rw (f, le-leb (formOf (kindAt words k) tag) itself (subst (λ x. x ≤ itself) f l))
+    front-none l = rw (← f, le-leb form itself l)
 
-    module _ (l : itself < form) {n : ℕ} (m : n ≡ sizeIn (nodeWord words k)) where
-      more : leb (formOf (kindAt words k) tag) itself ≡ false
-      more = lt-leb (formOf (kindAt words k) tag) itself (subst (λ x. itself < x) f l)
+    pub front-second : itself < form → fromSecond form ≡ true → frontOf words k tag len ≡ secondFront words k form len
+    unfolding frontOf
+    front-second l t = rw (← f, lt-leb form itself l, t)
 
-      pub front-second :
-          {two : ℕ} → two ≡ secondAt words k → fromSecond form ≡ true →
-          record { form = form; child = two; from = 1 + n; to = len } ≡ frontOf words k tag len
-      unfolding frontOf
-      front-second b t = rw (f, more, ap fromSecond (sym f) ∙ t, b, m)
+    pub front-first : itself < form → fromSecond form ≡ false → frontOf words k tag len ≡ firstFront words k form
+    unfolding frontOf
+    front-first l t = rw (← f, lt-leb form itself l, t)
 
-      pub front-first :
-          {one : ℕ} → one ≡ firstAt words k → fromSecond form ≡ false →
-          record { form = form; child = one; from = 1; to = 1 + n } ≡ frontOf words k tag len
-      unfolding frontOf
-      front-first a t = rw (f, more, ap fromSecond (sym f) ∙ t, a, m)
+-- a parallel, by the form of its part in front
+module _ (words : List ℕ) (k tag len : ℕ) {form : ℕ} (f : form ≡ formOf (kindAt words k) tag) (h : kindAt words k < 11)
+    (l : beside ≤ form) where
+  two-forms : (form ≤ turned) × (form + formOf (kindAt words k) (1 - tag) ≡ 15)
+  two-forms = rw f (rear-form (kindAt words k) tag h (rw f at l))
+
+  -- its other part is that in front by the other byte
+  pub rear-is : rearOf words k form len ≡ frontOf words k (1 - tag) len
+  unfolding rearOf
+  rear-is =
+      elim (ℕ-discrete form beside) [
+        | yes e ↦
+            rw (eq-eqb form beside e)
+            (sym (front-second words k (1 - tag) len {form = turned} (omega (arith, two-forms)) (omega arith) refl))
+        | no n ↦
+            rw (ne-eqb form beside n)
+            (sym (front-first words k (1 - tag) len {form = beside} (omega (arith, two-forms)) (omega arith) refl))
+      ]
+
+  -- the parts lie one after the other
+  pub parts-meet :
+      (frontOf words k tag len .to ≡ frontOf words k (1 - tag) len .from)
+      ⊎ (frontOf words k (1 - tag) len .to ≡ frontOf words k tag len .from)
+  unfolding rearOf
+  parts-meet =
+      elim (ℕ-discrete form beside) [
+        | yes e ↦ rw (front-first words k tag len f (omega arith) (rw e), ← rear-is, eq-eqb form beside e) (inl refl)
+        | no n ↦
+            let e : form ≡ turned = omega (arith, two-forms) in
+            rw (front-second words k tag len f (omega arith) (rw e), ← rear-is, ne-eqb form beside n) (inr refl)
+      ]

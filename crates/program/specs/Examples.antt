@@ -4,19 +4,19 @@ use mathlib.Core.Bool.{true, false}
 use mathlib.Core.List.{List, [], _∷_, _++_}
 use lib.ListN.{replicate}
 use Prim.Native.Nat.{ℕ, _-_}
-use Rattle.packing.specs.Packing.{named, counted, packedFields, packed}
-use Rattle.language.specs.Syntax.{Proc, emit, sequence}
+use Rattle.packing.specs.Packing.{packedName, packedCounts, packedFields, packedNode}
+use Rattle.language.specs.Syntax.{emit, sequence}
 use Rattle.program.specs.Program.{nodeStart, script}
 use Rattle.program.specs.Forms.{formsOf}
 
 abbrev nodeOf : ℕ → ℕ → ℕ → ℕ → ℕ → ℕ
-nodeOf kind a b first size = packed (formsOf kind) (packedFields a b first size) kind
+nodeOf kind a b first size = packedNode (formsOf kind) (packedFields a b first size) kind
 
 abbrev pub twoSignals : List ℕ
 twoSignals =
-    counted 2 0 3
-    ∷ named 3 1 true true
-    ∷ named 5 1 false false
+    packedCounts 2 0 3
+    ∷ packedName 3 1 true true
+    ∷ packedName 5 1 false false
     ∷ (replicate (nodeStart - 3) 0 ++ (nodeOf 6 0 0 0 0 ∷ nodeOf 6 1 0 0 0 ∷ nodeOf 5 0 1 0 1 ∷ []))
 
 abbrev pub TwoSignals : Type 0

@@ -68,19 +68,27 @@ formOf kind tag = getD (getD formRows kind []) tag nothing
 abbrev pub fromSecond : ℕ → Bool
 fromSecond form = eqb form second || eqb form turned
 
--- The form of node k, and of the part in front: its node, and where its bytes stand among those of node k, of which
--- there are so many. Where no part is in front that is of no meaning, and 0.
-unfoldable pub frontOf : List ℕ → ℕ → ℕ → ℕ → Front
-frontOf words k tag len =
-    let form : ℕ = formOf (kindAt words k) tag in
-    let middle : ℕ = 1 + sizeIn (nodeWord words k) in
-    cond
-    (leb form itself)
-    (record { form = form; child = 0; from = 0; to = 0 })
-    (cond
-    (fromSecond form)
-    (record { form = form; child = secondAt words k; from = middle; to = len })
-    (record { form = form; child = firstAt words k; from = 1; to = middle }))
+module _ (words : List ℕ) (k : ℕ) where
+  -- The first part of node k in front, or the second, with this form: its node, and where its bytes stand among those of
+  -- node k, of which there are so many.
+  abbrev pub firstFront : ℕ → Front
+  firstFront form =
+      record { form = form; child = firstAt words k; from = 1; to = 1 + sizeIn (nodeWord words k) }
+
+  abbrev pub secondFront : ℕ → ℕ → Front
+  secondFront form len =
+      record { form = form; child = secondAt words k; from = 1 + sizeIn (nodeWord words k); to = len }
+
+  -- The part in front, by the node's own byte. Where no part is in front it is of no meaning, and 0.
+  unfoldable pub frontOf : ℕ → ℕ → Front
+  frontOf tag len =
+      let form : ℕ = formOf (kindAt words k) tag in
+      cond (leb form itself) (record { form = form; child = 0; from = 0; to = 0 })
+      (cond (fromSecond form) (secondFront form len) (firstFront form))
+
+  -- the other part of a parallel whose part in front has this form
+  unfoldable pub rearOf : ℕ → ℕ → Front
+  rearOf form len = cond (eqb form beside) (secondFront turned len) (firstFront beside)
 
 -- the bytes of the part in front
 abbrev pub partIn : Front → List ℕ → List ℕ

@@ -4,13 +4,13 @@
 use mathlib.Core.Bool.{Bool}
 use mathlib.Core.List.{List, [], _∷_}
 use Prim.Native.Nat.{ℕ, _+_, _-_}
-use lib.IntN.{ℤ, pos}
+use lib.IntN.{pos}
 use lib.ListN.{getD}
 use mir.Syntax.{w32}
 use mir.Val.{toZ}
 use Rattle.prelude.specs.Course.{entry}
 use Rattle.language.specs.Syntax.{Names, add, subtract, multiply, divide, less, equal, Exp, constant, register, binary, negated, Proc, nil, assign, letIn, ifThenElse, while, sequence, emit, local, watching, when, parallel}
-use Rattle.packing.specs.Packing.{kindIn, constantIn, operandIn, laterIn, aIn, bIn, firstIn, sizeIn, nodeKindIn, levelIn, signalIn, sessionIn, seenIn, namesIn, expressionsIn, nodesIn}
+use Rattle.packing.specs.Packing.{kindIn, constantIn, operandIn, laterIn, aIn, bIn, firstIn, nodeKindIn, levelIn, signalIn, sessionIn, seenIn, namesIn, expressionsIn, nodesIn}
 
 -- 'at most 64 names, 256 expressions, 256 nodes'
 abbrev pub mostNames : ℕ

@@ -1,9 +1,9 @@
 // The form that a node has come to: what is in front, and what stands around it.
 use crate::WORDS;
 ghost use mathlib.Core.Path.{_≡_};
-ghost use Prim.Native.Nat.{_-_, _≤_, _<_};
-ghost use Rattle.program.specs.Program.{nodeCount, kindAt};
-ghost use Rattle.program.specs.Forms.{beside, formOf, frontOf, formsOf};
+ghost use Prim.Native.Nat.{_<_};
+ghost use Rattle.program.specs.Program.{mostNodes, nodeCount, kindAt};
+ghost use Rattle.program.specs.Forms.{formOf, frontOf, rearOf, formsOf};
 ghost use Rattle.program.specs.Runnable.{Runnable};
 
 // Nil.
@@ -126,11 +126,10 @@ pub fn find_front(program: &[usize; WORDS], k: usize, tag: u8, len: usize) -> Fr
     }
 }
 
-// The other part of a parallel whose part in front has this form.
-pub fn find_rear(program: &[usize; WORDS], k: usize, tag: u8, len: usize, form: u8) -> Front
-    requires { ⌜ Runnable (now program) × (k < nodeCount (now program)) ⌝ }
-    requires { ⌜ (form ≡ frontOf (now program) k tag len .form) × (beside ≤ form) ⌝ }
-    ensures { λ r. ⌜ r ≡ frontOf (now (program .entry)) k (1 - tag) len ⌝ }
+// The other part of a parallel whose part in front has this form, and which has so many bytes.
+pub fn find_rear(program: &[usize; WORDS], k: usize, len: usize, form: u8) -> Front
+    requires { ⌜ k < mostNodes ⌝ }
+    ensures { λ r. ⌜ r ≡ rearOf (now (program .entry)) k form len ⌝ }
 {
     let w = crate::word_at(program, k);
     let middle = 1 + packing::size_in(w);

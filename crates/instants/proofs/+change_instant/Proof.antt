@@ -9,15 +9,16 @@ use borrow.Author.Tests.{not-true, not-false}
 use Rattle.language.specs.Steps.{present}
 use Rattle.program.specs.Program.{processOf}
 use Rattle.program.specs.declared.forms.Front.{Front}
-use Rattle.program.specs.Forms.{itself, watched, guarded, beside, frontOf}
+use Rattle.program.specs.Forms.{itself, watched, guarded}
 use Rattle.program.proofs.Fronts.{front-form}
 use Rattle.residual.specs.Residual.{own}
+use Rattle.residual.specs.Nodes.{frontIn}
 use Rattle.residual.proofs.Sights.{signalAt}
 use Rattle.residual.proofs.Residuals.{some-bytes}
 use Rattle.residual.proofs.Staying.{unwatched-stays}
 use Rattle.instants.proofs.Deciding.{Found, Part, front-part, stays, signal-known, ends, shuts}
 use Rattle.instants.proofs.Changing.{put, length-one, one-changed, rear-after, length-two, two-changed}
-use Prim.Native.Nat.{ℕ, _≤_, _<_}
+use Prim.Native.Nat.{ℕ, _<_}
 use borrow.Fn.Kinds.{In}
 use borrow.Fn.PlainCycle.{Measures, is, falls, and}
 use Rattle.instants.proofs.change_instant.Reads as change-instant
@@ -70,14 +71,14 @@ R t = (
 found :
     (t : ℕ) (c : change-instant-lts.Start (R t) (change-instant-at t) change-instant.Post) →
     let args = c .args in
-    Found (args .program .now) (args .values .now) (args .k) (args .state .now) (frontOf (args .program .now) (args .k) (own (args .state .now)) (length (args .state .now)))
+    Found (args .program .now) (args .values .now) (args .k) (args .state .now) (frontIn (args .program .now) (args .k) (args .state .now))
 found t c = record { valued = c .pre .1 .valued; at = c .pre .1 .node; front = refl }
 
 form-is :
     (t : ℕ) (c : change-instant-lts.After-form-at (R t) (change-instant-at t) change-instant.Post) →
     let start = c .before .before .before .before .before in
     let args = start .args in
-    c .form-at .result ≡ (frontOf (args .program .now) (args .k) (own (args .state .now)) (length (args .state .now))) .form
+    c .form-at .result ≡ (frontIn (args .program .now) (args .k) (args .state .now)) .form
 form-is t c =
     let start = c .before .before .before .before .before in
     let args = start .args in
@@ -88,7 +89,7 @@ some-part :
     (t : ℕ) (c : change-instant-lts.Else2 (R t) (change-instant-at t) change-instant.Post) →
     let start = c .before .before .before .before .before .before in
     let args = start .args in
-    itself < (frontOf (args .program .now) (args .k) (own (args .state .now)) (length (args .state .now))) .form
+    itself < (frontIn (args .program .now) (args .k) (args .state .now)) .form
 some-part t c = subst (λ n. itself < n) (form-is t (c .before)) (c .if2 .left)
 
 -- no signal ends a watching around its part ..
@@ -96,7 +97,7 @@ silent :
     (t : ℕ) (c : change-instant-lts.Joined3 (R t) (change-instant-at t) change-instant.Post) →
     let start = c .before .before .before .before .before .before .before in
     let args = start .args in
-    (frontOf (args .program .now) (args .k) (own (args .state .now)) (length (args .state .now))) .form ≡ watched → present (args .values .now) (signalAt (args .program .now) (args .k)) ≡ false
+    (frontIn (args .program .now) (args .k) (args .state .now)) .form ≡ watched → present (args .values .now) (signalAt (args .program .now) (args .k)) ≡ false
 silent t c e =
     ⊎-elim (λ w. sym (w .1 .ensures) ∙ w .2 .left) (λ w. absurd (w .left (form-is t (c .before .before) ∙ e))) (c .if3 .came)
 
@@ -105,7 +106,7 @@ shown :
     (t : ℕ) (c : change-instant-lts.Joined5 (R t) (change-instant-at t) change-instant.Post) →
     let start = c .before .before .before .before .before .before .before .before in
     let args = start .args in
-    (frontOf (args .program .now) (args .k) (own (args .state .now)) (length (args .state .now))) .form ≡ guarded → present (args .values .now) (signalAt (args .program .now) (args .k)) ≡ true
+    (frontIn (args .program .now) (args .k) (args .state .now)) .form ≡ guarded → present (args .values .now) (signalAt (args .program .now) (args .k)) ≡ true
 shown t c e =
     ⊎-elim (λ w. sym (w .1 .ensures) ∙ not-false _ (w .2 .left)) (λ w. absurd (w .left (form-is t (c .before .before .before) ∙ e))) (c .if5 .came)
 
@@ -130,11 +131,6 @@ part :
     Part (args .program .now) (args .k) (args .state .now) (c .find-front .result)
 part t c = front-part (standing t c) (ahead t c)
 
--- of a parallel
-both :
-    (t : ℕ) (c : change-instant-lts.Then7 (R t) (change-instant-at t) change-instant.Post) → beside ≤ c .before .before .before .before .before .find-front .result .form
-both t c = rw (c .before .before .before .before .before .find-front .ensures) (omega (arith, form-is t (c .before .before .before .before .before .before .before .before .before), c .if7 .taken))
-
 -- the part behind it, where the part in front has changed
 behind :
     (t : ℕ) (c : change-instant-lts.After-find-rear (R t) (change-instant-at t) change-instant.Post) →
@@ -144,7 +140,7 @@ behind :
     Part (args .program .now) (args .k) bytes (c .find-rear .result)
 behind t c =
     let one = c .before .before .before .before .change-instant in
-    rear-after (standing t (c .before .before .before .before .before .before)) (ahead t (c .before .before .before .before .before .before)) (one .last .1 .1 .0) (one .kept .1 .1 .0) (both t (c .before)) (c .find-rear .ensures)
+    rear-after (standing t (c .before .before .before .before .before .before)) (ahead t (c .before .before .before .before .before .before)) (one .last .1 .1 .0) (one .kept .1 .1 .0) (form-is t (c .before .before .before .before .before .before .before .before .before .before)) (c .before .if7 .taken) (c .find-rear .ensures)
 
 change-instant-watches-at-requires : (t : ℕ) → change-instant-lts.Need-watches-at-requires (R t) (change-instant-at t) change-instant.Post
 change-instant-watches-at-requires t c κs =
@@ -239,7 +235,7 @@ change-instant-find-rear-requires : (t : ℕ) → change-instant-lts.Need-find-r
 change-instant-find-rear-requires t c κs =
     let start = c .before .before .before .before .before .before .before .before .before .before .before .before .before .before in
     let pre = start .pre .1 in
-    ((pre .valued .runnable, pre .node .known), (form-is t (c .before .before .before .before .before .before .before .before .before), c .if7 .taken))
+    omega (arith, pre .node .known, pre .valued .runnable .fewNodes)
 
 change-instant-sub-change-instant-2 : (t : ℕ) → change-instant-lts.Need-sub-change-instant-2 (R t) (change-instant-at t) change-instant.Post
 change-instant-sub-change-instant-2 t c = behind t c .order
@@ -261,14 +257,14 @@ change-instant-same-length-2 t c =
     let one = c .before .before .before .before .before .before .before .before .change-instant in
     let two = c .before .before .change-instant2 in
     length-two (standing t (c .before .before .before .before .before .before .before .before .before .before)) (ahead t (c .before .before .before .before .before .before .before .before .before .before)) (one .last .1 .1 .0) (one .kept .1 .1 .0)
-    (both t (c .before .before .before .before .before)) (c .before .before .before .before .find-rear .ensures) (two .last .1 .1 .0) (two .kept .1 .1 .0)
+    (form-is t (c .before .before .before .before .before .before .before .before .before .before .before .before .before .before)) (c .before .before .before .before .before .if7 .taken) (c .before .before .before .before .find-rear .ensures) (two .last .1 .1 .0) (two .kept .1 .1 .0)
 
 change-instant-returns-5 : (t : ℕ) → change-instant-lts.Need-returns-5 (R t) (change-instant-at t) change-instant.Post
 change-instant-returns-5 t c =
     let one = c .before .before .before .before .before .before .before .before .change-instant in
     let two = c .before .before .change-instant2 in
     two-changed (standing t (c .before .before .before .before .before .before .before .before .before .before)) (ahead t (c .before .before .before .before .before .before .before .before .before .before)) (one .last .1 .1 .0) (one .kept .1 .1 .0)
-    (both t (c .before .before .before .before .before)) (c .before .before .before .before .find-rear .ensures) (two .last .1 .1 .0) (two .kept .1 .1 .0) (one .ensures) (two .ensures)
+    (form-is t (c .before .before .before .before .before .before .before .before .before .before .before .before .before .before)) (c .before .before .before .before .before .if7 .taken) (c .before .before .before .before .find-rear .ensures) (two .last .1 .1 .0) (two .kept .1 .1 .0) (one .ensures) (two .ensures)
 
 change-instant-same-length-3 : (t : ℕ) → change-instant-lts.Need-same-length-3 (R t) (change-instant-at t) change-instant.Post
 change-instant-same-length-3 t c =

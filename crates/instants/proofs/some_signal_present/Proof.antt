@@ -1,9 +1,8 @@
 -- `some_signal_present`: of the names passed none is a signal that is present.
 use mathlib.Core.Path.{sym, _∙_}
-use Prim.Native.Nat.{_-_, _≤_, _<_}
+use Prim.Native.Nat.{_-_, _≤_}
 use native.Mathlib.Omega.{arith}
 use borrow.Author.Count.{below-none, below-more}
-use lib.ListN.{length}
 use Rattle.prelude.proofs.Searches.{NoneBelow, past, any-some, any-none}
 use Rattle.program.specs.Program.{namesOf}
 use Rattle.instants.specs.Contracts.{isPresentSignal}

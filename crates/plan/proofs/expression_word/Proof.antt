@@ -1,10 +1,10 @@
--- `expression_word`: the entry, spelled by its kind.
+-- `expression_word`: the entry, packed by its kind.
 use mathlib.Core.Path.{ap}
 use Prim.Native.Nat.{_+_, _<_}
 use native.Mathlib.Omega.{arith}
 use Rattle.layout.specs.Entries.{partAt}
 use Rattle.layout.proofs.Values.{word-fits}
-use Rattle.plan.proofs.Plans.{spells-constant, spells}
+use Rattle.plan.proofs.Plans.{constant-packed, operands-packed}
 use borrow.Author.Needs.{needs}
 use Rattle.plan.proofs.expression_word.Statement.{statement}
 use Rattle.plan.proofs.expression_word.Tie as tie
@@ -33,24 +33,24 @@ kind c =
     let s = c .before .before .args .s .now in
     omega (arith, ap (λ p. p .kind) (c .part-at .ensures), c .before .shared-slice-known .given (partAt s (c .before .before .args .e)))
 
-spell-requires : tie.Need-spell-requires
-spell-requires c κs = (omega arith, (field-b ((c .before .before)), field-c ((c .before .before))))
+pack-expression-requires : tie.Need-pack-expression-requires
+pack-expression-requires c κs = (omega arith, (field-b (c .before .before), field-c (c .before .before)))
 
 returns : tie.Need-returns
 returns c =
     let at = (c .before .before .before) in
-    rw (c .spell .ensures)
-    (spells-constant _ _ _ (at .part-at .ensures) (field-b at) (c .before .if1 .taken) (field-c at))
+    rw (c .pack-expression .ensures)
+    (constant-packed _ _ _ (at .part-at .ensures) (field-b at) (c .before .if1 .taken) (field-c at))
 
-spell-requires-2 : tie.Need-spell-requires-2
-spell-requires-2 c κs = (kind ((c .before .before)), (field-b ((c .before .before)), field-a ((c .before .before))))
+pack-expression-requires-2 : tie.Need-pack-expression-requires-2
+pack-expression-requires-2 c κs = (kind (c .before .before), (field-b (c .before .before), field-a (c .before .before)))
 
 returns-2 : tie.Need-returns-2
 returns-2 c =
     let at = (c .before .before .before) in
-    rw (c .spell2 .ensures)
-    (spells _ _ _ (at .part-at .ensures) (field-b at) (c .before .if1 .left) (field-a at))
+    rw (c .pack-expression2 .ensures)
+    (operands-packed _ _ _ (at .part-at .ensures) (field-b at) (c .before .if1 .left) (field-a at))
 
 pub expression-word-spec : {M : Type 1} → statement M
 expression-word-spec =
-    tie.close (tie.spec part-at-requires spell-requires returns spell-requires-2 returns-2)
+    tie.close (tie.spec part-at-requires pack-expression-requires returns pack-expression-requires-2 returns-2)

@@ -1,33 +1,35 @@
 -- `find_names`: the table has the words of the names below x.
-use mathlib.Core.Path.{_≡_, refl, _∙_}
-use Prim.Native.Nat.{_+_, _-_, _≤_, _<_}
+use mathlib.Core.Path.{_≡_, refl}
+use Prim.Native.Nat.{_-_, _≤_, _<_}
 use native.Mathlib.Omega.{arith}
-use lib.ListN.{length, length-set}
 use borrow.Author.Count.{below-none}
-use Rattle.layout.proofs.Layouts.{few-bounds, names-are}
-use Rattle.program.specs.Program.{wordCount}
-use Rattle.plan.specs.Plan.{Named, KeepsNames}
-use Rattle.plan.proofs.Plans.{kept-more}
+use Rattle.layout.specs.Layout.{mostNames}
+use Rattle.layout.proofs.Layouts.{few-bounds}
+use Rattle.plan.specs.Plan.{seesIn, Keeps}
+use Rattle.plan.proofs.Plans.{name-more}
 use borrow.Author.Needs.{needs, fits-under}
 use Rattle.plan.proofs.find_names.Statement.{statement}
 use Rattle.plan.proofs.find_names.Tie as tie
 
 abbrev Inv-loop : tie.InvT-loop
-Inv-loop s c words₀ n x₀ words x = (x ≤ n) × ((length words ≡ wordCount) × KeepsNames s x words)
+Inv-loop s c b reader words₀ n x₀ words x = (x ≤ n) × Keeps s (seesIn b s reader) x 0 0 words
 
 abbrev μ-loop : tie.MeasureT-loop
-μ-loop s c words₀ n x₀ words x = n - x
+μ-loop s c b reader words₀ n x₀ words x = n - x
 
 loop-holds : tie.Need-loop-holds Inv-loop μ-loop
-loop-holds c = (search needs, (refl, below-none _))
+loop-holds c = (
+  search needs,
+  record { long = refl; name = below-none _; expression = below-none _; node = below-none _ },
+)
 
 name-word-requires : tie.Need-name-word-requires Inv-loop μ-loop
 name-word-requires c κs = search needs
 
-inside : (c : tie.After-name-word Inv-loop μ-loop) → c .before .before .loop .x < 64
+inside : (c : tie.After-name-word Inv-loop μ-loop) → c .before .before .loop .x < mostNames
 inside c =
     let start = c .before .before .before .before in
-    omega (arith, c .before .loop-test .taken, few-bounds (start .args .c) (start .pre .0 .few))
+    omega (arith, c .before .loop-test .taken, few-bounds (start .args .c) (start .pre .laid .few))
 
 add-words : tie.Need-add-words Inv-loop μ-loop
 add-words c = fits-under _ _ 65 (omega (arith, inside c)) tt
@@ -45,18 +47,12 @@ loop-less : tie.Need-loop-less Inv-loop μ-loop
 loop-less c = search needs
 
 loop-again : tie.Need-loop-again Inv-loop μ-loop
-loop-again c =
-    let loop = c .before .before .loop in
-    let s = c .before .before .before .before .args .s .now in (
-      search needs,
-      (
-        length-set (loop .words) (1 + loop .x) (c .name-word .result) ∙ loop .inv .1 .0,
-        kept-more (Named s) 1 (loop .words) (loop .x) _ (omega (arith, loop .inv .1 .0, inside c)) (c .name-word .ensures) (loop .inv .1 .1),
-      ),
-    )
+loop-again c = (search needs, name-more (c .before .before .loop .inv .1) (inside c) (c .name-word .ensures))
 
 returns : tie.Need-returns Inv-loop μ-loop
-returns c x l = c .before .loop .inv .1 .1 x (omega (arith, l, c .loop-test .left, names-are (c .before .before .before .pre .0)))
+returns c =
+    let all : c .before .before .before .args .c .names ≡ c .before .loop .x = omega arith in
+    rw all (c .before .loop .inv .1)
 
 pub find-names-spec : {M : Type 1} → statement M
 find-names-spec =

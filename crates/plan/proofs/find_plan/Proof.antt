@@ -1,39 +1,25 @@
--- `find_plan`: the table has the words of the names, of the expressions, and of the nodes below k.
-use mathlib.Core.Path.{_≡_, ap, _∙_}
-use mathlib.Core.Logic.{inl, inr}
-use Prim.Native.Nat.{_+_, _-_, _≤_, _<_}
+-- `find_plan`: the table has the words of the names and of the expressions still, and those of the nodes below k.
+use mathlib.Core.Path.{_≡_}
+use mathlib.Core.Bool.{Bool}
+use Prim.Native.Nat.{ℕ, _-_, _≤_, _<_}
 use native.Mathlib.Omega.{arith}
-use lib.ListN.{length, length-set, set}
-use lib.Seq.{getD-set-same}
-use borrow.Author.Count.{below-none}
-use Rattle.layout.specs.Layout.{nameCount, expressionCount, nodeCount}
-use Rattle.layout.proofs.Layouts.{few-bounds, names-are, expressions-are, nodes-are}
-use Rattle.packing.specs.Packing.{namesIn, expressionsIn, nodesIn}
-use Rattle.program.specs.Program.{expressionStart, nodeStart, wordCount}
-use Rattle.plan.specs.Plan.{Named, Spelled, Planned, KeepsNames, KeepsExpressions, KeepsNodes}
-use Rattle.plan.proofs.Plans.{kept-more, kept-still, counts-told}
-use Rattle.plan.proofs.Joining.{program-of}
+use Rattle.layout.specs.Layout.{mostNodes}
+use Rattle.layout.proofs.Layouts.{few-bounds}
+use Rattle.plan.specs.Plan.{Keeps}
+use Rattle.plan.proofs.Plans.{node-more}
+use Rattle.plan.proofs.Joining.{packed, program-of}
 use borrow.Author.Needs.{needs, fits-under}
 use Rattle.plan.proofs.find_plan.Statement.{statement}
 use Rattle.plan.proofs.find_plan.Tie as tie
 
+-- whichever names the reader sees: the book is not at hand in the loop
 abbrev Inv-loop : tie.InvT-loop
-Inv-loop s c sizes words₀ n k₀ words k =
+Inv-loop s c reader sizes words₀ n k₀ words k =
     (k ≤ n)
-    × ((length words ≡ wordCount)
-    × (KeepsNames s (nameCount s) words × (KeepsExpressions s (expressionCount s) words × KeepsNodes s k words)))
+    × ((sees : ℕ → Bool) → Keeps s sees (c .names) (c .expressions) 0 words₀ → Keeps s sees (c .names) (c .expressions) k words)
 
 abbrev μ-loop : tie.MeasureT-loop
-μ-loop s c sizes words₀ n k₀ words k = n - k
-
--- 'At most 64 names, 256 expressions, 256 nodes'
-few :
-    (c : tie.Start Inv-loop μ-loop) →
-    (nameCount (c .args .s .now) ≤ 64) × ((expressionCount (c .args .s .now) ≤ 256) × (c .args .c .nodes ≤ 256))
-few c =
-    let laid = c .pre .0 in
-    let b = few-bounds (c .args .c) (laid .few) in
-    (omega (arith, names-are laid, b), (omega (arith, expressions-are laid, b), omega (arith, b)))
+μ-loop s c reader sizes words₀ n k₀ words k = n - k
 
 find-sizes-requires : tie.Need-find-sizes-requires Inv-loop μ-loop
 find-sizes-requires c κs = search needs
@@ -42,20 +28,24 @@ find-expressions-requires : tie.Need-find-expressions-requires Inv-loop μ-loop
 find-expressions-requires c κs = search needs
 
 loop-holds : tie.Need-loop-holds Inv-loop μ-loop
-loop-holds c = (
-  search needs,
-  (search needs, (c .find-expressions .ensures .0, (c .find-expressions .ensures .1, below-none _))),
-)
+loop-holds c = (search needs, λ sees keeps. keeps)
 
 node-word-requires : tie.Need-node-word-requires Inv-loop μ-loop
 node-word-requires c κs =
     let start = c .before .before .before .before .before .before .before in
-    (start .pre .0, (start .pre .1, (c .before .before .before .before .before .find-sizes .ensures, (c .before .before .before .loop .inv .1 .1 .1 .1, c .before .before .loop-test .taken))))
+    let loop = c .before .before .before .loop in
+    record {
+      laid = start .pre .laid;
+      checked = start .pre .checked;
+      sized = c .before .before .before .before .before .find-sizes .ensures;
+      before = loop .inv .1 _ (c .before .before .before .before .find-expressions .ensures) .node;
+      known = c .before .before .loop-test .taken;
+    }
 
-inside : (c : tie.After-node-word Inv-loop μ-loop) → c .before .before .before .before .loop .k < 256
+inside : (c : tie.After-node-word Inv-loop μ-loop) → c .before .before .before .before .loop .k < mostNodes
 inside c =
     let start = c .before .before .before .before .before .before .before .before in
-    omega (arith, c .before .before .before .loop-test .taken, few start)
+    omega (arith, c .before .before .before .loop-test .taken, few-bounds (start .args .c) (start .pre .laid .few))
 
 add-words : tie.Need-add-words Inv-loop μ-loop
 add-words c = fits-under _ _ 897 (omega (arith, inside c)) tt
@@ -75,26 +65,13 @@ loop-less c = search needs
 loop-again : tie.Need-loop-again Inv-loop μ-loop
 loop-again c =
     let start = c .before .before .before .before .before .before .before .before in
-    let s = start .args .s .now in
-    let loop = c .before .before .before .before .loop in
-    let w = c .node-word .result in (
-      search needs,
-      (
-        length-set (loop .words) (nodeStart + loop .k) w ∙ loop .inv .1 .0,
-        (
-          kept-still (Named s) 1 (loop .words) (nameCount s) (nodeStart + loop .k) w (inr (omega (arith, few start))) (loop .inv .1 .1 .0),
-          (
-            kept-still (Spelled s) expressionStart (loop .words) (expressionCount s) (nodeStart + loop .k) w (inr (omega (arith, few start))) (loop .inv .1 .1 .1 .0),
-            kept-more (Planned s) nodeStart (loop .words) (loop .k) w (omega (arith, loop .inv .1 .0, inside c)) (c .node-word .ensures) (loop .inv .1 .1 .1 .1),
-          ),
-        ),
-      ),
-    )
+    let few = few-bounds (start .args .c) (start .pre .laid .few) in
+    (search needs, λ sees keeps. node-more (c .before .before .before .before .loop .inv .1 sees keeps) (few .0) (few .1 .0) (inside c) (c .node-word .ensures))
 
-count-requires : tie.Need-count-requires Inv-loop μ-loop
+count-requires : tie.Need-pack-counts-requires Inv-loop μ-loop
 count-requires c κs =
     let start = c .before .before .before .before .before in
-    let b = few-bounds (start .args .c) (start .pre .0 .few) in
+    let b = few-bounds (start .args .c) (start .pre .laid .few) in
     (omega (arith, b), (omega (arith, b), omega (arith, b)))
 
 array-write-words-2 : tie.Need-array-write-words-2 Inv-loop μ-loop
@@ -103,24 +80,10 @@ array-write-words-2 c = search needs
 returns : tie.Need-returns Inv-loop μ-loop
 returns c =
     let start = c .before .before .before .before .before .before in
-    let s = start .args .s .now in
-    let laid = start .pre .0 in
-    let b = few-bounds (start .args .c) (laid .few) in
-    let loop = c .before .before .loop in
-    let w = c .count .result in
-    let told = counts-told (start .args .c .names) (start .args .c .expressions) (start .args .c .nodes) (omega (arith, b)) (omega (arith, b)) in
-    let first = getD-set-same (loop .words) 0 w 0 (omega (arith, loop .inv .1 .0)) ∙ c .count .ensures in
-    program-of s (set (loop .words) 0 w) (start .pre .1)
-    (record {
-      names = ap namesIn first ∙ told .0 ∙ names-are laid;
-      expressions = ap expressionsIn first ∙ told .1 .0 ∙ expressions-are laid;
-      nodes = ap nodesIn first ∙ told .1 .1 ∙ nodes-are laid;
-      named = kept-still (Named s) 1 (loop .words) (nameCount s) 0 w (inl (omega arith)) (loop .inv .1 .1 .0);
-      spelled = kept-still (Spelled s) expressionStart (loop .words) (expressionCount s) 0 w (inl (omega arith)) (loop .inv .1 .1 .1 .0);
-      planned =
-          kept-still (Planned s) nodeStart (loop .words) (nodeCount s) 0 w (inl (omega arith))
-          (λ k l. loop .inv .1 .1 .1 .1 k (omega (arith, l, c .before .loop-test .left, nodes-are laid)));
-    })
+    let all : c .before .before .loop .k ≡ start .args .c .nodes = omega arith in
+    let keeps = c .before .before .loop .inv .1 _ (c .before .before .before .find-expressions .ensures) in
+    program-of _ _ _ (start .pre .checked)
+    (packed (start .args .c) (start .pre .laid) (rw all at keeps) _ (c .pack-counts .ensures))
 
 pub find-plan-spec : {M : Type 1} → statement M
 find-plan-spec =

@@ -1,11 +1,10 @@
 -- `name_word`: the entry, packed.
-use mathlib.Core.Path.{_≡_, ap, _∙_}
-use Prim.Native.Nat.{_+_, _*_, _<_}
+use mathlib.Core.Path.{ap, _∙_}
+use Prim.Native.Nat.{_<_}
 use native.Mathlib.Omega.{arith}
-use lib.Dec.{eqb}
-use Rattle.layout.specs.Entries.{session}
+use Rattle.book.specs.LevelBook.{mostLevels, atOrBelow}
 use Rattle.layout.proofs.Layouts.{names-are}
-use Rattle.packing.proofs.Words.{level-told, signal-told, session-told}
+use Rattle.plan.proofs.Plans.{name-packed}
 use borrow.Author.Needs.{needs}
 use Rattle.plan.proofs.name_word.Statement.{statement}
 use Rattle.plan.proofs.name_word.Tie as tie
@@ -13,28 +12,32 @@ use Rattle.plan.proofs.name_word.Tie as tie
 name-at-requires : tie.Need-name-at-requires
 name-at-requires c κs = search needs
 
-level : (c : tie.After-name-at) → c .name-at .result .level < 256
+-- the entry that was read has a level of the book, and is a register or a signal
+level : (c : tie.After-name-at) → c .name-at .result .level < mostLevels
 level c =
-    omega (arith, ap (λ n. n .level) (c .name-at .ensures), c .before .shared-slice-known .given (4 * c .before .before .args .x + 1))
+    let start = c .before .before in
+    omega (arith, ap (λ n. n .level) (c .name-at .ensures), start .pre .0 .levelled (start .args .x) (omega (arith, names-are (start .pre .0 .laid))))
 
 kind : (c : tie.After-name-at) → c .name-at .result .kind < 2
 kind c =
     let start = c .before .before in
-    omega (arith, ap (λ n. n .kind) (c .name-at .ensures), start .pre .1 .0 .kinds (start .args .x) (omega (arith, start .pre .1 .1, names-are (start .pre .0))))
+    omega (arith, ap (λ n. n .kind) (c .name-at .ensures), start .pre .0 .checked .kinds (start .args .x) (omega (arith, names-are (start .pre .0 .laid))))
 
-name-requires : tie.Need-name-requires
-name-requires c κs = (level (c .before), kind (c .before))
+at-or-below-requires : tie.Need-at-or-below-requires
+at-or-below-requires c κs = (omega (arith, level c), omega (arith, level c))
+
+pack-name-requires : tie.Need-pack-name-requires
+pack-name-requires c κs = (omega (arith, level (c .before .before)), kind (c .before .before))
 
 returns : tie.Need-returns
 returns c =
-    let n = c .before .before .name-at in
-    let b = eqb (n .result .owner) session in
-    rw (c .name .ensures)
-    (record {
-      level = level-told _ _ (level (c .before .before)) (kind (c .before .before)) b ∙ ap (λ n. n .level) (n .ensures);
-      signal = signal-told _ _ (level (c .before .before)) (kind (c .before .before)) b ∙ ap (λ n. eqb (n .kind) 1) (n .ensures);
-      session = session-told _ _ (level (c .before .before)) (kind (c .before .before)) b ∙ ap (λ n. eqb (n .owner) session) (n .ensures);
-    })
+    let args = c .before .before .before .before .before .args in
+    let n = c .before .before .before .name-at in
+    let seen = c .before .before .at-or-below in
+    rw (c .pack-name .ensures)
+    (name-packed _ _ _ _ (n .ensures) (omega (arith, level (c .before .before .before))) (kind (c .before .before .before)) _
+    (seen .ensures ∙ ap (λ m. atOrBelow (args .b .rows) (m .level) (args .reader)) (n .ensures)))
 
 pub name-word-spec : {M : Type 1} → statement M
-name-word-spec = tie.close (tie.spec name-at-requires name-requires returns)
+name-word-spec =
+    tie.close (tie.spec name-at-requires at-or-below-requires pack-name-requires returns)

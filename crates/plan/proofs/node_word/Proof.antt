@@ -15,7 +15,7 @@ use Rattle.tree.proofs.NodeSizes.{size-within}
 use Rattle.plan.proofs.Reading.{node-read, kind-known}
 use Rattle.plan.proofs.Watching.{watches-told}
 use Rattle.packing.proofs.Words.{mark-fits}
-use Rattle.plan.proofs.Plans.{forms-fit, planned}
+use Rattle.plan.proofs.Plans.{forms-fit, node-packed}
 use borrow.Author.Needs.{needs}
 use Rattle.plan.proofs.node_word.Statement.{statement}
 use Rattle.plan.proofs.node_word.Tie as tie
@@ -49,16 +49,16 @@ read :
     (c : tie.After-part-at) →
     let start = c .before .before .before in
     c .part-at .result ≡ partOf (start .args .s .now) (node (start .args .s .now) (start .args .k))
-read c = let start = c .before .before .before in node-read (start .args .k) (start .pre .0) (c .part-at .ensures)
+read c = let start = c .before .before .before in node-read (start .args .k) (start .pre .laid) (c .part-at .ensures)
 
 kind : (c : tie.After-part-at) → c .part-at .result .kind < 11
 kind c =
     let start = c .before .before .before in
     subst (λ (p : Part). p .kind < 11) (sym (read c))
-    (kind-known (start .args .s .now) (start .pre .1 .0) (start .args .k) (omega (arith, start .pre .1 .1 .1 .1, nodes-are (start .pre .0))))
+    (kind-known (start .args .s .now) (start .pre .checked) (start .args .k) (omega (arith, start .pre .known, nodes-are (start .pre .laid))))
 
 few : (c : tie.Start) → c .args .k < mostNodes
-few c = omega (arith, c .pre .1 .1 .1 .1, few-bounds (c .args .c) (c .pre .0 .few) .1 .1 .1)
+few c = omega (arith, c .pre .known, few-bounds (c .args .c) (c .pre .laid .few) .1 .1 .1)
 
 -- field b, by the entry that was read
 field-is :
@@ -78,8 +78,8 @@ mark-requires c κs = omega (arith, kind (c .before .before .before .before .bef
 forms-of-requires : tie.Need-forms-of-requires
 forms-of-requires c κs = kind (c .before .before .before .before .before .before .before .before)
 
-pack-requires : tie.Need-pack-requires
-pack-requires c κs = (
+pack-node-requires : tie.Need-pack-node-requires
+pack-node-requires c κs = (
   rw (c .forms-of .ensures) (forms-fit _ (kind (c .before .before .before .before .before .before .before .before .before))),
   (
     omega (arith, c .before .before .before .pack-fields .ensures),
@@ -95,25 +95,25 @@ marks c =
     let start = c .before .before .before .before .before .before .before .before .before .before in
     let parts = c .before .before .before .before .before .before .children-of .ensures in
     rw (c .has-watching .ensures, parts .0, parts .1, read (c .before .before .before .before .before .before .before))
-    (watches-told (start .args .s .now) (start .pre .1 .0) (start .args .k)
-    (omega (arith, start .pre .1 .1 .1 .1, nodes-are (start .pre .0)))
-    (start .args .words .now) (start .pre .1 .1 .1 .0))
+    (watches-told (start .args .s .now) (start .pre .checked) (start .args .k)
+    (omega (arith, start .pre .known, nodes-are (start .pre .laid)))
+    (start .args .words .now) (start .pre .before))
 
 returns : tie.Need-returns
 returns c =
     let start = c .before .before .before .before .before .before .before .before .before .before .before .before .before in
     let s = start .args .s .now in
     let k = start .args .k in
-    let ok = start .pre .1 .0 in
-    let known : k < nodeCount s = omega (arith, start .pre .1 .1 .1 .1, nodes-are (start .pre .0)) in
+    let ok = start .pre .checked in
+    let known : k < nodeCount s = omega (arith, start .pre .known, nodes-are (start .pre .laid)) in
     let parts = c .before .before .before .before .before .before .before .before .before .children-of .ensures in
     let read-first = ap firstChild (read (c .before .before .before .before .before .before .before .before .before .before)) in
-    rw (c .pack .ensures, c .before .forms-of .ensures, c .before .before .mark .ensures, c .before .before .before .before .pack-fields .ensures, read (c .before .before .before .before .before .before .before .before .before .before))
-    (planned s k (kind-known s ok k known) (omega (arith, few start)) _ _ _ _
+    rw (c .pack-node .ensures, c .before .forms-of .ensures, c .before .before .mark .ensures, c .before .before .before .before .pack-fields .ensures, read (c .before .before .before .before .before .before .before .before .before .before))
+    (node-packed s k (kind-known s ok k known) (omega (arith, few start)) _ _ _ _
     (omega (arith, parts .0, read-first)) (field-is (c .before .before .before .before .before .before .before))
     (λ h.
     let e =
-    c .before .before .before .before .before .wide .ensures ∙ start .pre .1 .1 .0 _ (omega (arith, h, start .pre .1 .1 .1 .1, few start, parts .0, read-first))
+    c .before .before .before .before .before .wide .ensures ∙ start .pre .sized _ (omega (arith, h, start .pre .known, few start, parts .0, read-first))
     ∙ ap (λ j. size (processOf s j)) (omega (arith, h, few start, parts .0, read-first)) in
     (e, omega (arith, e, h, few start, size-within s ok (firstChild (partOf s (node s k))) (omega (arith, h, known)))))
     (marks (c .before .before .before)))
@@ -133,5 +133,5 @@ node-word-spec =
     has-watching-requires
     mark-requires
     forms-of-requires
-    pack-requires
+    pack-node-requires
     returns)

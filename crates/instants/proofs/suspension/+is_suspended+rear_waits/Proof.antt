@@ -8,13 +8,13 @@ use borrow.Author.Tests.{not-true, not-false}
 use Rattle.language.specs.Steps.{present, suspended}
 use Rattle.residual.specs.Residual.{own}
 use Rattle.program.specs.declared.forms.Front.{Front}
-use Rattle.program.specs.Forms.{itself, guarded, frontOf, partIn}
+use Rattle.program.specs.Forms.{itself, guarded, partIn}
 use Rattle.program.proofs.Fronts.{front-form}
-use Rattle.residual.specs.Nodes.{left}
+use Rattle.residual.specs.Nodes.{frontIn, rearIn, left}
 use Rattle.instants.specs.Contracts.{RearWaits}
 use Rattle.residual.proofs.Sights.{signalAt}
 use Rattle.residual.proofs.Residuals.{some-bytes}
-use Rattle.instants.proofs.Deciding.{Found, Part, Rear, front-part, rear-part, stays, signal-known, shuts, awake-rear, waiting-rear}
+use Rattle.instants.proofs.Deciding.{Found, Part, front-part, rear-part, rear-found, stays, signal-known, shuts, awake-rear, waiting-rear}
 use Prim.Native.Nat.{ℕ, _+_, _*_, _<_}
 use borrow.Fn.Kinds.{In}
 use borrow.Fn.PlainCycle.{Measures, is, falls, and}
@@ -78,14 +78,14 @@ Q t = (find-rear-reads.Asked, find-rear-reads.Learnt, is-suspended-below t, is-s
 found :
     (t : ℕ) (c : is-suspended-lts.Start (R t) (is-suspended-at t) is-suspended.Post) →
     let args = c .args in
-    Found (args .program .now) (args .values .now) (args .k) (args .state .now) (frontOf (args .program .now) (args .k) (own (args .state .now)) (length (args .state .now)))
+    Found (args .program .now) (args .values .now) (args .k) (args .state .now) (frontIn (args .program .now) (args .k) (args .state .now))
 found t c = record { valued = c .pre .1 .valued; at = c .pre .1 .node; front = refl }
 
 form-is :
     (t : ℕ) (c : is-suspended-lts.After-form-at (R t) (is-suspended-at t) is-suspended.Post) →
     let start = c .before .before .before in
     let args = start .args in
-    c .form-at .result ≡ (frontOf (args .program .now) (args .k) (own (args .state .now)) (length (args .state .now))) .form
+    c .form-at .result ≡ (frontIn (args .program .now) (args .k) (args .state .now)) .form
 form-is t c =
     let start = c .before .before .before in
     let args = start .args in
@@ -96,7 +96,7 @@ shown :
     (t : ℕ) (c : is-suspended-lts.Joined2 (R t) (is-suspended-at t) is-suspended.Post) →
     let start = c .before .before .before .before .before in
     let args = start .args in
-    (frontOf (args .program .now) (args .k) (own (args .state .now)) (length (args .state .now))) .form ≡ guarded →
+    (frontIn (args .program .now) (args .k) (args .state .now)) .form ≡ guarded →
     present (args .values .now) (signalAt (args .program .now) (args .k)) ≡ true
 shown t c e =
     ⊎-elim (λ w. sym (w .1 .ensures) ∙ not-false _ (w .2 .left)) (λ w. absurd (w .left (form-is t (c .before .before) ∙ e))) (c .if2 .came)
@@ -105,7 +105,7 @@ some-part :
     (t : ℕ) (c : is-suspended-lts.Else1 (R t) (is-suspended-at t) is-suspended.Post) →
     let start = c .before .before .before .before in
     let args = start .args in
-    itself < (frontOf (args .program .now) (args .k) (own (args .state .now)) (length (args .state .now))) .form
+    itself < (frontIn (args .program .now) (args .k) (args .state .now)) .form
 some-part t c = subst (λ n. itself < n) (form-is t (c .before)) (c .if1 .left)
 
 part :
@@ -192,35 +192,37 @@ is-suspended-returns-4 t c =
     (subst (λ n. RearWaits (args .program .now) (args .k) (args .state .now) (args .values .now) n true) (form-is t (c .before .before .before .before .before .before .before))
     (subst (RearWaits (args .program .now) (args .k) (args .state .now) (args .values .now) (c .before .before .before .before .before .before .before .form-at .result)) (not-false _ (c .before .before .before .if4 .left)) (c .before .before .before .before .rear-waits .ensures)))
 
--- the node is a parallel
-rear :
-    (t : ℕ) (c : rear-waits-lts.Else1 (Q t) (rear-waits-at t) rear-waits.Post) →
-    let args = c .before .before .args in
-    Rear (args .program .now) (args .k) (args .state .now)
-    (frontOf (args .program .now) (args .k) (own (args .state .now)) (length (args .state .now)))
-rear t c =
-    let pre = c .before .before .pre .1 in
-    rear-part (record { valued = pre .valued; at = pre .node; front = refl }) (omega (arith, pre .form, c .if1 .left))
+-- the other part of a parallel
+standing :
+    (t : ℕ) (c : rear-waits-lts.Start (Q t) (rear-waits-at t) rear-waits.Post) →
+    let args = c .args in
+    Found (args .program .now) (args .values .now) (args .k) (args .state .now) (frontIn (args .program .now) (args .k) (args .state .now))
+standing t c = record { valued = c .pre .1 .valued; at = c .pre .1 .node; front = refl }
+
+other :
+    (t : ℕ) (c : rear-waits-lts.After-find-rear (Q t) (rear-waits-at t) rear-waits.Post) →
+    let args = c .before .before .before .args in
+    c .find-rear .result ≡ rearIn (args .program .now) (args .k) (args .state .now)
+other t c =
+    let start = c .before .before .before in
+    c .find-rear .ensures ∙ rear-found (standing t start) (start .pre .1 .form) (c .before .if1 .left)
 
 behind :
     (t : ℕ) (c : rear-waits-lts.After-find-rear (Q t) (rear-waits-at t) rear-waits.Post) →
-    let args = c .before .before .before .before .args in
+    let args = c .before .before .before .args in
     Part (args .program .now) (args .k) (args .state .now) (c .find-rear .result)
-behind t c = rw (c .find-rear .ensures) (rear t (c .before .before) .part)
+behind t c =
+    let start = c .before .before .before in
+    rw (other t c) (rear-part (standing t start) (omega (arith, start .pre .1 .form, c .before .if1 .left)) .part)
 
 rear-waits-returns : (t : ℕ) → rear-waits-lts.Need-returns (Q t) (rear-waits-at t) rear-waits.Post
 rear-waits-returns t c = record { none = λ h. refl; other = λ h. absurd (omega (arith, c .if1 .taken)) }
 
-rear-waits-shared-slice-read-tag :
-    (t : ℕ) → rear-waits-lts.Need-shared-slice-read-tag (Q t) (rear-waits-at t) rear-waits.Post
-rear-waits-shared-slice-read-tag t c = some-bytes (c .before .before .before .pre .1 .node)
-
 rear-waits-find-rear-requires :
     (t : ℕ) → rear-waits-lts.Need-find-rear-requires (Q t) (rear-waits-at t) rear-waits.Post
 rear-waits-find-rear-requires t c κs =
-    let start = c .before .before .before in
-    let pre = start .pre .1 in
-    ((pre .valued .runnable, pre .node .known), (pre .form, c .before .if1 .left))
+    let pre = c .before .before .pre .1 in
+    omega (arith, pre .node .known, pre .valued .runnable .fewNodes)
 
 rear-waits-sub-is-suspended : (t : ℕ) → rear-waits-lts.Need-sub-is-suspended (Q t) (rear-waits-at t) rear-waits.Post
 rear-waits-sub-is-suspended t c = behind t c .order
@@ -236,22 +238,19 @@ rear-waits-part-is-suspended-end t c = behind t c .within
 rear-waits-is-suspended-requires :
     (t : ℕ) → rear-waits-lts.Need-is-suspended-requires (Q t) (rear-waits-at t) rear-waits.Post
 rear-waits-is-suspended-requires t c κs =
-    let pre = c .before .before .before .before .before .pre in
+    let pre = c .before .before .before .before .pre in
     let part = behind t (c .before) in
     (omega (arith, pre .0, part .earlier), record { valued = pre .1 .valued; node = part .at })
 
 rear-waits-returns-2 : (t : ℕ) → rear-waits-lts.Need-returns-2 (Q t) (rear-waits-at t) rear-waits.Post
 rear-waits-returns-2 t c =
-    let front = c .before .before in
-    let ahead = front .before .before in
-    let args = ahead .before .before .args in
-    let rear = front .find-rear .ensures in
+    let args = c .before .before .before .before .before .args in
     record {
-      none = λ h. absurd (omega (arith, ahead .if1 .left));
+      none = λ h. absurd (omega (arith, c .before .before .before .if1 .left));
       other =
           λ h.
           c .is-suspended .ensures
-          ∙ ap (λ f. suspended (left (args .program .now) (f .child) (partIn f (args .state .now))) (args .values .now)) rear;
+          ∙ ap (λ f. suspended (left (args .program .now) (f .child) (partIn f (args .state .now))) (args .values .now)) (other t (c .before .before));
     }
 
 pub +is-suspended+rear-waits-spec : {M : Type 1} → statement M
@@ -276,7 +275,6 @@ pub +is-suspended+rear-waits-spec : {M : Type 1} → statement M
     (rear-waits-at t)
     rear-waits.Post
     (rear-waits-returns t)
-    (rear-waits-shared-slice-read-tag t)
     (rear-waits-find-rear-requires t)
     (rear-waits-sub-is-suspended t)
     (rear-waits-part-is-suspended-start t)

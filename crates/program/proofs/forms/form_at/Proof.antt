@@ -1,6 +1,5 @@
 -- `form_at`: what the word of the node tells; past all forms a node is nil.
 use mathlib.Core.Path.{ap₂, _∙_}
-use native.Mathlib.Omega.{arith}
 use Rattle.packing.specs.Packing.{formIn}
 use Rattle.program.proofs.Fronts.{form-past}
 use borrow.Author.Needs.{needs}
