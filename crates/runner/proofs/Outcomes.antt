@@ -137,7 +137,7 @@ module _ {L : Type 0} (names : Names L) (seen : ℕ → Bool) (limit room : ℕ)
       out at ≡ stopped logFull at
   outcome-full l t f = stops-here logFull (rest-moves t l ∙ noted-full room (nextLine seen at) (at .lines) _ _ f)
 
-  outcome-move :
+  pub outcome-move :
       Live (at .process) (at .values) → at .steps < limit → hasRoom room (nextLine seen at) (at .lines) ≡ true →
       out (moved seen at) ≡ out at
   unfolding outcome moved
