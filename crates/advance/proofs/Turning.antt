@@ -1,9 +1,9 @@
 -- A node's turns: its part in front is run, and it is left; what has been reached so far.
-use mathlib.Core.Path.{_≡_, refl, ap, _∙_, subst}
+use mathlib.Core.Path.{_≡_, refl, _∙_, subst}
 use mathlib.Core.Bool.{Bool, true}
 use mathlib.Core.Logic.{inl, inr}
 use mathlib.Core.List.{List}
-use Prim.Native.Nat.{ℕ, _-_, _/_, _≤_, _<_}
+use Prim.Native.Nat.{ℕ, _-_, _/_, _<_}
 use native.Mathlib.Omega.{arith}
 use borrow.Rule.Slice.PartMut.{putMid}
 use lib.IntN.{ℤ}
@@ -21,7 +21,7 @@ use Rattle.moves.specs.declared.counts.Reason.{Reason}
 use Rattle.moves.specs.declared.counts.Reason.the-variants.{Nil, Suspended, Spent, Full}
 use Rattle.moves.specs.declared.counts.Moved.{Moved}
 use Rattle.moves.specs.Moves.{Running, Path, stays, IsSpent, IsFull, Ends, Comes}
-use Rattle.moves.specs.Contracts.{Counted, runningWith, nodeAt}
+use Rattle.moves.specs.Contracts.{runningWith, nodeAt}
 use Rattle.moves.proofs.Framing.{joined, open-path, lift, spent-around, full-around}
 use Rattle.moves.proofs.Advancing.{goes-silently, comes-on}
 use Rattle.advance.specs.Contracts.{inFront, EndsWith, Settles, restsOn, atLimit, makesMove}

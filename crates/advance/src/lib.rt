@@ -9,7 +9,6 @@ use moves::counts::Rested;
 use next::Next;
 use program::WORDS;
 use program::forms::Front;
-ghost use mathlib.Core.Path.{_≡_};
 ghost use Rattle.moves.specs.Contracts.{CanMove, Makes};
 ghost use Rattle.advance.specs.Contracts.{Advances, CanMovePart, TurnMade};
 

@@ -13,7 +13,7 @@ use Rattle.moves.specs.declared.counts.Counts.{Counts}
 use Rattle.moves.specs.declared.counts.Reason.{Reason}
 use Rattle.moves.specs.declared.counts.Reason.the-variants.{Nil, Suspended, Spent, Full}
 use Rattle.moves.specs.declared.counts.Rested.{Rested}
-use Rattle.moves.specs.Moves.{Running, changed, Path, Stops, Ends}
+use Rattle.moves.specs.Moves.{Running, changed, Stops, Ends}
 use Rattle.moves.specs.Contracts.{afterChanges}
 use Rattle.moves.proofs.Framing.{waits-some}
 use Rattle.moves.proofs.Advancing.{counted-on}

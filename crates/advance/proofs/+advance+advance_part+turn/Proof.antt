@@ -1,6 +1,6 @@
 -- `advance`, `turn` and `advance_part`: by what comes next at the node. The node's number falls, or, from turn to turn, the
 -- steps that are left.
-use mathlib.Core.Path.{_≡_, refl, sym, ap, _∙_, subst}
+use mathlib.Core.Path.{_≡_, refl, _∙_, subst}
 use mathlib.Core.Bool.{cond}
 use Prim.Native.Nat.{ℕ, _+_, _-_, _*_, _/_, _≤_, _<_}
 use native.Mathlib.Omega.{arith}
@@ -11,14 +11,12 @@ use borrow.Fn.Kinds.{In}
 use borrow.Fn.PlainCycle.{Measures, is, falls, and}
 use borrow.Author.Needs.{needs, fits-under}
 use Rattle.program.specs.Program.{seenBy}
-use Rattle.program.specs.Forms.{partIn}
 use Rattle.residual.proofs.Sights.{part-length}
 use Rattle.moves.specs.declared.counts.Moved.the-variants as moved
 use Rattle.moves.specs.Moves.{stays, Goes, Comes}
 use Rattle.moves.specs.Contracts.{Counted, nodeAt}
 use Rattle.moves.proofs.Advancing.{path-time, counted-on, comes-on}
-use Rattle.advance.specs.declared.Turned.{Turned}
-use Rattle.advance.specs.Contracts.{Alone, Leads, Follows, StandsAlone, TurnMade}
+use Rattle.advance.specs.Contracts.{Follows, StandsAlone, TurnMade}
 use Rattle.advance.proofs.Turning.{reached, begins, valued, in-room}
 use Rattle.advance.proofs.Places.{Placed, itself-placed, long, bytes-kept, comes-there, part-falls, part-placed, Here, here-on, here-inside}
 use Rattle.advance.proofs.Nexts.{stands-ends, Way, way, within, at-part, moves-next, falls-by, bytes-long, part-came, node-came}

@@ -1,5 +1,5 @@
 -- `move_own`: by the kind, if the limit is not reached.
-use mathlib.Core.Path.{_≡_, refl, sym, ap, _∙_, subst}
+use mathlib.Core.Path.{_≡_, sym, ap, _∙_, subst}
 use mathlib.Core.Logic.{⊎-elim}
 use Prim.Native.Nat.{_/_, _<_}
 use native.Mathlib.Nat.{le-antisymm}
@@ -12,7 +12,7 @@ use Rattle.program.specs.Program.{nameCount, kindAt, aAt, processOf, seenBy}
 use Rattle.residual.specs.Residual.{own}
 use Rattle.residual.proofs.Residuals.{nil-at-four, some-bytes, own-set-at}
 use Rattle.residual.proofs.Sights.{MovesItself, sight}
-use Rattle.moves.specs.Contracts.{isWriter, IsWriter, Writes, afterMove, lineOf, Notes, nodeAt}
+use Rattle.moves.specs.Contracts.{IsWriter, Writes, afterMove, lineOf, Notes, nodeAt}
 use Rattle.moves.specs.Moves.{stays}
 use Rattle.moves.proofs.Advancing.{goes-silently, stops-full, stops-written}
 use Rattle.moves.proofs.OwnMoves.{known, is-itself, writer-is, is-silent, itself-live}

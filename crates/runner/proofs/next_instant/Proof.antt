@@ -1,5 +1,5 @@
 -- `next_instant`: the script's node changes, and one step more is counted.
-use mathlib.Core.Path.{_≡_, sym, ap, _∙_, subst}
+use mathlib.Core.Path.{sym, ap, _∙_, subst}
 use native.Mathlib.Numerals.{add-one}
 use Rattle.language.specs.Steps.{change}
 use Rattle.moves.specs.declared.counts.Counts.{Counts}

@@ -1,5 +1,5 @@
 -- `leave`: a node whose part in front has moved: it rests as its part does, or it moves around it.
-use mathlib.Core.Path.{_≡_, refl, sym, ap, _∙_, subst}
+use mathlib.Core.Path.{_≡_, refl, sym, _∙_, subst}
 use Prim.Native.Nat.{ℕ, _≤_}
 use mathlib.Core.Bool.{Bool, false≢true}
 use native.Mathlib.Decide.{decLt}

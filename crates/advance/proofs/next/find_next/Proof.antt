@@ -6,7 +6,6 @@ use Prim.Native.Nat.{_<_}
 use native.Mathlib.Omega.{arith}
 use borrow.Author.Tests.{not-true, not-false}
 use Rattle.language.specs.Steps.{present}
-use Rattle.program.specs.Program.{kindAt}
 use Rattle.program.specs.declared.forms.Front.{Front}
 use Rattle.program.specs.Forms.{itself, before, guarded}
 use Rattle.program.proofs.Fronts.{front-form}
