@@ -1,6 +1,6 @@
 -- What each way out of `run` has to show.
 -- Assumes nothing.
-use mathlib.Core.Path.{_≡_, sym, ap, _∙_, subst}
+use mathlib.Core.Path.{_≡_, refl, sym, ap, _∙_, subst}
 use mathlib.Core.Bool.{true, false}
 use mathlib.Core.List.{List}
 use Prim.Native.Nat.{ℕ, _/_, _≤_, _<_}
@@ -14,6 +14,8 @@ use Rattle.lattice.specs.Lattice.{bookLattice}
 use Rattle.language.specs.Calls.{starts, readable, run}
 use Rattle.language.specs.Paths.{IsRun}
 use Rattle.language.proofs.Theorems.{runs-agree}
+use Rattle.language.proofs.Naming.{run-alike}
+use Rattle.language.proofs.Stopping.{run-few}
 use Rattle.layout.specs.Layout.{nameCount}
 use Rattle.reach.specs.Checked.{Checked}
 use Rattle.tree.specs.Tree.{namesOf, tree}
@@ -22,7 +24,7 @@ use Rattle.moves.specs.Contracts.{seenIn}
 use Rattle.runner.proofs.Outcomes.{written-is}
 use Rattle.checker.specs.Refusals.{checkRefusal}
 use Rattle.call.specs.Refusals.{callRefusal, runRefusal}
-use Rattle.call.proofs.Seen.{run-seen, run-few}
+use Rattle.call.proofs.Writes.{tree-writes}
 use Rattle.answers.specs.Reports.{reportBy}
 use Rattle.engine.specs.Answers.{runOf, Left, leftBy, refusedLeft, left}
 use Rattle.engine.specs.Contracts.{Returns}
@@ -46,7 +48,7 @@ module _ (b s : List ℕ) (reader : ℕ) (values : List ℤ) (limit : ℕ) (log 
   by-call p e = e ∙ sym (rw p)
 
   -- a call that is not refused: what the runner leaves
-  module _ (ok : Checked s) (seen : List ℕ)
+  module _ (ok : Checked s) (long : length values ≡ nameCount s) (seen : List ℕ)
       (agree : (x : ℕ) → x < nameCount s → seenIn seen x ≡ readable (bookLattice b) (namesOf s) reader x) where
     module _ {r : Ran} {values′ : List ℤ} {log′ : List ℕ}
         (g :
@@ -54,7 +56,8 @@ module _ (b s : List ℕ) (reader : ℕ) (values : List ℤ) (limit : ℕ) (log 
       given : Returns (runOf b s reader values limit log) log r values′ log′
       given =
           subst (λ o. Returns o log r values′ log′)
-          (run-seen s ok (seenIn seen) _ agree limit (length log / 4) values) g
+          (run-alike (namesOf s) (namesOf s) (seenIn seen) _ (nameCount s) (λ x l. refl) (λ x l. refl) agree limit
+          (length log / 4) (starts (tree s) values) long (tree-writes s ok)) g
 
       path : IsRun (namesOf s) (readable (bookLattice b) (namesOf s) reader) limit (length log / 4) (starts (tree s) values) (runOf b s reader values limit log)
       path = runs-agree (namesOf s) (readable (bookLattice b) (namesOf s) reader) limit (length log / 4) (starts (tree s) values) .path

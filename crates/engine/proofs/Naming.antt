@@ -1,6 +1,6 @@
 -- A program's run, from its start, is that of its file.
 -- Assumes nothing.
-use mathlib.Core.Path.{_≡_, sym, ap, _∙_, subst}
+use mathlib.Core.Path.{_≡_, refl, ap, _∙_, subst}
 use mathlib.Core.Bool.{Bool}
 use mathlib.Core.List.{List}
 use Prim.Native.Nat.{ℕ, _-_, _/_}
@@ -9,9 +9,7 @@ use native.Mathlib.Omega.{arith}
 use lib.IntN.{ℤ}
 use lib.ListN.{length, replicate}
 use Rattle.language.specs.Syntax.{Proc}
-use Rattle.language.specs.Calls.{starts, givenBack, run}
-use Rattle.language.specs.Stops.{Stop, reach, returned}
-use Rattle.language.proofs.Stopping.{run-returns}
+use Rattle.language.specs.Calls.{Stop, starts, givenBack, returned, reach, run}
 use Rattle.language.proofs.Naming.{run-alike}
 use Rattle.layout.specs.Layout.{layoutOf, nameCount, nodeCount}
 use Rattle.layout.proofs.Layouts.{few-bounds}
@@ -19,6 +17,7 @@ use Rattle.reach.specs.Checked.{Checked}
 use Rattle.tree.specs.Tree.{namesOf, tree}
 use Rattle.program.specs.Program as program
 use Rattle.plan.specs.Plan.{ProgramOf}
+use Rattle.call.proofs.Writes.{tree-writes}
 use Rattle.moves.specs.Moves.{Running}
 use Rattle.residual.specs.Nodes.{left}
 use Rattle.residual.proofs.Residuals.{zeros}
@@ -46,9 +45,8 @@ module _ (s : List ℕ) (ok : Checked s) {words : List ℕ} (made : ProgramOf s 
 
   run-is : length values ≡ nameCount s → returned (program.namesOf words) ends ≡ run (namesOf s) seen limit room (starts (tree s) values)
   run-is e =
-      sym (run-returns (program.namesOf words) seen limit room (starts (tree s) values))
-      ∙ run-alike (program.namesOf words) (namesOf s) seen (nameCount s) (λ x l. made .named x l .signal)
-      (λ x l. made .named x l .session) limit room _ e
+      run-alike (program.namesOf words) (namesOf s) seen seen (nameCount s) (λ x l. made .named x l .signal)
+      (λ x l. made .named x l .session) (λ x l. refl) limit room _ e (tree-writes s ok)
 
   abbrev start : List ℕ → Running ℕ
   start st = scriptAt words st values log (record { steps = 0; instants = 0; lines = 0 })

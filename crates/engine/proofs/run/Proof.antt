@@ -145,16 +145,17 @@ within :
 within c =
     let a = c .before .before .before .before .before .before .before .before .before .before .before .before .before .before .args in
     let most = run-bounds (now (a .book)) (now (a .script)) (a .reader) (now (a .values)) (a .limit) (passed ((c .before .before .before .before))) .1 in
+    let long = run-accepted (now (a .book)) (now (a .script)) (a .reader) (now (a .values)) (a .limit) (passed ((c .before .before .before .before))) .1 .named in
     let ok = file ((c .before .before .before .before .before .before .before .before)) .0 in (
       omega (
         arith,
-        few-steps (now (a .book)) (now (a .script)) (a .reader) (now (a .values)) (a .limit) (now (a .log)) ok
+        few-steps (now (a .book)) (now (a .script)) (a .reader) (now (a .values)) (a .limit) (now (a .log)) ok long
             (c .before .before .before .find-seen .result) (agrees ((c .before .before .before))) (c .run-seen .ensures),
         most,
       ),
       omega (
         arith,
-        few-lines (now (a .book)) (now (a .script)) (a .reader) (now (a .values)) (a .limit) (now (a .log)) ok
+        few-lines (now (a .book)) (now (a .script)) (a .reader) (now (a .values)) (a .limit) (now (a .log)) ok long
             (c .before .before .before .find-seen .result) (agrees ((c .before .before .before))) (c .run-seen .ensures),
         most,
       ),
@@ -183,11 +184,12 @@ returns-3 c =
     let see = agrees ((c .before .before .before .before .before .before .before .before .before)) in
     let g = c .before .before .before .before .before .before .run-seen .ensures in
     let p = passed ((c .before .before .before .before .before .before .before .before .before .before)) in
+    let long = run-accepted b s (a .reader) values (a .limit) p .1 .named in
     let ok = file ((c .before .before .before .before .before .before .before .before .before .before .before .before .before .before)) .0 in (
-      c .report-of .ensures ∙ report-is b s (a .reader) values (a .limit) log ok seen see g p,
+      c .report-of .ensures ∙ report-is b s (a .reader) values (a .limit) log ok long seen see g p,
       (
-        values-are b s (a .reader) values (a .limit) log ok seen see g p,
-        log-is b s (a .reader) values (a .limit) log ok seen see g p,
+        values-are b s (a .reader) values (a .limit) log ok long seen see g p,
+        log-is b s (a .reader) values (a .limit) log ok long seen see g p,
       ),
     )
 
