@@ -29,6 +29,7 @@ pub record Returns (o : Run) (began : List ℕ) (r : Ran) (values : List ℤ) (l
   pub ending : r .ending ≡ endingNumber (o .ending)
   pub steps : r .at .steps ≡ o .steps
   pub instants : r .at .instants ≡ o .instants
+  pub within : r .at .instants ≤ r .at .steps
   pub lines : r .at .lines ≡ length (o .lines)
   pub final : values ≡ o .values
   pub logged : log ≡ written (o .lines) 0 began

@@ -75,7 +75,15 @@ pub fn run(
     if refusal.number != 0 {
         return refused(refusal);
     }
-    let r = run_checked(script, p.script, p.book, reader as usize, values, limit, log);
+    let r = run_checked(
+        script,
+        p.script,
+        p.book,
+        reader as usize,
+        values,
+        limit,
+        log,
+    );
     let at = r.at;
     report_of(r.ending, at.steps as u32, at.instants as u32, at.lines)
 }
