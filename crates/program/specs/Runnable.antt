@@ -3,7 +3,8 @@ use mathlib.Core.Path.{_≡_}
 use mathlib.Core.Bool.{true}
 use mathlib.Core.List.{List, [], _∷_}
 use Prim.Native.Nat.{ℕ, suc, _≤_, _<_}
-use lib.ListN.{getD}
+use lib.IntN.{ℤ}
+use lib.ListN.{getD, length}
 use Rattle.language.specs.Shapes.{size, watches, leavesAlone}
 use Rattle.packing.specs.Packing.{kindIn, operandIn, laterIn, formIn, sizeIn, watchesIn, signalIn}
 use Rattle.program.specs.Program.{mostNames, mostExpressions, mostNodes, nameCount, expressionCount, nodeCount, nameWord, expressionWord, nodeWord, kindAt, aAt, bAt, firstAt, processOf, script}
@@ -87,3 +88,8 @@ pub record Runnable (words : List ℕ) : Type 0 where
   pub whole : size (script words) ≡ nodeCount words
   pub expressions : (e : ℕ) → e < expressionCount words → ExpressionRuns words e
   pub nodes : (k : ℕ) → k < nodeCount words → NodeRuns words k
+
+-- and with a value for each name
+pub record Valued (words : List ℕ) (values : List ℤ) : Type 0 where
+  pub runnable : Runnable words
+  pub named : length values ≡ nameCount words
