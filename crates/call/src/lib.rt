@@ -3,16 +3,15 @@ use layout::Script;
 use prelude::Refusal;
 ghost use mathlib.Core.Path.{_≡_};
 ghost use Prim.Native.Nat.{_<_};
-ghost use lib.ListN.{length};
 ghost use Rattle.layout.specs.Layout.{Laid};
-ghost use Rattle.call.specs.Refusals.{valueIsRight, valuesRefusal, callRefusal, firstWrong};
+ghost use Rattle.call.specs.Refusals.{Listed, valueIsRight, valuesRefusal, callRefusal, firstWrong};
 
 // The most steps that a call may allow.
 pub const MAX_STEPS: u32 = 1000000;
 
 // Whether name x may have this value at the start.
 fn value_is_right(s: &[u8], c: Script, values: &[i32], x: usize) -> bool
-    requires { ⌜ Laid (now s) c × ((x < c .names) × (length (now values) ≡ c .names)) ⌝ }
+    requires { ⌜ Listed (now s) c (now values) × (x < c .names) ⌝ }
     ensures { λ r. ⌜ r ≡ valueIsRight (now (s .entry)) (now (values .entry)) x ⌝ }
 {
     let v = values[x];
@@ -28,7 +27,7 @@ fn value_is_right(s: &[u8], c: Script, values: &[i32], x: usize) -> bool
 
 // The first name with a wrong value, or the number of names.
 fn first_wrong(s: &[u8], c: Script, values: &[i32]) -> usize
-    requires { ⌜ Laid (now s) c × (length (now values) ≡ c .names) ⌝ }
+    requires { ⌜ Listed (now s) c (now values) ⌝ }
     ensures { λ r. ⌜ r ≡ firstWrong (now (s .entry)) (now (values .entry)) ⌝ }
 {
     let n = c.names;

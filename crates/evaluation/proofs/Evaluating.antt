@@ -1,5 +1,4 @@
 -- What the word of an expression tells of the expression's value, kind by kind.
--- Assumes nothing.
 use mathlib.Core.Path.{_≡_, refl, sym, ap, _∙_}
 use mathlib.Core.List.{List}
 use Prim.Native.Nat.{ℕ, _≤_, _<_}
@@ -7,7 +6,7 @@ use native.Mathlib.Omega.{arith}
 use lib.IntN.{ℤ}
 use Rattle.arithmetic.specs.Values.{negation}
 use Rattle.language.specs.Syntax.{Operator, add, subtract, multiply, divide, less, equal}
-use Rattle.language.specs.Steps.{apply, evaluate, value}
+use Rattle.language.specs.Steps.{evaluate, value}
 use Rattle.packing.specs.Packing.{kindIn, operandIn, laterIn}
 use Rattle.program.specs.Program.{nameCount, expressionWord, expressionOf}
 use Rattle.program.proofs.Views.{code, ExpressionView, aConstant, aRegister, aBinary, aNegated, expression-view}
@@ -29,24 +28,21 @@ operator-is divide = refl
 operator-is less = refl
 operator-is equal = refl
 
-module _ (words : List ℕ) (values : List ℤ) (e : ℕ) where
-  abbrev w : ℕ
-  w = expressionWord words e
+-- what word w, which is that of expression e, tells
+pub record Tells (words : List ℕ) (values : List ℤ) (e w : ℕ) : Type 0 where
+  pub known : 0 < kindIn w → kindIn w ≤ 1 → operandIn w < nameCount words
+  pub leaf : kindIn w ≤ 1 → leafValue values w ≡ value (expressionOf words e) values
+  pub first : 1 < kindIn w → operandIn w < e
+  pub negated :
+      kindIn w ≡ 8 → negation (value (expressionOf words (operandIn w)) values) ≡ value (expressionOf words e) values
+  pub second : 1 < kindIn w → (kindIn w ≡ 8 → ⊥) → laterIn w < e
+  pub binary :
+      1 < kindIn w → (kindIn w ≡ 8 → ⊥) →
+      applied (kindIn w) (value (expressionOf words (operandIn w)) values) (value (expressionOf words (laterIn w)) values)
+      ≡ value (expressionOf words e) values
 
-  abbrev valueAt : ℕ → ℤ
-  valueAt e = value (expressionOf words e) values
-
-  pub record Tells : Type 0 where
-    pub known : 0 < kindIn w → kindIn w ≤ 1 → operandIn w < nameCount words
-    pub leaf : kindIn w ≤ 1 → leafValue values w ≡ valueAt e
-    pub first : 1 < kindIn w → operandIn w < e
-    pub negated : kindIn w ≡ 8 → negation (valueAt (operandIn w)) ≡ valueAt e
-    pub second : 1 < kindIn w → (kindIn w ≡ 8 → ⊥) → laterIn w < e
-    pub binary :
-        1 < kindIn w → (kindIn w ≡ 8 → ⊥) →
-        applied (kindIn w) (valueAt (operandIn w)) (valueAt (laterIn w)) ≡ valueAt e
-
-  by-view : ExpressionView words e → Tells
+module _ {words : List ℕ} {values : List ℤ} {e : ℕ} where
+  by-view : ExpressionView words e → Tells words values e (expressionWord words e)
   unfolding evaluate value
   by-view (aConstant k v) =
       record {
@@ -73,10 +69,7 @@ module _ (words : List ℕ) (values : List ℤ) (e : ℕ) where
         first = λ _. a;
         negated = λ q. absurd (omega (arith, k, q, code-range o));
         second = λ _ _. b;
-        binary =
-            λ _ _.
-            ap (λ o. apply o (valueAt (operandIn w)) (valueAt (laterIn w))) (ap operatorOf k ∙ operator-is o)
-            ∙ sym (ap (λ x. value x values) v);
+        binary = λ _ _. rw (ap operatorOf k ∙ operator-is o, v);
       }
   by-view (aNegated k v a) =
       record {
@@ -88,5 +81,5 @@ module _ (words : List ℕ) (values : List ℤ) (e : ℕ) where
         binary = λ _ n. absurd (n k);
       }
 
-pub told : {words : List ℕ} {values : List ℤ} {e : ℕ} → Evaluable words values e → Tells words values e
-told {words} {values} {e} v = by-view words values e (expression-view words (v .runnable) e (v .known))
+  pub told : Evaluable words values e → {w : ℕ} → w ≡ expressionWord words e → Tells words values e w
+  told v q = rw q (by-view (expression-view words (v .valued .runnable) e (v .known)))

@@ -1,18 +1,17 @@
 -- What the evaluation of expressions asks for and promises.
-use mathlib.Core.Path.{_≡_}
 use mathlib.Core.Bool.{cond}
 use mathlib.Core.List.{List, [], _∷_}
 use Prim.Native.Nat.{ℕ, _<_}
 use lib.Dec.{eqb}
 use lib.IntN.{ℤ}
-use lib.ListN.{getD, length}
+use lib.ListN.{getD}
 use mir.Syntax.{w32}
 use mir.Val.{toZ}
 use Rattle.language.specs.Syntax.{Operator, add, subtract, multiply, divide, less, equal}
 use Rattle.language.specs.Steps.{held, apply}
 use Rattle.packing.specs.Packing.{kindIn, constantIn, operandIn}
-use Rattle.program.specs.Program.{nameCount, expressionCount}
-use Rattle.program.specs.Runnable.{Runnable}
+use Rattle.program.specs.Program.{expressionCount}
+use Rattle.program.specs.Runnable.{Valued}
 
 -- the operators of expressions, by their kinds
 abbrev pub operatorOf : ℕ → Operator
@@ -25,8 +24,7 @@ applied kind a b = apply (operatorOf kind) a b
 abbrev pub leafValue : List ℤ → ℕ → ℤ
 leafValue values w = cond (eqb (kindIn w) 0) (toZ w32 (constantIn w)) (held values (operandIn w))
 
--- expression e of a program that can be run, with a value for each name
+-- expression e, with the values
 pub record Evaluable (words : List ℕ) (values : List ℤ) (e : ℕ) : Type 0 where
-  pub runnable : Runnable words
-  pub named : length values ≡ nameCount words
+  pub valued : Valued words values
   pub known : e < expressionCount words

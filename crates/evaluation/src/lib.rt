@@ -1,5 +1,6 @@
 // What the names hold, and the values of expressions.
 use program::WORDS;
+use program::kinds;
 ghost use mathlib.Core.Path.{_≡_};
 ghost use Prim.Native.Nat.{_<_};
 ghost use lib.ListN.{length};
@@ -28,30 +29,30 @@ fn leaf_value(values: &[i32], w: usize) -> i32
     requires { ⌜ (0 < kindIn w → operandIn w < length (now values)) ⌝ }
     ensures { λ r. ⌜ r ≡ leafValue (now (values .entry)) w ⌝ }
 {
-    if packing::kind_in(w) == 0 {
+    if packing::kind_in(w) == kinds::CONSTANT {
         return signed::value_of_word(packing::constant_in(w) as u32);
     }
     let x = packing::operand_in(w);
     values[x]
 }
 
-// The result of a binary operator, which is what kinds 2 to 7 are.
+// The result of a binary operator; equality is the last one.
 fn operate(kind: usize, a: i32, b: i32) -> i32
     ensures { λ r. ⌜ r ≡ applied kind a b ⌝ }
 {
-    if kind == 2 {
+    if kind == kinds::ADD {
         return arithmetic::add(a, b);
     }
-    if kind == 3 {
+    if kind == kinds::SUBTRACT {
         return arithmetic::subtract(a, b);
     }
-    if kind == 4 {
+    if kind == kinds::MULTIPLY {
         return arithmetic::multiply(a, b);
     }
-    if kind == 5 {
+    if kind == kinds::DIVIDE {
         return arithmetic::divide(a, b);
     }
-    if kind == 6 {
+    if kind == kinds::LESS {
         return comparison::less(a, b);
     }
     comparison::equal(a, b)
@@ -62,8 +63,8 @@ fn operand(program: &[usize; WORDS], values: &[i32], e: usize) -> i32
     requires { ⌜ Evaluable (now program) (now values) e ⌝ }
     ensures { λ r. ⌜ r ≡ value (expressionOf (now (program .entry)) e) (now (values .entry)) ⌝ }
 {
-    let w = program[program::EXPRESSIONS + e];
-    if packing::kind_in(w) <= 1 {
+    let w = program::expression_at(program, e);
+    if packing::kind_in(w) <= kinds::REGISTER {
         return leaf_value(values, w);
     }
     value_of(program, values, e)
@@ -74,13 +75,13 @@ pub fn value_of(program: &[usize; WORDS], values: &[i32], e: usize) -> i32
     requires { ⌜ Evaluable (now program) (now values) e ⌝ }
     ensures { λ r. ⌜ r ≡ value (expressionOf (now (program .entry)) e) (now (values .entry)) ⌝ }
 {
-    let w = program[program::EXPRESSIONS + e];
+    let w = program::expression_at(program, e);
     let kind = packing::kind_in(w);
-    if kind <= 1 {
+    if kind <= kinds::REGISTER {
         return leaf_value(values, w);
     }
     let a = operand(program, values, packing::operand_in(w));
-    if kind == 8 {
+    if kind == kinds::NOT {
         return comparison::not(a);
     }
     let b = operand(program, values, packing::later_in(w));

@@ -17,7 +17,7 @@ use Rattle.program.specs.declared.forms.Front.{Front}
 use Rattle.residual.specs.Residual.{own}
 use Rattle.program.specs.Forms.{itself, watched, guarded, beside, rearOf, partIn}
 use Rattle.residual.specs.Frames.{around}
-use Rattle.residual.specs.Nodes.{frontIn, rearIn, left}
+use Rattle.residual.specs.Nodes.{inFront, inRear, left}
 use Rattle.residual.proofs.Sights.{signalAt, own-put, length-put, part-length, part-put}
 use Rattle.instants.proofs.Deciding.{Found, Part, Rear, front-part, rear-part, rear-found, parts-apart, ahead}
 
@@ -84,11 +84,11 @@ module _ {words : List ℕ} {values : List ℤ} {k : ℕ} {st : List ℕ} {f : F
       ∙ ap (λ p. change p values) (sym (a .inside .whole))
 
   -- and then, of a parallel, the part behind it
-  module _ {g : Front} {n : ℕ} (e : n ≡ frontIn words k st .form) (b : beside ≤ n) (u : g ≡ rearOf words k n (length st)) where
+  module _ {g : Front} {n : ℕ} (e : n ≡ inFront words k st .form) (b : beside ≤ n) (u : g ≡ rearOf words k n (length st)) where
     rear : Rear words k st f
     rear = rear-part found (omega (arith, e, b, ap (λ (f : Front). f .form) (found .front)))
 
-    other : g ≡ rearIn words k st
+    other : g ≡ inRear words k st
     other = u ∙ rear-found found e b
 
     two : Part words k st g
@@ -144,7 +144,7 @@ module _ {words : List ℕ} {values : List ℤ} {k : ℕ} {st : List ℕ} {f : F
 
       whole-after : left words k after ≡ parallel (left words (f .child) ys) (left words (g .child) zs)
       whole-after =
-          let behind : rearIn words k after ≡ g = rw (own-two, length-two) (sym other) in
+          let behind : inRear words k after ≡ g = rw (own-two, length-two) (sym other) in
           rear-part found-after (omega (arith, e, b, ap (λ (f : Front). f .form) (found .front))) .whole
           ∙ ap₂ parallel (ap (left words (f .child)) front-after)
           (ap (λ (g : Front). left words (g .child) (partIn g after)) behind

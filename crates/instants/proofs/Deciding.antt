@@ -18,7 +18,7 @@ use Rattle.program.proofs.Fronts.{front-form, rear-is, parts-meet}
 use Rattle.residual.specs.Residual.{own, residual}
 use Rattle.program.specs.Forms.{itself, first, second, before, watched, guarded, beside, turned, formOf, rearOf, partIn}
 use Rattle.residual.specs.Frames.{Frame, around}
-use Rattle.residual.specs.Nodes.{Valued, At, frontIn, rearIn, left}
+use Rattle.residual.specs.Nodes.{Valued, At, NodeIn, inFront, inRear, left}
 use Rattle.instants.specs.Contracts.{RearWaits}
 use Rattle.residual.proofs.Sights.{Inside, signalAt, MovesItself, not-itself, Sight, sees-nothing, sees-itself, sees-alone, sees-before, sees-watched, sees-guarded, sees-beside, sight, part-length}
 
@@ -33,7 +33,12 @@ beside-above = ⊎-elim (λ e. omega arith) (λ e. omega arith)
 pub record Found (words : List ℕ) (values : List ℤ) (k : ℕ) (st : List ℕ) (f : Front) : Type 0 where
   pub valued : Valued words values
   pub at : At words k st
-  pub front : f ≡ frontIn words k st
+  pub front : f ≡ inFront words k st
+
+pub found-in :
+    {words : List ℕ} {k : ℕ} {st : List ℕ} {values : List ℤ} → NodeIn words k st values →
+    Found words values k st (inFront words k st)
+found-in n = record { valued = n .valued; at = n .node; front = refl }
 
 -- a part of it, which is a node with its own bytes
 pub record Part (words : List ℕ) (k : ℕ) (st : List ℕ) (f : Front) : Type 0 where
@@ -45,10 +50,10 @@ pub record Part (words : List ℕ) (k : ℕ) (st : List ℕ) (f : Front) : Type 
 
 -- node k is a parallel
 pub record Rear (words : List ℕ) (k : ℕ) (st : List ℕ) (f : Front) : Type 0 where
-  pub part : Part words k st (rearIn words k st)
+  pub part : Part words k st (inRear words k st)
   pub whole :
       left words k st
-      ≡ parallel (left words (f .child) (partIn f st)) (left words (rearIn words k st .child) (partIn (rearIn words k st) st))
+      ≡ parallel (left words (f .child) (partIn f st)) (left words (inRear words k st .child) (partIn (inRear words k st) st))
 
 -- p is suspended or not, and an instant change leaves it as it is
 pub record Stays (p : Proc ℕ) (values : List ℤ) (waiting : Bool) : Type 0 where
@@ -90,21 +95,21 @@ module _ {words : List ℕ} {k : ℕ} {st : List ℕ} (at : At words k st) (f : 
   part-of : Inside words k st f F → Part words k st f
   part-of i = inside-part (own st) (rw (set-getD st 0 0) i)
 
-mover-stays :
+itself-stays :
     {words : List ℕ} {k : ℕ} (st : List ℕ) (values : List ℤ) → NodeView words k → own st ≡ 0 →
     MovesItself (kindAt words k) → Stays (left words k st) values false
 unfolding residual suspended change
-mover-stays st values (aNil e q) o m = rw q (record { waits = refl; same = refl })
-mover-stays st values (anAssign e q x y) o m = rw (q, o) (record { waits = refl; same = refl })
-mover-stays st values (aLet e q x y p) o m = rw (q, o) (record { waits = refl; same = refl })
-mover-stays st values (anIf e q y p r) o m = rw (q, o) (record { waits = refl; same = refl })
-mover-stays st values (aWhile e q y p) o m = rw (q, o) (record { waits = refl; same = refl })
-mover-stays st values (aSequence e q p r) o m = absurd (not-itself m e (inr (inl refl)))
-mover-stays st values (anEmit e q x) o m = rw (q, o) (record { waits = refl; same = refl })
-mover-stays st values (aLocal e q x p) o m = rw (q, o) (record { waits = refl; same = refl })
-mover-stays st values (aWatching e q x p g) o m = absurd (not-itself m e (inr (inr (omega arith))))
-mover-stays st values (aWhen e q x p l) o m = absurd (not-itself m e (inr (inr (omega arith))))
-mover-stays st values (aParallel e q p r) o m = absurd (not-itself m e (inr (inr (omega arith))))
+itself-stays st values (aNil e q) o m = rw q (record { waits = refl; same = refl })
+itself-stays st values (anAssign e q x y) o m = rw (q, o) (record { waits = refl; same = refl })
+itself-stays st values (aLet e q x y p) o m = rw (q, o) (record { waits = refl; same = refl })
+itself-stays st values (anIf e q y p r) o m = rw (q, o) (record { waits = refl; same = refl })
+itself-stays st values (aWhile e q y p) o m = rw (q, o) (record { waits = refl; same = refl })
+itself-stays st values (aSequence e q p r) o m = absurd (not-itself m e (inr (inl refl)))
+itself-stays st values (anEmit e q x) o m = rw (q, o) (record { waits = refl; same = refl })
+itself-stays st values (aLocal e q x p) o m = rw (q, o) (record { waits = refl; same = refl })
+itself-stays st values (aWatching e q x p g) o m = absurd (not-itself m e (inr (inr (omega arith))))
+itself-stays st values (aWhen e q x p l) o m = absurd (not-itself m e (inr (inr (omega arith))))
+itself-stays st values (aParallel e q p r) o m = absurd (not-itself m e (inr (inr (omega arith))))
 
 module _ {words : List ℕ} {values : List ℤ} {k : ℕ} {st : List ℕ} {f : Front}
     (found : Found words values k st f) where
@@ -139,17 +144,17 @@ module _ {words : List ℕ} {values : List ℤ} {k : ℕ} {st : List ℕ} {f : F
           record { part = rw (← u) (inside-part (found .at) g _ (1 - own st) j); whole = rw (← u) (i .whole) }
 
   -- its parts: the other one as it is found by the form, and where they lie
-  module _ {n : ℕ} (e : n ≡ frontIn words k st .form) (b : beside ≤ n) where
+  module _ {n : ℕ} (e : n ≡ inFront words k st .form) (b : beside ≤ n) where
     form-is : n ≡ formOf (kindAt words k) (own st)
     form-is = e ∙ front-form words k (own st) (length st)
 
     kind-known : kindAt words k < 11
     kind-known = found .valued .runnable .nodes k (found .at .known) .kind
 
-    pub rear-found : rearOf words k n (length st) ≡ rearIn words k st
+    pub rear-found : rearOf words k n (length st) ≡ inRear words k st
     rear-found = rear-is words k (own st) (length st) form-is kind-known b
 
-    pub parts-apart : (f .to ≤ rearIn words k st .from) ⊎ (rearIn words k st .to ≤ f .from)
+    pub parts-apart : (f .to ≤ inRear words k st .from) ⊎ (inRear words k st .to ≤ f .from)
     parts-apart =
         rw (found .front)
         (⊎-elim (λ m. inl (omega arith)) (λ m. inr (omega arith)) (parts-meet words k (own st) (length st) form-is kind-known b))
@@ -207,7 +212,7 @@ module _ {words : List ℕ} {values : List ℤ} {k : ℕ} {st : List ℕ} {f : F
       part : Sight words k st f → f .form ≤ itself → Stays (left words k st) values false
       part (sees-nothing e q) h = rw q (record { waits = refl; same = refl })
       part (sees-itself e o m) h =
-          mover-stays st values (node-view words (found .valued .runnable) k (found .at .known)) o m
+          itself-stays st values (node-view words (found .valued .runnable) k (found .at .known)) o m
       part (sees-alone e i) h = absurd (omega (arith, alone-within e))
       part (sees-before e o q i z) h = absurd (omega arith)
       part (sees-watched e n i z) h = absurd (omega arith)
@@ -231,9 +236,9 @@ module _ {words : List ℕ} {values : List ℤ} {k : ℕ} {st : List ℕ} {f : F
         ]
 
     -- behind it is a part that could move
-    pub awake-rear : RearWaits words k st values (f .form) false → suspended (left words k st) values ≡ false
+    pub moving-rear : RearWaits words k st values (f .form) false → suspended (left words k st) values ≡ false
     unfolding suspended
-    awake-rear b =
+    moving-rear b =
         elim (decLt (f .form) beside) [
           | yes l ↦ absurd (false≢true (b .none l))
           | no n ↦ rw (rear-part (omega arith) .whole, ← b .other (omega arith)) (and-false (suspended front values))

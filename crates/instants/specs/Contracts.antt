@@ -7,21 +7,21 @@ use lib.IntN.{ℤ}
 use lib.ListN.{length}
 use Rattle.prelude.specs.Search.{any}
 use Rattle.language.specs.Syntax.{Names}
-use Rattle.language.specs.Steps.{present, suspended}
+use Rattle.language.specs.Steps.{present, suspended, change, instantStart}
+use Rattle.program.specs.Program.{namesOf}
 use Rattle.program.specs.Forms.{beside, partIn}
-use Rattle.residual.specs.Nodes.{Valued, At, frontIn, rearIn, left}
+use Rattle.residual.specs.Nodes.{NodeIn, inFront, inRear, left}
 
 -- a node that has come to this form
 pub record RearAsked (words : List ℕ) (k : ℕ) (st : List ℕ) (values : List ℤ) (n : ℕ) : Type 0 where
-  pub valued : Valued words values
-  pub node : At words k st
-  pub form : n ≡ frontIn words k st .form
+  pub at : NodeIn words k st values
+  pub form : n ≡ inFront words k st .form
 
 -- Of a node with this form nothing behind the part in front could move in its place.
 pub record RearWaits (words : List ℕ) (k : ℕ) (st : List ℕ) (values : List ℤ) (form : ℕ) (waits : Bool) : Type 0 where
   pub none : form < beside → waits ≡ true
   pub other :
-      beside ≤ form → waits ≡ suspended (left words (rearIn words k st .child) (partIn (rearIn words k st) st)) values
+      beside ≤ form → waits ≡ suspended (left words (inRear words k st .child) (partIn (inRear words k st) st)) values
 
 -- a signal that is present, and whether there is one
 abbrev pub isPresentSignal : Names ℕ → List ℤ → ℕ → Bool
@@ -29,3 +29,8 @@ isPresentSignal names values x = names .isSignal x && present values x
 
 abbrev pub someSignalPresent : Names ℕ → List ℤ → Bool
 someSignalPresent names values = any (isPresentSignal names values) (length values)
+
+-- what the end of an instant makes of node k, and of the values
+pub record NextInstant (words : List ℕ) (k : ℕ) (st st′ : List ℕ) (vs vs′ : List ℤ) : Type 0 where
+  pub process : left words k st′ ≡ change (left words k st) vs
+  pub values : vs′ ≡ instantStart (namesOf words) vs

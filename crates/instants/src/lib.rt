@@ -13,7 +13,7 @@ ghost use Rattle.language.specs.Steps.{change, instantStart};
 ghost use Rattle.language.specs.Calls.{givenBack};
 ghost use Rattle.program.specs.Program.{namesOf};
 ghost use Rattle.residual.specs.Nodes.{Valued, NodeIn, left};
-ghost use Rattle.instants.specs.Contracts.{isPresentSignal, someSignalPresent};
+ghost use Rattle.instants.specs.Contracts.{isPresentSignal, someSignalPresent, NextInstant};
 
 // The instant change of node k, which goes into what is in front and reads the signals of the instant that ends.
 fn change_instant(program: &[usize; WORDS], values: &[i32], state: &mut [u8], k: usize)
@@ -90,7 +90,7 @@ fn clear_signals(program: &[usize; WORDS], values: &mut [i32])
 // The instant ends: what is left of node k changes, by the signals of the instant that ends, and the next one begins.
 pub fn begin_instant(program: &[usize; WORDS], values: &mut [i32], state: &mut [u8], k: usize)
     requires { ⌜ NodeIn (now program) k (now state) (now values) ⌝ }
-    ensures { λ _. ⌜ (left (now (program .entry)) k (now (state .exit)) ≡ change (left (now (program .entry)) k (now (state .entry))) (now (values .entry))) × (now (values .exit) ≡ instantStart (namesOf (now (program .entry))) (now (values .entry))) ⌝ }
+    ensures { λ _. ⌜ NextInstant (now (program .entry)) k (now (state .entry)) (now (state .exit)) (now (values .entry)) (now (values .exit)) ⌝ }
 {
     change_instant(program, values, state, k);
     clear_signals(program, values);

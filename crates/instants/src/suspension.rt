@@ -9,7 +9,7 @@ ghost use Rattle.language.specs.Steps.{suspended};
 ghost use Rattle.residual.specs.Nodes.{NodeIn, left};
 ghost use Rattle.instants.specs.Contracts.{RearAsked, RearWaits};
 
-// Of a parallel both parts are asked, first the one behind: after a move it is the one more often awake.
+// Of a parallel both parts are asked, first the one behind: after a move it is the one that can more often move.
 pub fn is_suspended(program: &[usize; WORDS], values: &[i32], state: &[u8], k: usize) -> bool
     requires { ⌜ NodeIn (now program) k (now state) (now values) ⌝ }
     ensures { λ r. ⌜ r ≡ suspended (left (now (program .entry)) k (now (state .entry))) (now (values .entry)) ⌝ }

@@ -1,6 +1,6 @@
 -- The words that are packed for a checked file are its program: they mean what the file means, and they can be run.
 use mathlib.Core.Path.{_≡_, refl, sym, ap, ap₂, _∙_, subst}
-use mathlib.Core.Bool.{Bool, true}
+use mathlib.Core.Bool.{Bool, true, false, _||_, false≢true}
 use mathlib.Core.List.{List, [], _∷_, _++_}
 use Prim.Native.Nat.{ℕ, zero, suc, _-_, _≤_, _<_}
 use native.Mathlib.Omega.{arith}
@@ -25,7 +25,8 @@ use Rattle.tree.proofs.NodeSizes.{size-within, whole-size}
 use Rattle.packing.specs.Packing.{kindIn, aIn, bIn, firstIn, nodeKindIn, levelIn, signalIn, packedCounts}
 use Rattle.program.specs.Program as program
 use Rattle.program.specs.Program.{nameWord, expressionWord, nodeWord}
-use Rattle.program.specs.Runnable.{Holds, Leads, rowOf, FirstPart, ExpressionRuns, NodeRuns}
+use Rattle.program.specs.Rows.{rowOf}
+use Rattle.program.specs.Runnable.{Holds, Leads, FirstPart, ExpressionRuns, NodeRuns}
 use Rattle.plan.specs.Plan.{ExpressionPacked, NodePacked, Keeps, ProgramOf}
 use Rattle.plan.proofs.Plans.{counts-kept}
 use Rattle.plan.proofs.Scopes.{alone-below}
@@ -186,13 +187,13 @@ module _ (s : List ℕ) (sees : ℕ → Bool) (words : List ℕ) (ok : Checked s
 
     process-made :
         (l : List (Proc ℕ)) →
-        getD (program.processesFrom words w (λ j. getD l j nil)) (nodeKindIn w) nil
+        rowOf (nodeKindIn w) .makes (program.fieldsOf words w (λ j. getD l j nil))
         ≡ getD (processesFrom s p (λ j. getD l j nil)) (p .kind) nil
     unfolding firstChild secondChild
     process-made l = view (node-view s ok k h)
       where
         ours : ℕ → Proc ℕ
-        ours n = getD (program.processesFrom words w (λ j. getD l j nil)) n nil
+        ours n = rowOf n .makes (program.fieldsOf words w (λ j. getD l j nil))
 
         theirs : ℕ → Proc ℕ
         theirs n = getD (processesFrom s p (λ j. getD l j nil)) n nil
@@ -280,6 +281,15 @@ module _ (s : List ℕ) (sees : ℕ → Bool) (words : List ℕ) (ok : Checked s
             alone = λ q. alone (sym kind ∙ q);
           }
 
+      -- neither a watching nor a when
+      plain :
+          (n : ℕ) → entry .kind ≡ n → (eqb n 8 || eqb n 9) ≡ false → n < 11 → Holds words k (rowOf n .a) (aIn w) →
+          Holds words k (rowOf n .b) (bIn w) → Leads words k (rowOf n .first) → NodeRuns words k
+      plain n e other few a b first =
+          runs n e few a b first
+          (λ q. absurd (false≢true (sym other ∙ ap (λ m. eqb m 8 || eqb m 9) q)))
+          (λ q. absurd (false≢true (sym other ∙ ap (λ m. eqb m 8 || eqb m 9) q)))
+
       signal : UsesName s (node s k) (entry .a) 1 → signalIn (nameWord words (aIn w)) ≡ true
       signal u =
           ap (λ y. signalIn (nameWord words y)) (name-is k w x h (u .known))
@@ -306,31 +316,30 @@ module _ (s : List ℕ) (sees : ℕ → Bool) (words : List ℕ) (ok : Checked s
           (alone-below s ok (entry .a) k u h j l)
 
       view : NodeView s k → NodeRuns words k
-      view (aNil e q) = runs 0 e (omega arith) tt tt tt (λ z. absurd (omega (arith, z))) (λ z. absurd (omega (arith, z)))
+      view (aNil e q) = plain 0 e refl (omega arith) tt tt tt
       view (anAssign e q y z) =
-          runs 1 e (omega arith) (named (y .known)) (stores (omega (arith, e)) (z .known)) tt (λ z. absurd (omega (arith, z))) (λ z. absurd (omega (arith, z)))
+          plain 1 e refl (omega arith) (named (y .known)) (stores (omega (arith, e)) (z .known)) tt
       view (aLet e q y z r) =
-          runs 2 e (omega arith) (named (y .known)) (stores (omega (arith, e)) (z .known)) (leads (entry .c) (rw e) (r .before))
-          (λ z. absurd (omega (arith, z))) (λ z. absurd (omega (arith, z)))
+          plain 2 e refl (omega arith) (named (y .known)) (stores (omega (arith, e)) (z .known)) (leads (entry .c) (rw e) (r .before))
       view (anIf e q z r t) =
-          runs 3 e (omega arith) (tests (z .known)) (follows (entry .c) (rw e) (omega (arith, e)) (t .before))
-          (leads (entry .b) (rw e) (r .before)) (λ z. absurd (omega (arith, z))) (λ z. absurd (omega (arith, z)))
+          plain 3 e refl (omega arith) (tests (z .known)) (follows (entry .c) (rw e) (omega (arith, e)) (t .before))
+          (leads (entry .b) (rw e) (r .before))
       view (aWhile e q z r) =
-          runs 4 e (omega arith) (tests (z .known)) tt (leads (entry .b) (rw e) (r .before)) (λ z. absurd (omega (arith, z))) (λ z. absurd (omega (arith, z)))
+          plain 4 e refl (omega arith) (tests (z .known)) tt (leads (entry .b) (rw e) (r .before))
       view (aSequence e q r t) =
-          runs 5 e (omega arith) tt (follows (entry .b) (rw e) (omega (arith, e)) (t .before))
-          (leads (entry .a) (rw e) (r .before)) (λ z. absurd (omega (arith, z))) (λ z. absurd (omega (arith, z)))
-      view (anEmit e q y) = runs 6 e (omega arith) (named (y .known)) tt tt (λ z. absurd (omega (arith, z))) (λ z. absurd (omega (arith, z)))
+          plain 5 e refl (omega arith) tt (follows (entry .b) (rw e) (omega (arith, e)) (t .before))
+          (leads (entry .a) (rw e) (r .before))
+      view (anEmit e q y) = plain 6 e refl (omega arith) (named (y .known)) tt tt
       view (aLocal e q y r) =
-          runs 7 e (omega arith) (named (y .known)) tt (leads (entry .b) (rw e) (r .before)) (λ z. absurd (omega (arith, z))) (λ z. absurd (omega (arith, z)))
+          plain 7 e refl (omega arith) (named (y .known)) tt (leads (entry .b) (rw e) (r .before))
       view (aWatching e q y r) =
           runs 8 e (omega arith) (named (y .known)) tt (leads (entry .b) (rw e) (r .before)) (λ _. signal y) (λ z. absurd (omega (arith, z)))
       view (aWhen e q y r) =
           runs 9 e (omega arith) (named (y .known)) tt (leads (entry .b) (rw e) (r .before))
           (λ z. absurd (omega (arith, z))) (λ _. alone y (entry .b) (rw e) (r .before))
       view (aParallel e q r t) =
-          runs 10 e (omega arith) tt (follows (entry .b) (rw e) (omega (arith, e)) (t .before))
-          (leads (entry .a) (rw e) (r .before)) (λ z. absurd (omega (arith, z))) (λ z. absurd (omega (arith, z)))
+          plain 10 e refl (omega arith) tt (follows (entry .b) (rw e) (omega (arith, e)) (t .before))
+          (leads (entry .a) (rw e) (r .before))
 
   pub program-of : ProgramOf s sees words
   program-of =

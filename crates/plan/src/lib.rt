@@ -3,6 +3,7 @@ use book::Book;
 use fields::children::Children;
 use layout::Script;
 use program::WORDS;
+use program::kinds;
 ghost use mathlib.Core.Path.{_≡_};
 ghost use Prim.Native.Nat.{_<_};
 ghost use lib.Dec.{leb};
@@ -78,8 +79,8 @@ fn expression_word(s: &[u8], c: Script, e: usize) -> usize
     ensures { λ r. ⌜ ExpressionPacked (now (s .entry)) e r ⌝ }
 {
     let p = layout::entries::part_at(s, c, e);
-    if p.kind == 0 {
-        return packing::pack_expression(0, p.b, p.c);
+    if p.kind == kinds::CONSTANT {
+        return packing::pack_expression(kinds::CONSTANT, p.b, p.c);
     }
     packing::pack_expression(p.kind, p.b, p.a)
 }

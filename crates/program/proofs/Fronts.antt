@@ -16,7 +16,8 @@ use Rattle.prelude.proofs.Each.{Each, each}
 use Rattle.prelude.proofs.Bools.{and-left, and-right, or-second, by-cases}
 use Rattle.prelude.proofs.Searches.{all-elim}
 use Rattle.program.specs.declared.forms.Front.{Front}
-use Rattle.program.specs.Program.{kindAt}
+use Rattle.program.specs.Program.{nodeCount, kindAt}
+use Rattle.program.specs.Runnable.{NodeRuns, Runnable}
 use Rattle.program.specs.Forms.{nothing, itself, beside, turned, formRows, formOf, fromSecond, firstFront, secondFront, frontOf, rearOf}
 
 -- a number that is none of the first n
@@ -26,6 +27,10 @@ past-all n k others =
       | yes h ↦ absurd (each (λ m. k ≡ m → ⊥) n others k h refl)
       | no h ↦ omega arith
     ]
+
+-- a node of a program that can be run
+pub runs-at : {words : List ℕ} (k : ℕ) → Runnable words × (k < nodeCount words) → NodeRuns words k
+runs-at k (can, h) = can .nodes k h
 
 -- no kind has more than four forms
 short : (kind : ℕ) → kind < 11 → length (getD formRows kind []) ≤ 4

@@ -1,5 +1,4 @@
 -- The expression or process of a number in a program, kind by kind, with what is known of its fields.
--- Assumes nothing.
 use mathlib.Core.Path.{_≡_, refl, ap, ap₂, _∙_, subst}
 use mathlib.Core.Bool.{true}
 use mathlib.Core.List.{List}
@@ -14,8 +13,9 @@ use Rattle.prelude.proofs.Courses.{earlier}
 use Rattle.language.specs.Syntax.{Exp, Operator, add, subtract, multiply, divide, less, equal, constant, register, binary, negated, Proc, nil, assign, letIn, ifThenElse, while, sequence, emit, local, watching, when, parallel}
 use Rattle.language.specs.Shapes.{leavesAlone}
 use Rattle.packing.specs.Packing.{kindIn, constantIn, operandIn, laterIn, levelIn, signalIn}
-use Rattle.program.specs.Program.{nameCount, expressionCount, nodeCount, nameWord, expressionWord, nodeWord, kindAt, aAt, bAt, firstAt, secondAt, expressionsFrom, noExpression, expressionOf, processesFrom, processOf}
-use Rattle.program.specs.Runnable.{Holds, Leads, FirstPart, rowOf, ExpressionRuns, NodeRuns, Runnable}
+use Rattle.program.specs.Rows.{rowOf}
+use Rattle.program.specs.Program.{nameCount, expressionCount, nodeCount, nameWord, expressionWord, nodeWord, kindAt, aAt, bAt, firstAt, secondAt, expressionsFrom, noExpression, expressionOf, fieldsOf, processOf}
+use Rattle.program.specs.Runnable.{Holds, Leads, FirstPart, ExpressionRuns, NodeRuns, Runnable}
 
 -- the kind of a binary expression
 abbrev pub code : Operator → ℕ
@@ -100,11 +100,11 @@ module _ (words : List ℕ) where
 
 module _ (words : List ℕ) (k : ℕ) (runs : NodeRuns words k) where
   abbrev built : ℕ → List (Proc ℕ) → Proc ℕ
-  built k before = getD (processesFrom words (nodeWord words k) (λ j. getD before j nil)) (kindAt words k) nil
+  built k before = rowOf (kindAt words k) .makes (fieldsOf words (nodeWord words k) (λ j. getD before j nil))
 
   -- the process of this kind, with parts as they stand before it
   abbrev Made : ℕ → Proc ℕ
-  Made n = getD (processesFrom words (nodeWord words k) (λ j. getD (course built k) j nil)) n nil
+  Made n = rowOf n .makes (fieldsOf words (nodeWord words k) (λ j. getD (course built k) j nil))
 
   process : (n : ℕ) → kindAt words k ≡ n → processOf words k ≡ Made n
   unfolding processOf entry
@@ -199,20 +199,20 @@ module _ (words : List ℕ) (e : ℕ) (runs : ExpressionRuns words e) where
   abbrev w : ℕ
   w = expressionWord words e
 
-  abbrev spelled : ℕ → List Exp → Exp
-  spelled e before =
+  abbrev told : ℕ → List Exp → Exp
+  told e before =
       getD (expressionsFrom (expressionWord words e) (λ k. getD before k noExpression)) (kindIn (expressionWord words e)) noExpression
 
   abbrev Said : ℕ → Exp
-  Said n = getD (expressionsFrom w (λ j. getD (course spelled e) j noExpression)) n noExpression
+  Said n = getD (expressionsFrom w (λ j. getD (course told e) j noExpression)) n noExpression
 
   expression : (n : ℕ) → kindIn w ≡ n → expressionOf words e ≡ Said n
   unfolding expressionOf entry
   expression n q = ap Said q
 
-  operand : {j : ℕ} → j < e → getD (course spelled e) j noExpression ≡ expressionOf words j
+  operand : {j : ℕ} → j < e → getD (course told e) j noExpression ≡ expressionOf words j
   unfolding expressionOf
-  operand {j} l = earlier spelled noExpression e j l
+  operand {j} l = earlier told noExpression e j l
 
   abbrev Viewed : ℕ → Type 0
   Viewed n = kindIn w ≡ n → ExpressionView words e
@@ -226,7 +226,7 @@ module _ (words : List ℕ) (e : ℕ) (runs : ExpressionRuns words e) where
       let left : operandIn w < e = runs .first (omega (arith, l, q)) in
       let right : laterIn w < e = runs .second (omega (arith, l, q)) (omega (arith, m, q)) in
       aBinary o q
-      (expression (code o) q ∙ at (λ j. getD (course spelled e) j noExpression) ∙ ap₂ (binary o) (operand left) (operand right))
+      (expression (code o) q ∙ at (λ j. getD (course told e) j noExpression) ∙ ap₂ (binary o) (operand left) (operand right))
       left right
 
   pub expression-view-of : ExpressionView words e

@@ -9,8 +9,9 @@ use lib.ListN.{getD}
 use mir.Syntax.{w32}
 use mir.Val.{toZ}
 use Rattle.prelude.specs.Course.{entry}
-use Rattle.language.specs.Syntax.{Names, add, subtract, multiply, divide, less, equal, Exp, constant, register, binary, negated, Proc, nil, assign, letIn, ifThenElse, while, sequence, emit, local, watching, when, parallel}
+use Rattle.language.specs.Syntax.{Names, add, subtract, multiply, divide, less, equal, Exp, constant, register, binary, negated, Proc, nil}
 use Rattle.packing.specs.Packing.{kindIn, constantIn, operandIn, laterIn, aIn, bIn, firstIn, nodeKindIn, levelIn, signalIn, sessionIn, seenIn, namesIn, expressionsIn, nodesIn}
+use Rattle.program.specs.Rows.{Fields, rowOf}
 
 -- 'at most 64 names, 256 expressions, 256 nodes'
 abbrev pub mostNames : ℕ
@@ -109,31 +110,22 @@ expressionOf words =
     getD (expressionsFrom (expressionWord words e) (λ j. getD earlier j noExpression)) (kindIn (expressionWord words e))
     noExpression)
 
--- the processes of the eleven kinds, in the order of their numbers; a declaration carries its name's level
-abbrev pub processesFrom : List ℕ → ℕ → (ℕ → Proc ℕ) → List (Proc ℕ)
-processesFrom words w part =
-    let level : ℕ = levelIn (nameWord words (aIn w)) in
-    let one : Proc ℕ = part (firstIn w) in
-    let two : Proc ℕ = part (bIn w) in
-    nil
-    ∷ assign (aIn w) (expressionOf words (bIn w))
-    ∷ letIn (aIn w) level (expressionOf words (bIn w)) one
-    ∷ ifThenElse (expressionOf words (aIn w)) one two
-    ∷ while (expressionOf words (aIn w)) one
-    ∷ sequence one two
-    ∷ emit (aIn w)
-    ∷ local (aIn w) level one
-    ∷ watching (aIn w) one
-    ∷ when (aIn w) one
-    ∷ parallel one two
-    ∷ []
+-- the fields of a node with word w, by the parts of these numbers
+abbrev pub fieldsOf : List ℕ → ℕ → (ℕ → Proc ℕ) → Fields
+fieldsOf words w part =
+    record {
+      a = aIn w;
+      level = levelIn (nameWord words (aIn w));
+      tested = expressionOf words (aIn w);
+      stored = expressionOf words (bIn w);
+      one = part (firstIn w);
+      two = part (bIn w);
+    }
 
--- node k
+-- node k, by the row of its kind
 unfoldable pub processOf : List ℕ → ℕ → Proc ℕ
 processOf words =
-    entry
-    (λ k earlier.
-    getD (processesFrom words (nodeWord words k) (λ j. getD earlier j nil)) (kindAt words k) nil)
+    entry (λ k earlier. rowOf (kindAt words k) .makes (fieldsOf words (nodeWord words k) (λ j. getD earlier j nil)))
 
 -- the last node is the script
 abbrev pub script : List ℕ → Proc ℕ

@@ -1,44 +1,15 @@
 -- What a run asks of a program.
 use mathlib.Core.Path.{_≡_}
 use mathlib.Core.Bool.{true}
-use mathlib.Core.List.{List, [], _∷_}
+use mathlib.Core.List.{List, []}
 use Prim.Native.Nat.{ℕ, suc, _≤_, _<_}
-use lib.ListN.{getD}
+use lib.IntN.{ℤ}
+use lib.ListN.{length}
 use Rattle.language.specs.Shapes.{size, watches, leavesAlone}
 use Rattle.packing.specs.Packing.{kindIn, operandIn, laterIn, formIn, sizeIn, watchesIn, signalIn}
+use Rattle.program.specs.Rows.{Role, nothing, name, expression, part, rowOf}
 use Rattle.program.specs.Program.{mostNames, mostExpressions, mostNodes, nameCount, expressionCount, nodeCount, nameWord, expressionWord, nodeWord, kindAt, aAt, bAt, firstAt, processOf, script}
 use Rattle.program.specs.Forms.{formOf}
-
--- what a field is for
-pub data Role : Type 0 where
-  nothing name expression part : Role
-
-pub record Row : Type 0 where
-  pub a : Role
-  pub b : Role
-  pub first : Role
-
-abbrev row : Role → Role → Role → Row
-row a b first = record { a = a; b = b; first = first }
-
--- the fields of each kind of node: a, b (a second child is a part there), the first child
-abbrev pub nodeRows : List Row
-nodeRows =
-    row nothing nothing nothing
-    ∷ row name expression nothing
-    ∷ row name expression part
-    ∷ row expression part part
-    ∷ row expression nothing part
-    ∷ row nothing part part
-    ∷ row name nothing nothing
-    ∷ row name nothing part
-    ∷ row name nothing part
-    ∷ row name nothing part
-    ∷ row nothing part part
-    ∷ []
-
-abbrev pub rowOf : ℕ → Row
-rowOf kind = getD nodeRows kind (row nothing nothing nothing)
 
 -- field v of part k holds what it is for
 abbrev pub Holds : List ℕ → ℕ → Role → ℕ → Type 0
@@ -87,3 +58,8 @@ pub record Runnable (words : List ℕ) : Type 0 where
   pub whole : size (script words) ≡ nodeCount words
   pub expressions : (e : ℕ) → e < expressionCount words → ExpressionRuns words e
   pub nodes : (k : ℕ) → k < nodeCount words → NodeRuns words k
+
+-- and with a value for each name
+pub record Valued (words : List ℕ) (values : List ℤ) : Type 0 where
+  pub runnable : Runnable words
+  pub named : length values ≡ nameCount words

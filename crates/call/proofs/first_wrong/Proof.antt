@@ -27,7 +27,7 @@ returns : tie.Need-returns Inv-loop μ-loop
 returns c =
     let start = c .before .before .before .before .before in
     sym
-    (first-is _ _ _ (omega (arith, c .before .before .loop-test .taken, names-are (start .pre .0)))
+    (first-is _ _ _ (omega (arith, c .before .before .loop-test .taken, names-are (start .pre .laid)))
     (ap not (sym (c .before .value-is-right .ensures)) ∙ c .if1 .taken)
     (c .before .before .before .loop .inv .1))
 
@@ -46,7 +46,7 @@ loop-again c = (
 
 returns-2 : tie.Need-returns-2 Inv-loop μ-loop
 returns-2 c =
-    let named = names-are (c .before .before .before .pre .0) in
+    let named = names-are (c .before .before .before .pre .laid) in
     named
     ∙ sym (first-none _ _ (past (omega (arith, c .loop-test .left, named)) (c .before .loop .inv .1)))
 

@@ -10,7 +10,7 @@ a-at-requires : tie.Need-a-at-requires
 a-at-requires c κs = search needs
 
 is-present-requires : tie.Need-is-present-requires
-is-present-requires c κs = omega (arith, c .a-at .ensures, c .before .pre .1)
+is-present-requires c κs = omega (arith, c .a-at .ensures)
 
 returns : tie.Need-returns
 returns c = c .is-present .ensures ∙ ap (present (c .before .before .args .values .now)) (c .before .a-at .ensures)

@@ -26,15 +26,13 @@ loop-holds : tie.Need-loop-holds Inv-loop μ-loop
 loop-holds c = renewed-none _ _
 
 is-session-requires : tie.Need-is-session-requires Inv-loop μ-loop
-is-session-requires c κs = let pre = c .before .before .pre in omega (arith, c .loop-test .taken, pre .named, pre .runnable .fewNames)
+is-session-requires c κs = omega arith
 
 mul-values : tie.Need-mul-values Inv-loop μ-loop
 mul-values c = search needs
 
 slice-set-of-values : tie.Need-slice-set-of-values Inv-loop μ-loop
-slice-set-of-values c =
-    let turn = c .before .before in
-    omega (arith, turn .loop-test .taken, turn .before .loop .inv .same)
+slice-set-of-values c = omega arith
 
 add-x : tie.Need-add-x Inv-loop μ-loop
 add-x c = search needs

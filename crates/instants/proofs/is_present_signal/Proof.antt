@@ -6,7 +6,7 @@ use Rattle.instants.proofs.is_present_signal.Statement.{statement}
 use Rattle.instants.proofs.is_present_signal.Tie as tie
 
 is-signal-requires : tie.Need-is-signal-requires
-is-signal-requires c κs = let pre = c .pre in omega (arith, pre .1, pre .0 .named, pre .0 .runnable .fewNames)
+is-signal-requires c κs = omega arith
 
 is-present-requires : tie.Need-is-present-requires
 is-present-requires c κs = search needs

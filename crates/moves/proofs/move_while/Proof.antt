@@ -26,7 +26,7 @@ a-at-requires c κs = search needs
 test-holds-requires : tie.Need-test-holds-requires
 test-holds-requires c κs =
     let start = c .before .before in
-    record { runnable = start .pre .valued .runnable; named = start .pre .valued .named; known = omega (arith, c .a-at .ensures, known (start .args .program .now) (start .pre .valued .runnable) (start .args .k) (start .pre .node .known) (start .pre .kind) .1) }
+    record { valued = start .pre .valued; known = omega (arith, c .a-at .ensures, known (start .args .program .now) (start .pre .valued .runnable) (start .args .k) (start .pre .node .known) (start .pre .kind) .1) }
 
 slice-write-state : tie.Need-slice-write-state
 slice-write-state c =

@@ -29,8 +29,7 @@ value-of-requires : tie.Need-value-of-requires
 value-of-requires c κs =
     let start = c .before .before in
     record {
-      runnable = start .pre .valued .runnable;
-      named = start .pre .valued .named;
+      valued = start .pre .valued;
       known = omega (arith, c .b-at .ensures, known (start .args .program .now) (start .pre .valued .runnable) (start .args .k) (start .pre .known) (assigns (c .before)) .1 .1);
     }
 

@@ -3,8 +3,8 @@ use mathlib.Core.Path.{ap, _∙_}
 use Prim.Native.Nat.{_<_}
 use native.Mathlib.Omega.{arith}
 use Rattle.book.specs.LevelBook.{mostLevels, atOrBelow}
-use Rattle.layout.proofs.Layouts.{names-are}
 use Rattle.plan.proofs.Plans.{name-packed}
+use Rattle.plan.proofs.Reading.{name-level, name-kind}
 use borrow.Author.Needs.{needs}
 use Rattle.plan.proofs.name_word.Statement.{statement}
 use Rattle.plan.proofs.name_word.Tie as tie
@@ -14,14 +14,10 @@ name-at-requires c κs = search needs
 
 -- the entry that was read has a level of the book, and is a register or a signal
 level : (c : tie.After-name-at) → c .name-at .result .level < mostLevels
-level c =
-    let start = c .before .before in
-    omega (arith, ap (λ n. n .level) (c .name-at .ensures), start .pre .0 .levelled (start .args .x) (omega (arith, names-are (start .pre .0 .laid))))
+level c = omega (arith, ap (λ n. n .level) (c .name-at .ensures), name-level _ (c .before .before .pre))
 
 kind : (c : tie.After-name-at) → c .name-at .result .kind < 2
-kind c =
-    let start = c .before .before in
-    omega (arith, ap (λ n. n .kind) (c .name-at .ensures), start .pre .0 .checked .kinds (start .args .x) (omega (arith, names-are (start .pre .0 .laid))))
+kind c = omega (arith, ap (λ n. n .kind) (c .name-at .ensures), name-kind _ (c .before .before .pre))
 
 at-or-below-requires : tie.Need-at-or-below-requires
 at-or-below-requires c κs = (omega (arith, level c), omega (arith, level c))

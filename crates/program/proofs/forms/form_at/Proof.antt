@@ -1,7 +1,7 @@
 -- `form_at`: what the word of the node tells; past all forms a node is nil.
 use mathlib.Core.Path.{ap₂, _∙_}
 use Rattle.packing.specs.Packing.{formIn}
-use Rattle.program.proofs.Fronts.{form-past}
+use Rattle.program.proofs.Fronts.{runs-at, form-past}
 use borrow.Author.Needs.{needs}
 use Rattle.program.proofs.forms.form_at.Statement.{statement}
 use Rattle.program.proofs.forms.form_at.Tie as tie
@@ -9,7 +9,7 @@ use Rattle.program.proofs.forms.form_at.Tie as tie
 returns : tie.Need-returns
 returns c =
     let start = c .before in
-    form-past _ (start .args .tag) (start .pre .0 .nodes (start .args .k) (start .pre .1) .kind) (c .if1 .taken)
+    form-past _ (start .args .tag) (runs-at (start .args .k) (start .pre) .kind) (c .if1 .taken)
 
 word-at-requires : tie.Need-word-at-requires
 word-at-requires c κs = search needs
@@ -28,7 +28,7 @@ returns-2 c =
     let start = c .before .before .before .before in
     c .form-in .ensures
     ∙ ap₂ formIn (c .before .before .word-at .ensures) (c .before .wide .ensures)
-    ∙ start .pre .0 .nodes (start .args .k) (start .pre .1) .forms (start .args .tag) (c .before .before .before .if1 .left)
+    ∙ runs-at (start .args .k) (start .pre) .forms (start .args .tag) (c .before .before .before .if1 .left)
 
 pub form-at-spec : {M : Type 1} → statement M
 form-at-spec =
