@@ -1,6 +1,6 @@
 -- Laws that the proofs of several functions use.
-pub mod Turning
-pub mod Resting
 pub mod Entries
-pub mod Nexts
+pub mod Resting
+pub mod Turning
 pub mod Places
+pub mod Nexts

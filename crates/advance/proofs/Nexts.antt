@@ -1,184 +1,173 @@
--- What follows at a node, and what comes of it: the node itself has moved, or its part in front has been advanced.
--- Assumes nothing.
+-- What follows at a node, and what comes of it: the node itself has moved, or its part in front has been run.
 use mathlib.Core.Path.{_≡_, sym, ap, _∙_, subst}
 use mathlib.Core.Bool.{Bool, true, cond}
 use mathlib.Core.List.{List}
 use Prim.Native.Nat.{ℕ, _+_, _-_, _*_, _/_, _≤_, _<_}
+use native.Mathlib.Decide.{decLt}
 use native.Mathlib.Nat.{le-refl, sub-zero}
 use native.Mathlib.Omega.{arith}
-use borrow.Rule.Slice.PartMut.{putMid}
-use lib.Dec.{eqb}
 use lib.IntN.{ℤ}
 use lib.ListN.{length}
-use borrow.Author.Tests.{eq-eqb, eqb-true}
 use Rattle.prelude.proofs.Bools.{by-cases}
-use Rattle.program.specs.Program.{kindAt, aAt}
+use Rattle.program.specs.Program.{seenBy}
 use Rattle.program.specs.declared.forms.Front.{Front}
-use Rattle.program.specs.Forms.{itself, frontOf, partIn}
-use Rattle.residual.specs.Residual.{own}
-use Rattle.residual.specs.Nodes.{Valued, At, left}
+use Rattle.program.specs.Forms.{itself, before, partIn}
+use Rattle.residual.specs.Nodes.{At, NodeIn, left}
 use Rattle.instants.proofs.Deciding.{Found, Part, sees, front-part}
-use Rattle.moves.specs.declared.Done.{Done}
-use Rattle.moves.specs.Moves.{Running, isSpent, gone, waits}
-use Rattle.moves.specs.Contracts.{Counted, IsWriter, runningAt, Advances}
-use Rattle.moves.proofs.Advancing.{ended}
-use Rattle.advance.specs.Contracts.{inside, into, moving, itselfOf, Alone, Follows, nothing, awaits, itself, stands, part, doneAt, Rests, Settles}
+use Rattle.moves.specs.declared.counts.Counts.{Counts}
+use Rattle.moves.specs.declared.counts.Reason.{Reason}
+use Rattle.moves.specs.declared.counts.Reason.the-variants.{Nil, Suspended, Spent, Full}
+use Rattle.moves.specs.declared.counts.Moved.{Moved}
+use Rattle.moves.specs.declared.counts.Moved.the-variants.{Again, Rests}
+use Rattle.moves.specs.Moves.{Running, Ends, Comes}
+use Rattle.moves.specs.Contracts.{Counted, nodeAt, runningWith}
+use Rattle.moves.proofs.Advancing.{path-time}
+use Rattle.advance.specs.Contracts.{inFront, itselfOf, Stands, Ahead, Leads, ownMove, partAhead, PartEnds, PartCame, LeftBy, Leaves}
 use Rattle.advance.proofs.Entries.{writer-itself}
-use Rattle.advance.proofs.Places.{mid-whole, put-whole}
-use Rattle.advance.proofs.Turning.{Going, going, Turn, begins, turns-on, turns-to, part-turn, part-ends, part-rests, front-kept, settled}
+use Rattle.advance.proofs.Places.{mid-whole, put-whole, stays-alone}
+use Rattle.advance.proofs.Turning.{Going, going, reached, put-back, length-kept, front-kept, path-in, stays-open, spent-in, full-in, StopsAs, settled}
 
--- the two ways to go on
-pub data Way (words : List ℕ) (k : ℕ) (st : List ℕ) (vs : List ℤ) (why : ℕ) (f : Front) : Type 0 where
-  byItself :
-      why ≡ moving → f ≡ itselfOf k (length st) → frontOf words k (own st) (length st) .form ≡ itself → Way words k st vs why f
-  byPart :
-      Going words k st f vs → Part words k st f → itself < f .form → f ≡ frontOf words k (own st) (length st) →
-      (why ≡ moving → IsWriter (kindAt words (f .child)) × (own (partIn f st) ≡ 0)) → Way words k st vs why f
+-- a process that makes no move ends so
+pub stands-ends :
+    (seen : ℕ → Bool) (limit room : ℕ) (at : Running ℕ) (why : Reason) → Stands (at .process) (at .values) why →
+    Ends seen limit room at why
+stands-ends seen limit room at Nil e = e
+stands-ends seen limit room at Suspended e = e
+stands-ends seen limit room at Spent e = absurd e
+stands-ends seen limit room at Full e = absurd e
 
--- the bytes with those of the part put back
-abbrev pub reached : Front → List ℕ → List ℕ → List ℕ
-reached f st ys = putMid (f .from) (f .to - f .from) st ys
+-- what is seen of a part by why it ends
+part-ends :
+    (seen : ℕ → Bool) (limit room : ℕ) (at : Running ℕ) (why : Reason) → Ends seen limit room at why →
+    PartEnds (at .process) (at .values) why
+part-ends seen limit room at Nil e = e
+part-ends seen limit room at Suspended e = e
+part-ends seen limit room at Spent e = tt
+part-ends seen limit room at Full e = tt
 
-module _ (words : List ℕ) (k : ℕ) (st : List ℕ) (vs : List ℤ) (why : ℕ) (f : Front) where
-  pub way : Follows words k st vs why f → into ≤ why → Valued words vs → At words k st → Way words k st vs why f
-  way (nothing e z) g v a = absurd (omega (arith, e, g))
-  way (awaits e z) g v a = absurd (omega (arith, e, g))
-  way (itself e q m) g v a = byItself e q m
-  way (stands e o) g v a = absurd (omega (arith, e, g))
-  way (part l e m p w) g v a =
-      let found : Found words vs k st f = record { valued = v; at = a; front = e } in
-      byPart (going words k st f vs (sees found) m p) (front-part found m) m e w
+module _ (words : List ℕ) (k : ℕ) (st : List ℕ) (vs : List ℤ) (f : Front) (moving : Bool) where
+  -- the two ways to go on
+  pub data Way : Type 0 where
+    byItself : f ≡ itselfOf k (length st) → moving ≡ true → inFront words k st .form ≡ itself → Way
+    byPart : Going words k st f vs → Found words vs k st f → Part words k st f → Ahead words k st vs f moving → Way
 
-  module _ (a : At words k st) where
-    pub within : Way words k st vs why f → (f .from ≤ f .to) × (f .to ≤ length st)
-    within (byItself e q m) = rw q (omega arith, le-refl (length st))
-    within (byPart g p m q w) = (p .order, p .within)
+  pub way : Leads words k st vs f moving → NodeIn words k st vs → Way
+  way (ownMove e m q) n = byItself e m q
+  way (partAhead a) n =
+      let found : Found words vs k st f = record { valued = n .valued; at = n .node; front = a .front } in
+      byPart (going words k st f vs (sees found) (a .part) (a .shown)) found (front-part found (a .part)) a
 
-    pub at-front : Way words k st vs why f → At words (f .child) (partIn f st)
-    at-front (byItself e q m) =
-        subst (λ (h : Front). At words (h .child) (partIn h st)) (sym q) (subst (At words k) (sym (mid-whole st)) a)
-    at-front (byPart g p m q w) = p .at
+  module _ (at : At words k st) where
+    pub within : Way → (f .from ≤ f .to) × (f .to ≤ length st)
+    within (byItself e m q) = rw e (omega arith, le-refl (length st))
+    within (byPart g n p a) = (p .order, p .within)
 
-    pub moves-next :
-        Way words k st vs why f → eqb why moving ≡ true → frontOf words (f .child) (own (partIn f st)) (length (partIn f st)) .form ≡ itself
-    moves-next (byItself e q m) t =
-        subst (λ (h : Front). frontOf words (h .child) (own (partIn h st)) (length (partIn h st)) .form ≡ itself) (sym q)
-        (subst (λ (z : List ℕ). frontOf words k (own z) (length z) .form ≡ itself) (sym (mid-whole st)) m)
-    moves-next (byPart g p m q w) t =
-        let x = w (eqb-true why moving t) in
-        writer-itself words (f .child) (length (partIn f st)) (partIn f st) (x .0) (x .1)
+    pub at-part : Way → At words (f .child) (partIn f st)
+    at-part (byItself e m q) =
+        subst (λ (h : Front). At words (h .child) (partIn h st)) (sym e) (subst (At words k) (sym (mid-whole st)) at)
+    at-part (byPart g n p a) = p .at
 
-    pub falls-by : Way words k st vs why f → cond (eqb why moving) 0 (3 * f .child + 3) < 3 * k + 1
-    falls-by (byItself e q m) = rw (eq-eqb why moving e) (omega arith)
-    falls-by (byPart g p m q w) =
-        by-cases (λ n. n < 3 * k + 1) (eqb why moving) (λ _. omega arith) (λ _. omega (arith, p .earlier))
+    pub moves-next : Way → moving ≡ true → inFront words (f .child) (partIn f st) .form ≡ itself
+    moves-next (byItself e m q) t =
+        subst (λ (h : Front). inFront words (h .child) (partIn h st) .form ≡ itself) (sym e)
+        (subst (λ (z : List ℕ). inFront words k z .form ≡ itself) (sym (mid-whole st)) q)
+    moves-next (byPart g n p a) t =
+        writer-itself words (f .child) (length (partIn f st)) (partIn f st) (a .writer t) (a .written t)
 
-  -- the node or its part in front has been advanced
-  module _ {seen : ℕ → Bool} {limit : ℕ} {log : List ℕ} {steps instant lines : ℕ} (c : Counted limit log steps lines)
-      (ys : List ℕ) (l : length ys ≡ f .to - f .from) {ws : List ℤ} {log′ : List ℕ} {steps′ lines′ why′ : ℕ}
-      (r :
-      Advances seen limit (length log / 4) (runningAt words (f .child) (partIn f st) vs log steps instant lines)
-      (runningAt words (f .child) ys ws log′ steps′ instant lines′) why′)
-      (some : (eqb why moving ≡ true → IsWriter (kindAt words (f .child))) → 0 < why′) where
-    -- of the node itself
-    own-advances :
-        f ≡ itselfOf k (length st) →
-        Advances seen limit (length log / 4) (runningAt words k st vs log steps instant lines)
-        (runningAt words k (reached f st ys) ws log′ steps′ instant lines′) why′
-    own-advances q =
-        subst
-        (λ (z : List ℕ).
-        Advances seen limit (length log / 4) (runningAt words k st vs log steps instant lines)
-        (runningAt words k z ws log′ steps′ instant lines′) why′)
-        (sym (rw q (put-whole st ys)))
-        (subst
-        (λ (z : List ℕ).
-        Advances seen limit (length log / 4) (runningAt words k z vs log steps instant lines)
-        (runningAt words k ys ws log′ steps′ instant lines′) why′)
-        (mid-whole st)
-        (subst
-        (λ (h : Front).
-        Advances seen limit (length log / 4) (runningAt words (h .child) (partIn h st) vs log steps instant lines)
-        (runningAt words (h .child) ys ws log′ steps′ instant lines′) why′)
-        q
-        r))
+    pub falls-by : Way → cond moving 0 (3 * f .child + 3) < 3 * k + 1
+    falls-by (byItself e m q) = rw m (omega arith)
+    falls-by (byPart g n p a) =
+        by-cases (λ n. n < 3 * k + 1) moving (λ _. omega arith) (λ _. omega (arith, p .earlier))
 
-    own-long : f ≡ itselfOf k (length st) → length (reached f st ys) ≡ length st
-    own-long q =
-        let same : reached f st ys ≡ ys = rw q (put-whole st ys) in
-        let long : f .to - f .from ≡ length st = rw q (sub-zero (length st)) in
-        ap length same ∙ l ∙ long
+  -- the node or its part in front has been run
+  module _ (w : Way) (ys : List ℕ) (l : length ys ≡ f .to - f .from) where
+    -- how many bytes there are
+    pub bytes-long : length (reached f st ys) ≡ length st
+    bytes-long = long w
+      where
+        long : Way → length (reached f st ys) ≡ length st
+        long (byItself e m q) =
+            let same : reached f st ys ≡ ys = rw e (put-whole st ys) in
+            let whole : f .to - f .from ≡ length st = rw e (sub-zero (length st)) in
+            ap length same ∙ l ∙ whole
+        long (byPart g n p a) = length-kept g ys l
 
-    positive : Way words k st vs why f → itself < f .form → 0 < why′
-    positive (byItself e q m) h = absurd (omega (arith, h, ap (λ (g : Front). g .form) q))
-    positive (byPart g p m q w) h = some (λ t. w (eqb-true why moving t) .0)
+    module _ {limit : ℕ} {log : List ℕ} {c : Counts} (counted : Counted limit log c) (ws : List ℤ) (log′ : List ℕ) where
+      abbrev Came : Moved → Type 0
+      Came m =
+          Comes (seenBy words) limit (length log / 4) (nodeAt words (f .child) (partIn f st) vs log c)
+          (nodeAt words (f .child) ys ws log′) m
 
-    abbrev here : Running ℕ
-    here = runningAt words k st vs log steps instant lines
+      -- what the node may be left by
+      pub part-came : (m : Moved) → Came m → before ≤ f .form → PartCame words k (reached f st ys) ws limit (f .form) m
+      part-came m r h = came w m r
+        where
+          came : Way → (m : Moved) → Came m → PartCame words k (reached f st ys) ws limit (f .form) m
+          came (byItself e m q) x r = absurd (omega (arith, h, ap (λ (z : Front). z .form) e))
+          came (byPart g n p a) (Again d) r = tt
+          came (byPart g n p a) (Rests why d) r =
+              let front = front-kept g ys l (a .front) in
+              let same : left words (inFront words k (reached f st ys) .child) (partIn (inFront words k (reached f st ys)) (reached f st ys)) ≡ left words (f .child) ys =
+              ap (λ (z : Front). left words (z .child) (partIn z (reached f st ys))) (sym front)
+              ∙ ap (left words (f .child)) (put-back g ys l) in
+              record {
+                time = path-time (r .path) (counted .time);
+                form-is = ap (λ (z : Front). z .form) front;
+                shown = g .shown ys ws (stays-open g ys l (r .path));
+                ends = subst (λ p. PartEnds p ws why) (sym same) (part-ends _ _ _ (nodeAt words (f .child) ys ws log′ d) why (r .ends));
+              }
 
-    abbrev at-first : Turn seen limit here here st st
-    at-first = begins {at = here} c
+      -- what has become of the node
+      pub node-came :
+          {part m : Moved} {st′ : List ℕ} → Came part → Leaves words k (reached f st ys) ws limit (f .form) part st′ m →
+          Comes (seenBy words) limit (length log / 4) (nodeAt words k st vs log c) (nodeAt words k st′ ws log′) m
+      node-came {part} {m} {st′} r left-so = came w part r left-so
+        where
+          Node : List ℕ → Moved → Type 0
+          Node z m = Comes (seenBy words) limit (length log / 4) (nodeAt words k st vs log c) (nodeAt words k z ws log′) m
 
-    pub advanced-turn :
-        Way words k st vs why f → length ws ≡ length vs → length log′ ≡ length log →
-        Turn seen limit here (runningAt words k (reached f st ys) ws log′ steps′ instant lines′) st (reached f st ys)
-    advanced-turn (byItself e q m) named logged = turns-on at-first (own-advances q) named logged (own-long q)
-    advanced-turn (byPart g p m q w) named logged =
-        part-turn g at-first ys l (r, positive (byPart g p m q w) m) named logged
+          itself-came : f ≡ itselfOf k (length st) → (x : Moved) → Came x → Node (reached f st ys) x
+          itself-came e x r =
+              subst (λ (z : List ℕ). Node z x) (sym (rw e (put-whole st ys)))
+              (subst
+              (λ (z : List ℕ).
+              Comes (seenBy words) limit (length log / 4) (nodeAt words k z vs log c) (nodeAt words k ys ws log′) x)
+              (mid-whole st)
+              (subst
+              (λ (h : Front).
+              Comes (seenBy words) limit (length log / 4) (nodeAt words (h .child) (partIn h st) vs log c)
+              (nodeAt words (h .child) ys ws log′) x)
+              e
+              r))
 
-    pub advanced-ends :
-        Way words k st vs why f → isSpent ≤ why′ →
-        Advances seen limit (length log / 4) here (runningAt words k (reached f st ys) ws log′ steps′ instant lines′) why′
-    advanced-ends (byItself e q m) h = own-advances q
-    advanced-ends (byPart g p m q w) h = part-ends g at-first ys l (r, positive (byPart g p m q w) m) h
+          -- it stands alone: what is left of the node is what is left of it
+          alone-came : Going words k st f vs → Found words vs k st f → Ahead words k st vs f moving → f .form < before → (x : Moved) → Came x → Node (reached f st ys) x
+          alone-came g n a h x r =
+              let i = stays-alone (record { front = a .front; part = a .part; alone = h }) (sees n) in
+              subst (λ p. Comes (seenBy words) limit (length log / 4) (runningWith p vs log c) (nodeAt words k (reached f st ys) ws log′) x) (sym (i .whole))
+              (subst (λ p. Comes (seenBy words) limit (length log / 4) (nodeAt words (f .child) (partIn f st) vs log c) (runningWith p ws log′) x) (sym (i .after ys l)) r)
 
-    pub front-rests :
-        Way words k st vs why f → why′ < isSpent → itself < f .form →
-        (f ≡ frontOf words k (own (reached f st ys)) (length (reached f st ys))) × Rests words k (reached f st ys) ws f why′
-    front-rests (byItself e q m) h n = absurd (omega (arith, n, ap (λ (g : Front). g .form) q))
-    front-rests (byPart g p m q w) h n =
-        (front-kept g ys l q, part-rests g at-first ys l (r, positive (byPart g p m q w) m) m h)
+          framed-came : Going words k st f vs → (x : Moved) → Came x → LeftBy words k (reached f st ys) ws limit st′ m x → Node st′ m
+          framed-came g (Again d) r s =
+              rw (s .0, s .1) (record { path = path-in g ys l (r .path); some = r .some })
+          framed-came g (Rests why d) r s =
+              settled (path-in g ys l (r .path)) why (stops-as why (r .ends)) s
+            where
+              stops-as :
+                  (why : Reason) →
+                  Ends (seenBy words) limit (length log / 4) (nodeAt words (f .child) ys ws log′ d) why →
+                  StopsAs (path-in g ys l (r .path)) why
+              stops-as Nil e = tt
+              stops-as Suspended e = tt
+              stops-as Spent e = spent-in g ys l (r .path) e
+              stops-as Full e = full-in g ys l (r .path) e
 
-    -- the node has been left
-    module _ (h : why′ < isSpent) {st′ : List ℕ} {d : Done}
-        (same : f .form ≤ itself → (d ≡ doneAt why′ steps′ lines′) × (st′ ≡ (reached f st ys)))
-        (settles :
-        itself < f .form →
-        Settles limit (left words k (reached f st ys)) ws (left words k st′) steps′ lines′ why′ (d .why) (d .at .steps) (d .at .lines))
-        (named : length ws ≡ length vs) (logged : length log′ ≡ length log) where
-      pub left-by :
-          Way words k st vs why f →
-          Advances seen limit (length log / 4) here (runningAt words k st′ ws log′ (d .at .steps) instant (d .at .lines)) (d .why)
-      left-by (byItself e q m) =
-          let x = same (omega (arith, ap (λ (g : Front). g .form) q)) in
-          rw (x .0, x .1) (own-advances q)
-      left-by (byPart g p m q w) =
-          let u = advanced-turn (byPart g p m q w) named logged in
-          let rests = front-rests (byPart g p m q w) h m .1 in
-          turns-to u
-          (settled {seen = seen} {room = length log′ / 4} {log = log′} {instant = instant} (settles m) (rests .known) (u .time)
-          (omega (arith, u .space, u .logged)))
-
--- nothing follows
-pub rests-here :
-    {words : List ℕ} {k : ℕ} {st : List ℕ} {vs : List ℤ} {why : ℕ} {f : Front} (seen : ℕ → Bool) (limit : ℕ) (log : List ℕ)
-    (steps instant lines : ℕ) →
-    Counted limit log steps lines → Follows words k st vs why f → why < inside →
-    Advances seen limit (length log / 4) (runningAt words k st vs log steps instant lines)
-    (runningAt words k st vs log steps instant lines) why
-rests-here seen limit log steps instant lines c (nothing e z) h =
-    ended (c .time) (omega (arith, c .space)) (λ q. omega (arith, e, q)) (gone e z)
-rests-here seen limit log steps instant lines c (awaits e z) h =
-    ended (c .time) (omega (arith, c .space)) (λ q. omega (arith, e, q)) (waits e z)
-rests-here seen limit log steps instant lines c (itself e q m) h = absurd (omega (arith, e, h))
-rests-here seen limit log steps instant lines c (stands e o) h = absurd (omega (arith, e, h))
-rests-here seen limit log steps instant lines c (part l e m p w) h = absurd (omega (arith, l, h))
-
--- the part that stands alone
-pub alone-there :
-    {words : List ℕ} {k : ℕ} {st : List ℕ} {vs : List ℤ} {why : ℕ} {f : Front} → Follows words k st vs why f → why ≡ inside → Alone words k st f
-alone-there (nothing e z) h = absurd (omega (arith, e, h))
-alone-there (awaits e z) h = absurd (omega (arith, e, h))
-alone-there (itself e q m) h = absurd (omega (arith, e, h))
-alone-there (stands e o) h = o
-alone-there (part l e m p w) h = absurd (omega (arith, l, h))
+          came : Way → (x : Moved) → Came x → Leaves words k (reached f st ys) ws limit (f .form) x st′ m → Node st′ m
+          came (byItself e t q) x r s =
+              let h : f .form < before = omega (arith, ap (λ (z : Front). z .form) e) in
+              rw (s .same h, s .still h) (itself-came e x r)
+          came (byPart g n p a) x r s =
+              elim (decLt (f .form) before) [
+                | yes h ↦ rw (s .same h, s .still h) (alone-came g n a h x r)
+                | no h ↦ framed-came g x r (s .framed (omega arith))
+              ]

@@ -1,5 +1,4 @@
 -- A part that stands alone takes the place of its node: what is left of the node is what is left of that part.
--- Assumes nothing.
 use mathlib.Core.Path.{_≡_, sym, ap, ap₂, _∙_, subst}
 use mathlib.Core.Bool.{Bool}
 use mathlib.Core.Logic.{inl, inr}
@@ -16,11 +15,12 @@ use Rattle.residual.specs.Frames.{alone}
 use Rattle.residual.specs.Nodes.{Valued, At, left}
 use Rattle.residual.proofs.Sights.{Inside, Sight, sees-nothing, sees-itself, sees-alone, sees-before, sees-watched, sees-guarded, sees-beside, length-put, part-put}
 use Rattle.instants.proofs.Deciding.{Found, sees, front-part}
-use Rattle.moves.specs.declared.Counts.{Counts}
-use Rattle.moves.specs.Moves.{Running}
-use Rattle.moves.specs.Contracts.{runningAt, Advances}
+use Rattle.moves.specs.declared.counts.Counts.{Counts}
+use Rattle.moves.specs.declared.counts.Moved.{Moved}
+use Rattle.moves.specs.Moves.{Running, Path, Comes}
+use Rattle.moves.specs.Contracts.{runningWith, nodeAt}
 use Rattle.advance.specs.Contracts.{Alone}
-use Rattle.advance.proofs.Turning.{Turn, turns-on}
+use Rattle.advance.proofs.Turning.{Reached, reaches}
 
 -- a part of a part: m elements from f on, among the n from a on
 module _ (a n f m : ℕ) (st : List ℕ) (h : f + m ≤ n) (l : a + n ≤ length st) where
@@ -74,8 +74,19 @@ mid-whole st = rw (sub-zero (length st)) (take-length st)
 pub put-whole : (st ys : List ℕ) → putMid 0 (length st - 0) st ys ≡ ys
 put-whole st ys = rw (sub-zero (length st), drop-length st) (append-nil ys)
 
+-- the part in front stands alone
+pub stays-alone : {words : List ℕ} {k : ℕ} {st : List ℕ} {f : Front} → Alone words k st f → Sight words k st f → Inside words k st f alone
+stays-alone o (sees-nothing e r) = absurd (omega (arith, e, o .part))
+stays-alone o (sees-itself e z m) = absurd (omega (arith, e, o .part))
+stays-alone o (sees-alone e i) = i
+stays-alone o (sees-before e z q i r) = absurd (omega (arith, e, o .alone))
+stays-alone o (sees-watched e x i r) = absurd (omega (arith, e, o .alone))
+stays-alone o (sees-guarded e x z i r) = absurd (omega (arith, e, o .alone))
+stays-alone o (sees-beside (inl e) z g q i c r) = absurd (omega (arith, e, o .alone))
+stays-alone o (sees-beside (inr e) z g q i c r) = absurd (omega (arith, e, o .alone))
+
 -- Node j stands in the place of node k, which has the bytes st: its own are those from a up to b.
-pub record Stands (words : List ℕ) (k : ℕ) (st : List ℕ) (j a b : ℕ) : Type 0 where
+pub record Placed (words : List ℕ) (k : ℕ) (st : List ℕ) (j a b : ℕ) : Type 0 where
   pub earlier : j ≤ k
   pub order : a ≤ b
   pub within : b ≤ length st
@@ -83,8 +94,8 @@ pub record Stands (words : List ℕ) (k : ℕ) (st : List ℕ) (j a b : ℕ) : T
   pub after : (ys : List ℕ) → length ys ≡ b - a → left words k (putMid a (b - a) st ys) ≡ left words j ys
 
 -- the node itself
-pub itself-stands : (words : List ℕ) (k : ℕ) (st : List ℕ) → At words k st → Stands words k st k 0 (length st)
-itself-stands words k st at =
+pub itself-placed : (words : List ℕ) (k : ℕ) (st : List ℕ) → At words k st → Placed words k st k 0 (length st)
+itself-placed words k st at =
     record {
       earlier = le-refl k;
       order = omega arith;
@@ -93,7 +104,7 @@ itself-stands words k st at =
       after = λ ys l. ap (left words k) (put-whole st ys);
     }
 
-module _ {words : List ℕ} {k : ℕ} {st : List ℕ} {j a b : ℕ} (p : Stands words k st j a b) where
+module _ {words : List ℕ} {k : ℕ} {st : List ℕ} {j a b : ℕ} (p : Placed words k st j a b) where
   pub long : length (midOf a (b - a) st) ≡ b - a
   long = mid-len a b st (p .within)
 
@@ -109,8 +120,8 @@ module _ {words : List ℕ} {k : ℕ} {st : List ℕ} {j a b : ℕ} (p : Stands 
     put-back : midOf a (b - a) (putMid a (b - a) st ys) ≡ ys
     put-back = part-put (record { form = 0; child = 0; from = a; to = b }) st ys (p .order) (p .within) l
 
-    pub stands-on : Stands words k (putMid a (b - a) st ys) j a b
-    stands-on =
+    pub placed-still : Placed words k (putMid a (b - a) st ys) j a b
+    placed-still =
         record {
           earlier = p .earlier;
           order = p .order;
@@ -119,79 +130,79 @@ module _ {words : List ℕ} {k : ℕ} {st : List ℕ} {j a b : ℕ} (p : Stands 
           after = λ zs m. ap (left words k) (put-over a b st ys zs (p .order) (p .within) l) ∙ p .after zs m;
         }
 
-    -- and its moves are those of the node
-    pub advances-there :
-        {seen : ℕ → Bool} {limit room : ℕ} {vs ws : List ℤ} {log log′ : List ℕ} {steps steps′ instant lines lines′ why : ℕ} →
-        Advances seen limit room (runningAt words j (midOf a (b - a) st) vs log steps instant lines)
-        (runningAt words j ys ws log′ steps′ instant lines′) why →
-        Advances seen limit room (runningAt words k st vs log steps instant lines)
-        (runningAt words k (putMid a (b - a) st ys) ws log′ steps′ instant lines′) why
-    advances-there r = rw (same-left, p .after ys l) r
+    -- and what becomes of it becomes of the node
+    pub comes-there :
+        (seen : ℕ → Bool) (limit room : ℕ) (vs : List ℤ) (log : List ℕ) (c : Counts) (ws : List ℤ) (log′ : List ℕ)
+        (m : Moved) →
+        Comes seen limit room (nodeAt words j (midOf a (b - a) st) vs log c) (nodeAt words j ys ws log′) m →
+        Comes seen limit room (nodeAt words k st vs log c) (nodeAt words k (putMid a (b - a) st ys) ws log′) m
+    comes-there seen limit room vs log c ws log′ m r =
+        subst
+        (λ z. Comes seen limit room (runningWith z vs log c) (nodeAt words k (putMid a (b - a) st ys) ws log′) m)
+        (sym same-left)
+        (subst
+        (λ z. Comes seen limit room (nodeAt words j (midOf a (b - a) st) vs log c) (runningWith z ws log′) m)
+        (sym (p .after ys l))
+        r)
 
   -- its part that stands alone stands there
   module _ {vs : List ℤ} (v : Valued words vs) {f : Front} (o : Alone words j (midOf a (b - a) st) f) where
     found : Found words vs j (midOf a (b - a) st) f
-    found = record { valued = v; at = p .at; front = o .0 }
+    found = record { valued = v; at = p .at; front = o .front }
 
-    stays-alone : Sight words j (midOf a (b - a) st) f → Inside words j (midOf a (b - a) st) f alone
-    stays-alone (sees-nothing e r) = absurd (omega (arith, e, o .1 .0))
-    stays-alone (sees-itself e z m) = absurd (omega (arith, e, o .1 .0))
-    stays-alone (sees-alone e i) = i
-    stays-alone (sees-before e z q i r) = absurd (omega (arith, e, o .1 .1))
-    stays-alone (sees-watched e x i r) = absurd (omega (arith, e, o .1 .1))
-    stays-alone (sees-guarded e x z i r) = absurd (omega (arith, e, o .1 .1))
-    stays-alone (sees-beside (inl e) z g q i c r) = absurd (omega (arith, e, o .1 .1))
-    stays-alone (sees-beside (inr e) z g q i c r) = absurd (omega (arith, e, o .1 .1))
+    inside : Inside words j (midOf a (b - a) st) f alone
+    inside = stays-alone o (sees found)
 
     pub part-falls : f .child < j
-    part-falls = stays-alone (sees found) .earlier
+    part-falls = inside .earlier
 
-    pub part-stands : Stands words k st (f .child) (a + f .from) (a + f .to)
-    part-stands =
-        let i : Inside words j (midOf a (b - a) st) f alone = stays-alone (sees found) in
+    pub part-placed : Placed words k st (f .child) (a + f .from) (a + f .to)
+    part-placed =
         let n : (a + f .to) - (a + f .from) ≡ f .to - f .from = omega arith in
-        let h : f .from + (f .to - f .from) ≤ b - a = omega (arith, i .order, i .within, long) in
+        let h : f .from + (f .to - f .from) ≤ b - a = omega (arith, inside .order, inside .within, long) in
         let w : a + (b - a) ≤ length st = omega (arith, p .order, p .within) in
         record {
-          earlier = omega (arith, i .earlier, p .earlier);
-          order = omega (arith, i .order);
-          within = omega (arith, i .within, long, p .order, p .within);
+          earlier = omega (arith, inside .earlier, p .earlier);
+          order = omega (arith, inside .order);
+          within = omega (arith, inside .within, long, p .order, p .within);
           at =
               rw n
               (subst (At words (f .child)) (mid-mid a (b - a) (f .from) (f .to - f .from) st h w)
-              (front-part found (o .1 .0) .at));
+              (front-part found (o .part) .at));
           after =
               rw n
               (λ ys l.
               let d : length (putMid (f .from) (f .to - f .from) (midOf a (b - a) st) ys) ≡ b - a =
-              length-put (f .from) (f .to - f .from) (midOf a (b - a) st) ys (omega (arith, i .order, i .within)) l ∙ long in
+              length-put (f .from) (f .to - f .from) (midOf a (b - a) st) ys
+              (omega (arith, inside .order, inside .within)) l
+              ∙ long in
               ap (left words k) (put-mid a (b - a) (f .from) (f .to - f .from) st h w ys)
               ∙ p .after (putMid (f .from) (f .to - f .from) (midOf a (b - a) st) ys) d
-              ∙ i .after ys l);
+              ∙ inside .after ys l);
         }
 
 -- Node k has come from `at`, with the bytes st₀, to here, and node j stands in its place.
-abbrev pub Placed :
-    (ℕ → Bool) → ℕ → Running ℕ → List ℕ → List ℕ → ℕ → List ℕ → List ℤ → List ℕ → Counts → ℕ → ℕ → ℕ → ℕ → Type 0
-Placed seen limit at st₀ words k st vs log d instant j a b =
-    Turn seen limit at (runningAt words k st vs log (d .steps) instant (d .lines)) st₀ st × Stands words k st j a b
+pub record Here
+    (seen : ℕ → Bool) (limit : ℕ) (at : Running ℕ) (st₀ words : List ℕ) (k : ℕ) (st : List ℕ) (vs : List ℤ)
+    (log : List ℕ) (c : Counts) (j a b : ℕ) : Type 0 where
+  pub come : Reached seen limit at (nodeAt words k st vs log c) st₀ st
+  pub placed : Placed words k st j a b
 
 -- its next turn: node j has made moves, or its part takes its place
 module _ {seen : ℕ → Bool} {limit : ℕ} {at : Running ℕ} {st₀ : List ℕ} {words : List ℕ} {k : ℕ} {st : List ℕ} {j a b : ℕ}
-    {vs : List ℤ} {log : List ℕ} {c : Counts} {instant : ℕ} (u : Placed seen limit at st₀ words k st vs log c instant j a b)
-    (ys : List ℕ) {ws : List ℤ} {log′ : List ℕ} {d : Counts} {j′ a′ b′ : ℕ} where
-  pub placed-on :
-      {why : ℕ} (l : length ys ≡ b - a) →
-      Advances seen limit (length log / 4) (runningAt words k st vs log (c .steps) instant (c .lines))
-      (runningAt words k (putMid a (b - a) st ys) ws log′ (d .steps) instant (d .lines)) why →
-      length ws ≡ length vs → length log′ ≡ length log → j′ ≡ j → a′ ≡ a → b′ ≡ b →
-      Placed seen limit at st₀ words k (putMid a (b - a) st ys) ws log′ d instant j′ a′ b′
-  placed-on l r named logged x y z =
-      (turns-on (u .0) r named logged (bytes-kept (u .1) ys l), rw (x, y, z) (stands-on (u .1) ys l))
+    {vs : List ℤ} {log : List ℕ} {c : Counts} (u : Here seen limit at st₀ words k st vs log c j a b) where
+  pub here-on :
+      (ys : List ℕ) {ws : List ℤ} {log′ : List ℕ} {d : Counts} → length ys ≡ b - a →
+      Path seen limit (length log / 4) (nodeAt words k st vs log c) (nodeAt words k (putMid a (b - a) st ys) ws log′ d) →
+      length ws ≡ length vs → length log′ ≡ length log →
+      Here seen limit at st₀ words k (putMid a (b - a) st ys) ws log′ d j a b
+  here-on ys l p named logged =
+      record {
+        come = reaches (u .come) p named logged (bytes-kept (u .placed) ys l);
+        placed = placed-still (u .placed) ys l;
+      }
 
-  pub placed-inside :
-      {f : Front} → Valued words vs → Alone words j (midOf a (b - a) st) f → d ≡ c → ws ≡ vs → ys ≡ midOf a (b - a) st →
-      log′ ≡ log → j′ ≡ f .child → a′ ≡ a + f .from → b′ ≡ a + f .to →
-      Placed seen limit at st₀ words k (putMid a (b - a) st ys) ws log′ d instant j′ a′ b′
-  placed-inside v o t q e g x y z =
-      rw (e, put-same a (b - a) st, t, q, g, x, y, z) (u .0, part-stands (u .1) v o)
+  pub here-inside :
+      {f : Front} → Valued words vs → Alone words j (midOf a (b - a) st) f →
+      Here seen limit at st₀ words k st vs log c (f .child) (a + f .from) (a + f .to)
+  here-inside v o = record { come = u .come; placed = part-placed (u .placed) v o }

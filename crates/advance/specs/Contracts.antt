@@ -1,142 +1,176 @@
 -- What the functions that run a node ask for and promise.
 use mathlib.Core.Path.{_≡_}
 use mathlib.Core.Bool.{Bool, true, cond, _||_}
-use mathlib.Core.Logic.{_⊎_}
 use mathlib.Core.List.{List}
-use Prim.Native.Nat.{ℕ, suc, _-_, _/_, _≤_, _<_}
-use lib.Dec.{eqb}
+use Prim.Native.Nat.{ℕ, _-_, _≤_, _<_}
+use lib.Dec.{eqb, leb}
 use lib.IntN.{ℤ}
-use lib.ListN.{length}
+use lib.ListN.{set, length}
 use Rattle.language.specs.Syntax.{Proc, isNil}
 use Rattle.language.specs.Steps.{present, suspended}
 use Rattle.program.specs.Program.{kindAt, aAt}
 use Rattle.program.specs.declared.forms.Front.{Front}
-use Rattle.program.specs.Forms.{itself, before, watched, guarded, frontOf, partIn}
+use Rattle.program.specs.Forms.{over, itself, before, watched, guarded, frontOf, partIn}
 use Rattle.residual.specs.Residual.{own}
-use Rattle.residual.specs.Nodes.{Valued, At, left}
-use Rattle.moves.specs.Moves.{Live, Silent, isGone, isSuspended, isSpent}
-use Rattle.moves.specs.declared.Done.{Done}
-use Rattle.moves.specs.declared.Counts.{Counts}
-use Rattle.moves.specs.declared.Limits.{Limits}
-use Rattle.moves.specs.Contracts.{mostSteps, seenIn, IsWriter, CanMove, nodeAt, Advances}
+use Rattle.residual.specs.Nodes.{NodeIn, left}
+use Rattle.moves.specs.declared.counts.Counts.{Counts}
+use Rattle.moves.specs.declared.counts.Reason.{Reason}
+use Rattle.moves.specs.declared.counts.Reason.the-variants.{Nil, Suspended, Spent, Full}
+use Rattle.moves.specs.declared.counts.Moved.{Moved}
+use Rattle.moves.specs.declared.counts.Moved.the-variants as moved
+use Rattle.moves.specs.declared.counts.Rested.{Rested}
+use Rattle.moves.specs.Moves.{Live, Silent}
+use Rattle.moves.specs.Contracts.{mostSteps, afterMove, IsWriter, CanMove, Makes}
+use Rattle.advance.specs.declared.next.Next.{Next}
+use Rattle.advance.specs.declared.next.Next.the-variants.{Rests, Inside, Part}
 use Rattle.advance.specs.declared.Turned.{Turned}
+use Rattle.advance.specs.declared.Turned.the-variants as turn
 
--- what comes next, beside that the node is nil or suspended: a part that stands alone, a part to be advanced, or one move
-abbrev pub inside : ℕ
-inside = 5
+-- the part in front of node k, and what is left of it
+abbrev pub inFront : List ℕ → ℕ → List ℕ → Front
+inFront words k st = frontOf words k (own st) (length st)
 
-abbrev pub into : ℕ
-into = 6
+abbrev pub frontLeft : List ℕ → ℕ → List ℕ → Proc ℕ
+frontLeft words k st = left words (inFront words k st .child) (partIn (inFront words k st) st)
 
-abbrev pub moving : ℕ
-moving = 7
-
--- at a node with no part in front
-abbrev pub ownNext : ℕ → ℕ
-ownNext form = cond (eqb form itself) moving isGone
-
--- the node itself as the part in front
+-- the node itself as its own part
 abbrev pub itselfOf : ℕ → ℕ → Front
 itselfOf k len = record { form = itself; child = k; from = 0; to = len }
 
+-- what comes next at node k, which has so many bytes and no part in front
+abbrev pub ownNext : ℕ → ℕ → ℕ → Next
+ownNext form k len =
+    cond (eqb form itself) (Part (record { form = form; child = k; from = 0; to = len }) true) (Rests Nil)
+
+-- a process makes no move, whatever the limit and the log are
+abbrev pub Stands : Proc ℕ → List ℤ → Reason → Type 0
+Stands p s Nil = isNil p ≡ true
+Stands p s Suspended = suspended p s ≡ true
+Stands p s Spent = ⊥
+Stands p s Full = ⊥
+
 -- what is left of node k is what is left of its part in front
-abbrev pub Alone : List ℕ → ℕ → List ℕ → Front → Type 0
-Alone words k st f = (f ≡ frontOf words k (own st) (length st)) × ((itself < f .form) × (f .form < before))
+pub record Alone (words : List ℕ) (k : ℕ) (st : List ℕ) (f : Front) : Type 0 where
+  pub front : f ≡ inFront words k st
+  pub part : itself < f .form
+  pub alone : f .form < before
 
--- What comes next at node k: nothing, since it is nil or suspended; its own move; its part in front, which stands alone; or
--- that part in its frame, which may be one assignment or emission.
-pub data Follows (words : List ℕ) (k : ℕ) (st : List ℕ) (values : List ℤ) (why : ℕ) (f : Front) : Type 0 where
-  nothing : why ≡ isGone → isNil (left words k st) ≡ true → Follows words k st values why f
-  awaits : why ≡ isSuspended → suspended (left words k st) values ≡ true → Follows words k st values why f
-  itself :
-      why ≡ moving → f ≡ itselfOf k (length st) → frontOf words k (own st) (length st) .form ≡ itself →
-      Follows words k st values why f
-  stands : why ≡ inside → Alone words k st f → Follows words k st values why f
-  part :
-      into ≤ why → f ≡ frontOf words k (own st) (length st) → itself < f .form →
-      (f .form ≡ guarded → present values (aAt words k) ≡ true) →
-      (why ≡ moving → IsWriter (kindAt words (f .child)) × (own (partIn f st) ≡ 0)) →
-      Follows words k st values why f
+-- its part in front, which may be one assignment or emission; a when around it is open
+pub record Ahead (words : List ℕ) (k : ℕ) (st : List ℕ) (values : List ℤ) (f : Front) (moving : Bool) : Type 0 where
+  pub front : f ≡ inFront words k st
+  pub part : itself < f .form
+  pub shown : f .form ≡ guarded → present values (aAt words k) ≡ true
+  pub writer : moving ≡ true → IsWriter (kindAt words (f .child))
+  pub written : moving ≡ true → own (partIn f st) ≡ 0
 
--- nothing more is done
-abbrev pub doneAt : ℕ → ℕ → ℕ → Done
-doneAt why steps lines = record { why = why; at = record { steps = steps; lines = lines } }
+-- its own move, or its part in front
+pub data Leads (words : List ℕ) (k : ℕ) (st : List ℕ) (values : List ℤ) (f : Front) (moving : Bool) : Type 0 where
+  ownMove :
+      f ≡ itselfOf k (length st) → moving ≡ true → inFront words k st .form ≡ itself → Leads words k st values f moving
+  partAhead : Ahead words k st values f moving → Leads words k st values f moving
+
+-- what comes next at node k
+abbrev pub Follows : List ℕ → ℕ → List ℕ → List ℤ → Next → Type 0
+Follows words k st values (Rests why) = Stands (left words k st) values why
+Follows words k st values (Inside f) = Alone words k st f
+Follows words k st values (Part f moving) = Leads words k st values f moving
 
 -- the own byte of a node with a part in front that is neither alone, nor under a watching or a when
 abbrev pub Byte : ℕ → ℕ → Type 0
 Byte form tag = (form ≡ watched → ⊥) → (form ≡ guarded → ⊥) → tag ≤ 1
 
--- a node's own byte after a move around a part that rests
-abbrev pub byteAfter : ℕ → ℕ → ℕ → ℕ
-byteAfter form why tag =
-    cond
-    (eqb form watched || eqb form guarded)
-    4
-    (cond (eqb why isSuspended || eqb form before) (1 - tag) (3 - tag))
+-- a node's own byte when a nil part in front of it is dropped
+abbrev pub byteDropped : ℕ → ℕ → ℕ
+byteDropped form tag =
+    cond (eqb form watched || eqb form guarded) over (cond (eqb form before) (1 - tag) (3 - tag))
 
--- The part in front of node k is nil, or suspended; a when around it is open.
-pub record Rests (words : List ℕ) (k : ℕ) (st : List ℕ) (values : List ℤ) (f : Front) (why : ℕ) : Type 0 where
-  pub known : (why ≡ isGone) ⊎ (why ≡ isSuspended)
-  pub gone : why ≡ isGone → isNil (left words (f .child) (partIn f st)) ≡ true
-  pub waits : why ≡ isSuspended → suspended (left words (f .child) (partIn f st)) values ≡ true
-  pub part : itself < f .form
-  pub shown : f .form ≡ guarded → present values (aAt words k) ≡ true
-
--- A process whose part in front rests: it rests for that reason, or the limit is reached, or it has made a move.
-pub data Settles
-    (limit : ℕ) (p : Proc ℕ) (s : List ℤ) (p′ : Proc ℕ) (steps lines why : ℕ) (how steps′ lines′ : ℕ) : Type 0 where
-  restsOn :
-      how ≡ why → p′ ≡ p → steps′ ≡ steps → lines′ ≡ lines → (why ≡ isGone → isNil p ≡ true) →
-      (why ≡ isSuspended → suspended p s ≡ true) → Settles limit p s p′ steps lines why how steps′ lines′
-  atLimit :
-      how ≡ isSpent → p′ ≡ p → steps′ ≡ steps → lines′ ≡ lines → Live p s → steps ≡ limit →
-      Settles limit p s p′ steps lines why how steps′ lines′
-  makesMove :
-      how ≡ 0 → steps′ ≡ suc steps → lines′ ≡ lines → steps < limit → Silent p s p′ s →
-      Settles limit p s p′ steps lines why how steps′ lines′
-
--- what `leave` asks, and leaves
-pub record CanLeave
-    (words : List ℕ) (k : ℕ) (st : List ℕ) (values : List ℤ) (limit : ℕ) (at : Counts) (f : Front) (why : ℕ)
-    : Type 0 where
-  pub valued : Valued words values
-  pub node : At words k st
-  pub time : at .steps ≤ limit
+-- a move around a part
+pub record CanMoveAround (st : List ℕ) (limit : ℕ) : Type 0 where
+  pub some : 1 ≤ length st
   pub most : limit ≤ mostSteps
-  pub front : itself < f .form → f ≡ frontOf words k (own st) (length st)
-  pub rests : itself < f .form → Rests words k st values f why
+
+pub record MovesAround (st : List ℕ) (limit : ℕ) (at : Counts) (byte : ℕ) (st′ : List ℕ) (m : Moved) : Type 0 where
+  pub moved : m ≡ cond (leb limit (at .steps)) (moved.Rests Spent at) (moved.Again (afterMove at (at .lines)))
+  pub bytes : st′ ≡ cond (leb limit (at .steps)) st (set st 0 byte)
+
+-- a part makes no further move for this reason, as far as that is seen on it
+abbrev pub PartEnds : Proc ℕ → List ℤ → Reason → Type 0
+PartEnds p s Nil = isNil p ≡ true
+PartEnds p s Suspended = suspended p s ≡ true
+PartEnds p s Spent = Unit {0}
+PartEnds p s Full = Unit {0}
+
+-- the part in front of node k, which has this form, makes no further move for this reason
+pub record PartRests
+    (words : List ℕ) (k : ℕ) (st : List ℕ) (values : List ℤ) (limit form : ℕ) (why : Reason) (at : Counts)
+    : Type 0 where
+  pub time : at .steps ≤ limit
+  pub form-is : form ≡ inFront words k st .form
+  pub shown : form ≡ guarded → present values (aAt words k) ≡ true
+  pub ends : PartEnds (frontLeft words k st) values why
+
+abbrev pub PartCame : List ℕ → ℕ → List ℕ → List ℤ → ℕ → ℕ → Moved → Type 0
+PartCame words k st values limit form (moved.Again c) = Unit {0}
+PartCame words k st values limit form (moved.Rests why c) = PartRests words k st values limit form why c
+
+pub record CanLeave
+    (words : List ℕ) (k : ℕ) (st : List ℕ) (values : List ℤ) (limit form : ℕ) (part : Moved) : Type 0 where
+  pub node : NodeIn words k st values
+  pub most : limit ≤ mostSteps
+  pub came : before ≤ form → PartCame words k st values limit form part
+
+-- a process makes no further move for the reason of its part: a nil part is dropped
+abbrev pub EndsWith : Proc ℕ → List ℤ → Reason → Type 0
+EndsWith p s Nil = ⊥
+EndsWith p s Suspended = suspended p s ≡ true
+EndsWith p s Spent = Unit {0}
+EndsWith p s Full = Unit {0}
+
+-- A process whose part in front makes no further move: it rests for that reason, or the limit is reached, or it moves.
+pub data Settles (limit : ℕ) (p : Proc ℕ) (s : List ℤ) (p′ : Proc ℕ) (why : Reason) (at : Counts) (m : Moved) : Type 0 where
+  restsOn : m ≡ moved.Rests why at → p′ ≡ p → EndsWith p s why → Settles limit p s p′ why at m
+  atLimit : m ≡ moved.Rests Spent at → p′ ≡ p → Live p s → at .steps ≡ limit → Settles limit p s p′ why at m
+  makesMove :
+      m ≡ moved.Again (afterMove at (at .lines)) → at .steps < limit → Silent p s p′ s → Settles limit p s p′ why at m
+
+abbrev pub LeftBy : List ℕ → ℕ → List ℕ → List ℤ → ℕ → List ℕ → Moved → Moved → Type 0
+LeftBy words k st values limit st′ m (moved.Again c) = (m ≡ moved.Again c) × (st′ ≡ st)
+LeftBy words k st values limit st′ m (moved.Rests why c) =
+    Settles limit (left words k st) values (left words k st′) why c m
 
 pub record Leaves
-    (words : List ℕ) (k : ℕ) (st : List ℕ) (values : List ℤ) (limit : ℕ) (at : Counts) (f : Front) (why : ℕ)
-    (st′ : List ℕ) (r : Done) : Type 0 where
-  pub still : f .form ≤ itself → (r ≡ doneAt why (at .steps) (at .lines)) × (st′ ≡ st)
-  pub settles :
-      itself < f .form →
-      Settles limit (left words k st) values (left words k st′) (at .steps) (at .lines) why (r .why) (r .at .steps)
-      (r .at .lines)
+    (words : List ℕ) (k : ℕ) (st : List ℕ) (values : List ℤ) (limit form : ℕ) (part : Moved) (st′ : List ℕ) (m : Moved)
+    : Type 0 where
+  pub same : form < before → m ≡ part
+  pub still : form < before → st′ ≡ st
+  pub framed : before ≤ form → LeftBy words k st values limit st′ m part
 
--- one move of the part in front is asked for only where its own move is next
-pub record CanMoveFront
+-- one move of a part is asked for only where its own move is next
+pub record CanMovePart
     (words : List ℕ) (k : ℕ) (st : List ℕ) (values : List ℤ) (log : List ℕ) (limit : ℕ) (at : Counts) (moving : Bool)
     : Type 0 where
   pub can : CanMove words k st values log limit at
-  pub front : moving ≡ true → frontOf words k (own st) (length st) .form ≡ itself
+  pub form : moving ≡ true → inFront words k st .form ≡ itself
 
--- A turn of node k: its part stands alone in its place, and nothing is made; or moves are made.
+-- the part of node k stands alone in its place, and nothing is made
 pub record StandsAlone
-    (words : List ℕ) (k : ℕ) (st : List ℕ) (values : List ℤ) (log : List ℕ) (at : Counts) (st′ : List ℕ)
-    (values′ : List ℤ) (log′ : List ℕ) (r : Turned) : Type 0 where
-  pub alone : Alone words k st (r .front)
-  pub sameCounts : r .done .at ≡ at
+    (words : List ℕ) (k : ℕ) (st : List ℕ) (values : List ℤ) (log st′ : List ℕ) (values′ : List ℤ) (log′ : List ℕ)
+    (f : Front) : Type 0 where
+  pub alone : Alone words k st f
   pub sameValues : values′ ≡ values
   pub sameBytes : st′ ≡ st
   pub sameLog : log′ ≡ log
 
-pub record TurnMade
-    (words seen : List ℕ) (limits : Limits) (k : ℕ) (st : List ℕ) (values : List ℤ) (log : List ℕ) (at : Counts)
-    (st′ : List ℕ) (values′ : List ℤ) (log′ : List ℕ) (r : Turned) : Type 0 where
-  pub stands : r .done .why ≡ inside → StandsAlone words k st values log at st′ values′ log′ r
-  pub made :
-      (r .done .why ≡ inside → ⊥) →
-      Advances (seenIn seen) (limits .steps) (length log / 4) (nodeAt words k limits st values log at)
-      (nodeAt words k limits st′ values′ log′ (r .done .at)) (r .done .why)
+-- a turn of node k
+abbrev pub TurnMade :
+    List ℕ → ℕ → ℕ → List ℕ → List ℤ → List ℕ → Counts → List ℕ → List ℤ → List ℕ → Turned → Type 0
+TurnMade words limit k st values log at st′ values′ log′ (turn.Inside f) =
+    StandsAlone words k st values log st′ values′ log′ f
+TurnMade words limit k st values log at st′ values′ log′ (turn.Made m) =
+    Makes words limit k st values log at st′ values′ log′ m
+
+-- node k has made moves, as far as it goes
+abbrev pub Advances :
+    List ℕ → ℕ → ℕ → List ℕ → List ℤ → List ℕ → Counts → List ℕ → List ℤ → List ℕ → Rested → Type 0
+Advances words limit k st values log at st′ values′ log′ r =
+    Makes words limit k st values log at st′ values′ log′ (moved.Rests (r .why) (r .at))

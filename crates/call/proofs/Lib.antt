@@ -1,3 +1,3 @@
 -- Laws that the proofs of the functions use, and what a call of run that is not refused has.
-pub mod Seen
+pub mod Writes
 pub mod Passing

@@ -1,4 +1,4 @@
 -- Laws that the proofs of the functions use.
 pub mod Leaving
 pub mod Asking
-pub mod Naming
+pub mod Starting

@@ -5,21 +5,13 @@ use answers::Report;
 use answers::Verdict;
 use answers::refused;
 use answers::report_of;
+use book::Book;
 use layout::Script;
-use program::MAX_NAMES;
+use moves::counts::Counts;
 use runner::Ran;
-use runner::Tally;
 ghost use mathlib.Core.Path.{_≡_};
-ghost use Prim.Native.Nat.{_/_, _≤_};
-ghost use lib.ListN.{length};
-ghost use Rattle.layout.specs.Layout.{nameCount, Laid};
-ghost use Rattle.reach.specs.Checked.{Checked};
-ghost use Rattle.language.specs.Calls.{starts};
-ghost use Rattle.language.specs.Calls as calls;
-ghost use Rattle.tree.specs.Tree.{namesOf, tree};
-ghost use Rattle.moves.specs.Contracts.{mostSteps, seenIn};
 ghost use Rattle.engine.specs.Answers.{verdict, left};
-ghost use Rattle.engine.specs.Contracts.{Returns};
+ghost use Rattle.engine.specs.Contracts.{CanStart, runFor, Returns};
 
 // Checks a script under a book.
 pub fn check(book: &[u8], script: &[u8]) -> Verdict
@@ -34,29 +26,29 @@ pub fn check(book: &[u8], script: &[u8]) -> Verdict
     }
 }
 
-// Runs a script that no row of the table refuses, from its start; `seen` has 1 for each name that the reader sees. Owned
-// names are then 0.
-fn run_seen(
+// Runs a script that no row of the table refuses, from its start. Owned names are then 0.
+fn run_checked(
     s: &[u8],
     c: Script,
-    seen: [u8; MAX_NAMES],
+    b: Book,
+    reader: usize,
     values: &mut [i32],
     limit: u32,
     log: &mut [u32],
 ) -> Ran
-    requires { ⌜ Laid (now s) c × (Checked (now s) × ((length (now values) ≡ nameCount (now s)) × (limit ≤ mostSteps))) ⌝ }
-    ensures { λ r. ⌜ Returns (calls.run (namesOf (now (s .entry))) (seenIn seen) limit (length (now (log .entry)) / 4) (starts (tree (now (s .entry))) (now (values .entry)))) (now (log .entry)) r (now (values .exit)) (now (log .exit)) ⌝ }
+    requires { ⌜ CanStart (now s) c b reader (now values) limit ⌝ }
+    ensures { λ r. ⌜ Returns (runFor b (now (s .entry)) reader (now (values .entry)) limit (now (log .entry))) (now (log .entry)) r (now (values .exit)) (now (log .exit)) ⌝ }
 {
-    let program = plan::find_plan(s, c);
+    let program = plan::find_plan(s, c, b, reader);
     let mut state = [0u8; Script::MAX_NODES];
     let n = c.nodes;
-    let from = Tally {
+    let from = Counts {
         steps: 0,
         instants: 0,
         lines: 0,
     };
     let most = limit as usize;
-    let r = runner::run(&program, &seen, values, &mut state[0..n], log, most, from);
+    let r = runner::run(&program, values, &mut state[0..n], log, most, from);
     instants::clear_owned(&program, values);
     r
 }
@@ -83,8 +75,15 @@ pub fn run(
     if refusal.number != 0 {
         return refused(refusal);
     }
-    let seen = call::find_seen(script, p.script, p.book, reader as usize);
-    let r = run_seen(script, p.script, seen, values, limit, log);
-    let t = r.at;
-    report_of(r.ending, t.steps as u32, t.instants, t.lines)
+    let r = run_checked(
+        script,
+        p.script,
+        p.book,
+        reader as usize,
+        values,
+        limit,
+        log,
+    );
+    let at = r.at;
+    report_of(r.ending, at.steps as u32, at.instants as u32, at.lines)
 }

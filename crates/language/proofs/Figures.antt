@@ -1,5 +1,4 @@
 -- The functions of 01's 'Steps' make exactly the steps of the report's Figures 1 to 4.
--- Assumes nothing.
 use Prim.Native.Nat.{ℕ, suc}
 use mathlib.Core.Path.{_≡_, refl, ap, ap₂, sym, subst, _∙_}
 use mathlib.Core.Bool.{Bool, true, false, cond, not, _||_, or-true, Bool·not-not, true≢false, false≢true}
@@ -40,7 +39,7 @@ module _ {L : Type 0} where
   suspended-of {s} (WHEN-SUS₂ {a = a} d) = rw (suspended-of d) (or-true (not (present s a)))
   suspended-of (WATCH-SUS d) = suspended-of d
   suspended-of (SEQ-SUS d) = suspended-of d
-  suspended-of (PAR-SUS d d′) = rw (suspended-of d, suspended-of d′)
+  suspended-of (PAR-SUS d d′) = rw (suspended-of d, suspended-of d′) refl
 
   pub suspended-is : (p : Proc L) (s : List ℤ) → suspended p s ≡ true → Suspended s p
   unfolding suspended
@@ -185,7 +184,7 @@ module _ {L : Type 0} where
   -- Figure 4
   changed-only : {s : List ℤ} {p p′ : Proc L} → Changed s p p′ → change p s ≡ p′
   unfolding change
-  changed-only (WATCH-PRESENT h) = rw h
+  changed-only (WATCH-PRESENT h) = rw h refl
   changed-only (WATCH-ABSENT {a = a} h d) = rw h (ap (watching a) (changed-only d))
   changed-only (WHEN-PRESENT {a = a} h d) = rw h (ap (when a) (changed-only d))
   changed-only (WHEN-ABSENT h) = rw h

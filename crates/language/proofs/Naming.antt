@@ -1,100 +1,127 @@
--- A run asks of names alone whether those that have a value are signals, and the session's.
--- Assumes nothing.
-use mathlib.Core.Path.{_≡_, refl, ap, ap₂, _∙_}
+-- A run asks only about names that have a value: which are signals, which the session's, and of those that the script
+-- writes, which are seen.
+use mathlib.Core.Path.{_≡_, refl, ap, _∙_}
 use mathlib.Core.Bool.{Bool, cond}
-use mathlib.Core.Option.{Option, none, some}
-use mathlib.Core.List.{List, []}
+use mathlib.Core.List.{List, [], _∷_}
 use Prim.Native.Nat.{ℕ, zero, suc, _<_}
 use native.Mathlib.Omega.{arith}
-use lib.IntN.{ℤ, pos}
+use lib.IntN.{ℤ}
 use lib.ListN.{length, length-set}
 use Rattle.prelude.proofs.Bools.{by-cases}
-use Rattle.prelude.proofs.Tables.{table-same, length-table}
+use Rattle.prelude.proofs.Tables.{table-same}
 use Rattle.language.specs.Syntax.{Names, Proc, nil, assign, letIn, ifThenElse, while, sequence, emit, local, watching, when, parallel, isNil}
-use Rattle.language.specs.Steps.{held, Outcome, leaves, suspended, change, move, instantStart, step}
-use Rattle.language.specs.Calls.{Line, Ending, finished, spent, logFull, System, Run, calledFor, givenBack, output, next, stops, withLine, logged, run}
+use Rattle.language.specs.Steps.{Output, silent, assigned, emitted, Outcome, leaves, suspended, change, move, instantStart, step}
+use Rattle.language.specs.Calls.{System, Stop, calledFor, givenBack, returned, output, next, behind, reach, run}
+use Rattle.language.proofs.Stores.{instant-length}
+use Rattle.language.proofs.Safe.{Uses, step-uses}
+use Rattle.language.proofs.Stopping.{both-stay, both-go}
 
--- a move keeps the number of values
-move-length : {L : Type 0} (p : Proc L) (s : List ℤ) → length (move p s .values) ≡ length s
-unfolding move
-move-length nil s = refl
-move-length (assign x e) s = length-set s x _
-move-length (letIn x δ e p) s = length-set s x _
-move-length (ifThenElse e p q) s = refl
-move-length (while e p) s = refl
-move-length {L} (sequence p q) s =
-    by-cases (λ (r : Outcome L). length (r .values) ≡ length s) (isNil p) (λ _. refl) (λ _. move-length p s)
-move-length (emit a) s = length-set s a _
-move-length (local a δ p) s = length-set s a _
-move-length {L} (watching a p) s =
-    by-cases (λ (r : Outcome L). length (r .values) ≡ length s) (isNil p) (λ _. refl) (λ _. move-length p s)
-move-length {L} (when a p) s =
-    by-cases (λ (r : Outcome L). length (r .values) ≡ length s) (isNil p) (λ _. refl) (λ _. move-length p s)
-move-length {L} (parallel p q) s =
-    by-cases (λ (r : Outcome L). length (r .values) ≡ length s) (isNil p) (λ _. refl)
-    (λ _.
-    by-cases (λ (r : Outcome L). length (r .values) ≡ length s) (suspended p s) (λ _. refl) (λ _. move-length p s))
+-- P of every name that is assigned or emitted
+abbrev pub WritesOnly : {L : Type 0} → (ℕ → Type 0) → Proc L → Type 0
+WritesOnly P = Uses (λ x. Unit {0}) P (λ x. Unit {0})
 
-logged-alike :
-    (room : ℕ) (c c′ : Option Line) (go go′ : ℕ → Run) (full full′ : Run) → c ≡ c′ → ((left : ℕ) → go left ≡ go′ left) →
-    full ≡ full′ → logged c room go full ≡ logged c′ room go′ full′
-unfolding logged
-logged-alike room none c′ go go′ full full′ e f g = f room ∙ ap (λ z. logged z room go′ full′) e
-logged-alike zero (some l) c′ go go′ full full′ e f g = g ∙ ap (λ z. logged z zero go′ full′) e
-logged-alike (suc room) (some l) c′ go go′ full full′ e f g =
-    ap (withLine l) (f room) ∙ ap (λ z. logged z (suc room) go′ full′) e
+-- P of the name that an output shows
+abbrev Shows : (ℕ → Type 0) → Output → Type 0
+Shows P silent = Unit {0}
+Shows P (assigned x v) = P x
+Shows P (emitted a) = P a
 
-module _ {L : Type 0} (names names′ : Names L) (seen : ℕ → Bool) (n : ℕ)
+module _ {L : Type 0} (P : ℕ → Type 0) where
+  -- an outcome with n values that shows only such names
+  abbrev Keeps : ℕ → Outcome L → Type 0
+  Keeps n r = (length (r .values) ≡ n) × Shows P (r .output)
+
+  move-keeps : (p : Proc L) (s : List ℤ) → WritesOnly P p → Keeps (length s) (move p s)
+  unfolding move
+  move-keeps nil s h = (refl, tt)
+  move-keeps (assign x e) s h = (length-set s x _, h)
+  move-keeps (letIn x δ e p) s h = (length-set s x _, tt)
+  move-keeps (ifThenElse e p q) s h = (refl, tt)
+  move-keeps (while e p) s h = (refl, tt)
+  move-keeps (sequence p q) s h = by-cases (Keeps (length s)) (isNil p) (λ _. (refl, tt)) (λ _. move-keeps p s (h .0))
+  move-keeps (emit a) s h = (length-set s a _, h)
+  move-keeps (local a δ p) s h = (length-set s a _, tt)
+  move-keeps (watching a p) s h = by-cases (Keeps (length s)) (isNil p) (λ _. (refl, tt)) (λ _. move-keeps p s (h .1))
+  move-keeps (when a p) s h = by-cases (Keeps (length s)) (isNil p) (λ _. (refl, tt)) (λ _. move-keeps p s (h .1))
+  move-keeps (parallel p q) s h =
+      by-cases (Keeps (length s)) (isNil p) (λ _. (refl, tt))
+      (λ _. by-cases (Keeps (length s)) (suspended p s) (λ _. (refl, tt)) (λ _. move-keeps p s (h .0)))
+
+  step-keeps : (names : Names L) (p : Proc L) (s : List ℤ) → WritesOnly P p → Keeps (length s) (step names p s)
+  unfolding step
+  step-keeps names p s h =
+      by-cases (Keeps (length s)) (suspended p s) (λ _. (instant-length names s, tt)) (λ _. move-keeps p s h)
+
+-- Names and readers that agree on the first n names.
+module _ {L : Type 0} (names names′ : Names L) (seen seen′ : ℕ → Bool) (n : ℕ)
     (signals : (x : ℕ) → x < n → names .isSignal x ≡ names′ .isSignal x)
-    (sessions : (x : ℕ) → x < n → names .isSession x ≡ names′ .isSession x) where
-  begins-same : (s : List ℤ) → length s ≡ n → instantStart names s ≡ instantStart names′ s
-  unfolding instantStart
-  begins-same s e =
-      table-same _ _ (length s) (λ x l. ap (λ b. cond b (pos 0) (held s x)) (signals x (omega (arith, e, l))))
-
+    (sessions : (x : ℕ) → x < n → names .isSession x ≡ names′ .isSession x)
+    (sights : (x : ℕ) → x < n → seen x ≡ seen′ x) where
   back-same : (s : List ℤ) → length s ≡ n → givenBack names s ≡ givenBack names′ s
   unfolding givenBack
-  back-same s e =
-      table-same _ _ (length s) (λ x l. ap (λ b. cond b (held s x) (pos 0)) (sessions x (omega (arith, e, l))))
+  back-same s e = table-same _ _ (length s) (λ x l. rw (sessions x (omega (arith, e, l))))
 
   step-same : (p : Proc L) (s : List ℤ) → length s ≡ n → step names p s ≡ step names′ p s
-  unfolding step
-  step-same p s e = ap (λ z. cond (suspended p s) (leaves (change p s) z) (move p s)) (begins-same s e)
-
-  step-length : (p : Proc L) (s : List ℤ) → length s ≡ n → length (step names p s .values) ≡ n
   unfolding step instantStart
-  step-length p s e =
-      by-cases (λ (r : Outcome L). length (r .values) ≡ n) (suspended p s) (λ _. length-table _ (length s) ∙ e)
-      (λ _. move-length p s ∙ e)
+  step-same p s e =
+      ap (λ z. cond (suspended p s) (leaves (change p s) z) (move p s))
+      (table-same _ _ (length s) (λ x l. rw (signals x (omega (arith, e, l)))))
 
-  module _ (at : System L) (e : length (at .values) ≡ n) where
-    stops-same : (how : Ending) → stops names how at ≡ stops names′ how at
-    stops-same how =
-        ap (λ v. record { ending = how; steps = at .steps; instants = at .instants; lines = []; values = v })
-        (back-same (at .values) e)
+  called-same : (at : System L) (o : Output) → Shows (λ x. x < n) o → calledFor seen at o ≡ calledFor seen′ at o
+  unfolding calledFor
+  called-same at silent h = refl
+  called-same at (assigned x v) h = rw (sights x h)
+  called-same at (emitted a) h = rw (sights a h)
 
-    called-same : calledFor seen at (output names at) ≡ calledFor seen at (output names′ at)
-    called-same = ap (λ (r : Outcome L). calledFor seen at (r .output)) (step-same (at .process) (at .values) e)
+  -- the same stop, with n values
+  record Same (r r′ : Stop L) : Type 0 where
+    same : r ≡ r′
+    long : length (r .at .values) ≡ n
 
-    next-same : next names at ≡ next names′ at
-    next-same =
-        ap
-        (λ (r : Outcome L).
-        record {
-          process = r .process;
-          values = r .values;
-          steps = suc (at .steps);
-          instants = cond (suspended (at .process) (at .values)) (suc (at .instants)) (at .instants);
-        })
-        (step-same (at .process) (at .values) e)
-
-  pub run-alike : (k room : ℕ) (at : System L) → length (at .values) ≡ n → run names seen k room at ≡ run names′ seen k room at
-  unfolding run
-  run-alike zero room at e = ap₂ (cond (isNil (at .process))) (stops-same at e finished) (stops-same at e spent)
-  run-alike (suc k) room at e =
-      ap₂ (cond (isNil (at .process))) (stops-same at e finished)
-      (logged-alike room _ _ _ _ _ _ (called-same at e)
+  runs-same :
+      (k room : ℕ) (at : System L) → length (at .values) ≡ n → WritesOnly (λ x. x < n) (at .process) →
+      Same (reach names seen k room at) (reach names′ seen′ k room at)
+  runs-same zero room at e w =
+      both-stay names names′ seen seen′ Same at at refl (λ _. record { same = refl; long = e }) room
+  runs-same (suc k) room at e w =
+      let h = step-keeps (λ x. x < n) names (at .process) (at .values) w in
+      let q = step-same (at .process) (at .values) e in
+      both-go names names′ seen seen′ Same at at refl (λ _. record { same = refl; long = e })
+      (called-same at (output names at) (h .1) ∙ ap (λ (r : Outcome L). calledFor seen′ at (r .output)) q)
+      (λ l r r′ _ u. record { same = ap (behind (l ∷ [])) (u .same); long = u .long })
+      k k room
       (λ left.
-      run-alike k left (next names at) (step-length (at .process) (at .values) e)
-      ∙ ap (run names′ seen k left) (next-same at e))
-      (stops-same at e logFull))
+      let u = runs-same k left (next names at) (h .0 ∙ e) (step-uses _ _ _ names (at .process) (at .values) w) in
+      record {
+        same =
+            u .same
+            ∙ ap
+            (λ (r : Outcome L).
+            reach names′ seen′ k left
+            (record {
+              process = r .process;
+              values = r .values;
+              steps = suc (at .steps);
+              instants = cond (suspended (at .process) (at .values)) (suc (at .instants)) (at .instants);
+            }))
+            q;
+        long = u .long;
+      })
+
+  -- a run asks only about these names
+  module _ (k room : ℕ) (at : System L) (e : length (at .values) ≡ n) (w : WritesOnly (λ x. x < n) (at .process)) where
+    pub reach-alike : reach names seen k room at ≡ reach names′ seen′ k room at
+    reach-alike = runs-same k room at e w .same
+
+    pub run-alike : run names seen k room at ≡ run names′ seen′ k room at
+    run-alike =
+        let r = reach names seen k room at in
+        (λ i.
+        record {
+          ending = r .ending;
+          steps = r .at .steps;
+          instants = r .at .instants;
+          lines = r .lines;
+          values = back-same (r .at .values) (runs-same k room at e w .long) i;
+        })
+        ∙ ap (returned names′) reach-alike

@@ -1,73 +1,83 @@
--- A run returns from where it stops; and it goes on from wherever a shorter run stopped.
--- Assumes nothing.
+-- Where runs stop: a law for two runs side by side; and, from the path that a run makes, that it has no more lines than
+-- steps, that it goes on from wherever a shorter run stopped, and that one step is a run of one step.
 use Prim.Native.Nat.{ℕ, zero, suc, _+_, _-_, _≤_}
-use native.Mathlib.Nat.{sub-zero}
 use native.Mathlib.Omega.{arith}
-use mathlib.Core.Path.{_≡_, refl, ap, sym, _∙_}
-use mathlib.Core.Bool.{Bool, true, false, cond}
+use mathlib.Core.Path.{_≡_, refl, ap₂, sym, _∙_}
+use mathlib.Core.Bool.{Bool, false}
 use mathlib.Core.Option.{Option, none, some}
-use mathlib.Core.List.{List, [], _∷_}
-use lib.ListN.{length}
-use Rattle.prelude.proofs.Bools.{by-cases}
+use mathlib.Core.List.{List, [], _∷_, _++_, append-nil, Option·toList}
+use lib.ListN.{length, length-append}
+use Rattle.prelude.proofs.Bools.{by-cases, by-both}
 use Rattle.language.specs.Syntax.{Names, isNil}
-use Rattle.language.specs.Calls.{Line, finished, logFull, System, Run, calledFor, output, next, withLine, logged, run}
-use Rattle.language.specs.Stops.{Stop, halts, behind, noted, reach, onward, returned}
+use Rattle.language.specs.Calls.{Line, Ending, finished, spent, logFull, System, Stop, calledFor, output, next, halts, behind, noted, reach}
+use Rattle.language.specs.Paths.{Path, here, more, Ends, NIL-REACHED, LIMIT-REACHED}
+use Rattle.language.specs.Results.{onward, stepped}
+use Rattle.language.proofs.Figures.{step-is}
+use Rattle.language.proofs.Executions.{reach-is, reach-follows, reach-only, path-steps}
 
--- two choices by one test
-by-one :
-    {A B : Type 0} (R : A → B → Type 0) (b : Bool) {x y : A} {x′ y′ : B} → (b ≡ true → R x x′) → (b ≡ false → R y y′) →
-    R (cond b x y) (cond b x′ y′)
-by-one R true f g = f refl
-by-one R false f g = g refl
+-- Two runs side by side, and a relation that holds wherever both halt: it holds where no step is left (`both-stay`); it
+-- holds before a step of each with the same line, if it holds after it and a line before both keeps it (`both-go`).
+module _ {L : Type 0} (names names′ : Names L) (seen seen′ : ℕ → Bool) (R : Stop L → Stop L → Type 0)
+    (at at′ : System L) (nils : isNil (at .process) ≡ isNil (at′ .process))
+    (halt : (e : Ending) → R (halts e at) (halts e at′)) where
+  pub both-stay : (room : ℕ) → R (reach names seen 0 room at) (reach names′ seen′ 0 room at′)
+  unfolding reach
+  both-stay room = by-both R _ _ nils (λ _. halt finished) (λ _. halt spent)
+
+  both-note :
+      (c c′ : Option Line) (room : ℕ) (go go′ : ℕ → Stop L) → c ≡ c′ →
+      ((l : Line) (r r′ : Stop L) → c ≡ some l → R r r′ → R (behind (l ∷ []) r) (behind (l ∷ []) r′)) →
+      ((left : ℕ) → R (go left) (go′ left)) →
+      R (noted c room go (halts logFull at)) (noted c′ room go′ (halts logFull at′))
+  unfolding noted
+  both-note none c′ room go go′ e f g = rw (← e) (g room)
+  both-note (some l) c′ zero go go′ e f g = rw (← e) (halt logFull)
+  both-note (some l) c′ (suc room) go go′ e f g = rw (← e) (f l (go room) (go′ room) refl (g room))
+
+  pub both-go :
+      calledFor seen at (output names at) ≡ calledFor seen′ at′ (output names′ at′) →
+      ((l : Line) (r r′ : Stop L) → calledFor seen at (output names at) ≡ some l →
+      R r r′ → R (behind (l ∷ []) r) (behind (l ∷ []) r′)) →
+      (n m room : ℕ) →
+      ((left : ℕ) → R (reach names seen n left (next names at)) (reach names′ seen′ m left (next names′ at′))) →
+      R (reach names seen (suc n) room at) (reach names′ seen′ (suc m) room at′)
+  unfolding reach
+  both-go e f n m room g = by-both R _ _ nils (λ _. halt finished) (λ _. both-note _ _ room _ _ e f g)
+
+at-most-one : (c : Option Line) → length (Option·toList c) ≤ 1
+unfolding Option·toList
+at-most-one none = omega arith
+at-most-one (some l) = omega arith
 
 module _ {L : Type 0} (names : Names L) (seen : ℕ → Bool) where
-  logged-returns :
-      (c : Option Line) (room : ℕ) (go : ℕ → Run) (go′ : ℕ → Stop L) (full : Run) (full′ : Stop L) →
-      ((left : ℕ) → go left ≡ returned names (go′ left)) → full ≡ returned names full′ →
-      logged c room go full ≡ returned names (noted c room go′ full′)
-  unfolding logged noted
-  logged-returns none room go go′ full full′ f e = f room
-  logged-returns (some l) zero go go′ full full′ f e = e
-  logged-returns (some l) (suc room) go go′ full full′ f e = ap (withLine l) (f room)
+  path-few : {n : ℕ} {at end : System L} {ls : List Line} → Path names seen n at ls end → length ls ≤ n
+  path-few here = omega arith
+  path-few (more {at = at} {o = o} {ls = ls} d p) =
+      rw length-append (omega (arith, path-few p, at-most-one (calledFor seen at o)))
 
-  pub run-returns : (n room : ℕ) (at : System L) → run names seen n room at ≡ returned names (reach names seen n room at)
-  unfolding run reach
-  run-returns zero room at =
-      by-one (λ (r : Run) (s : Stop L). r ≡ returned names s) (isNil (at .process)) (λ _. refl) (λ _. refl)
-  run-returns (suc n) room at =
-      by-one (λ (r : Run) (s : Stop L). r ≡ returned names s) (isNil (at .process)) (λ _. refl)
-      (λ _. logged-returns _ room _ _ _ _ (λ left. run-returns n left (next names at)) refl)
-
-  module _ (limit : ℕ) (at : System L) where
-    -- a run that stops here goes on from here
-    from-here : (room : ℕ) → reach names seen (limit - at .steps) room at ≡ onward names seen limit room (halts finished at)
-    from-here room = rw (sub-zero room)
-
-    -- one step, and its line if it calls for one
-    one-on :
-        (c : Option Line) (room k : ℕ) (go : ℕ → Stop L) → calledFor seen at (output names at) ≡ c →
-        isNil (at .process) ≡ false → limit - at .steps ≡ suc k →
-        ((left : ℕ) → reach names seen k left (next names at) ≡ onward names seen limit left (go left)) →
-        reach names seen (limit - at .steps) room at ≡ onward names seen limit room (noted c room go (halts logFull at))
-    unfolding reach noted
-    one-on none room k go c h e f = rw (e, h, c) (f room)
-    one-on (some l) zero k go c h e f = from-here zero
-    one-on (some l) (suc room) k go c h e f =
-        let r = go room in
-        let d : suc room - suc (length (r .lines)) ≡ room - length (r .lines) = omega arith in
-        rw (e, h, c, d) (ap (behind (l ∷ [])) (f room))
+  -- no more lines than steps
+  pub run-few : (n room : ℕ) (at : System L) → length (reach names seen n room at .lines) ≤ n
+  run-few n room at = let h = reach-is names seen n room at in omega (arith, path-few (h .path), h .inLimit)
 
   -- A run under a limit on all steps goes on from wherever a run of n of them stopped, however it stopped.
   pub reach-onward :
       (n limit room : ℕ) (at : System L) → at .steps + n ≤ limit →
       reach names seen (limit - at .steps) room at ≡ onward names seen limit room (reach names seen n room at)
-  unfolding reach
-  reach-onward zero limit room at h =
-      by-cases (λ (r : Stop L). reach names seen (limit - at .steps) room at ≡ onward names seen limit room r)
-      (isNil (at .process)) (λ _. from-here limit at room) (λ _. from-here limit at room)
-  reach-onward (suc n) limit room at h =
-      by-cases (λ (r : Stop L). reach names seen (limit - at .steps) room at ≡ onward names seen limit room r)
-      (isNil (at .process)) (λ _. from-here limit at room)
-      (λ z.
-      one-on limit at _ room (limit - suc (at .steps)) _ refl z (omega (arith, h))
-      (λ left. reach-onward n limit left (next names at) (omega (arith, h))))
+  reach-onward n limit room at l =
+      let r = reach names seen n room at in
+      let h = reach-is names seen n room at in
+      let s = path-steps names seen (h .path) in
+      let a : limit - at .steps ≡ h .made + (limit - r .at .steps) = omega (arith, h .inLimit, s) in
+      let b : room ≡ length (r .lines) + (room - length (r .lines)) = omega (arith, h .inRoom) in
+      ap₂ (λ k j. reach names seen k j at) a b ∙ reach-follows names seen (h .path) _ _
+
+  -- One step is a run of one step.
+  pub reach-once :
+      (room : ℕ) (at : System L) → isNil (at .process) ≡ false → length (stepped names seen at .lines) ≤ room →
+      reach names seen 1 room at ≡ stepped names seen at
+  reach-once room at h l =
+      let ls = stepped names seen at .lines in
+      let p : Path names seen 1 at (ls ++ []) (next names at) = more (step-is names at h) here in
+      sym
+      (reach-only names seen (rw append-nil at p) 1 room _ (omega arith) l
+      (by-cases (λ e. Ends names seen 1 room (next names at) e 1 (length ls)) _ NIL-REACHED LIMIT-REACHED))

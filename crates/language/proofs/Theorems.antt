@@ -1,7 +1,6 @@
 -- The results of specs/Results.antt.
--- Assumes nothing.
 use Prim.Native.Nat.{ℕ}
-use native.Mathlib.Nat.{zero-add, le-refl}
+use native.Mathlib.Nat.{zero-add}
 use mathlib.Core.Path.{_≡_, refl, sym, ap, _∙_}
 use mathlib.Core.Bool.{Bool, true, false}
 use mathlib.Core.List.{List}
@@ -11,17 +10,17 @@ use Rattle.language.specs.Syntax.{Names, Proc}
 use Rattle.language.specs.Scope.{Scoped}
 use Rattle.language.specs.Levels.{writeLevel, testLevel, needs}
 use Rattle.language.specs.Steps.{held}
-use Rattle.language.specs.Calls.{System, starts, readable, run}
+use Rattle.language.specs.Calls.{System, starts, readable, reach}
 use Rattle.language.specs.Typing.{environment, Below, Typed}
-use Rattle.language.specs.Results.{upTo, StepsAgree, RunsAgree, RunsJoin, LevelsAgree, StartsAgree, NonInterference}
+use Rattle.language.specs.Results.{StepsAgree, RunsAgree, RunsJoin, LevelsAgree, StartsAgree, NonInterference}
 use Rattle.language.proofs.Needs.{Needs, needs-hold, hold-needs}
 use Rattle.language.proofs.Typing.{derives, derived, environment-covers, environment-agrees}
 use Rattle.language.proofs.Figures.{step-is, step-only, nil-rests}
 use Rattle.language.proofs.Executions.{run-is, run-only}
-use Rattle.language.proofs.Stopping.{run-returns, reach-onward}
-use Rattle.language.proofs.Safe.{Safe}
+use Rattle.language.proofs.Stopping.{reach-onward, reach-once}
+use Rattle.language.proofs.Stores.{given-back-session}
 use Rattle.language.proofs.Lockstep.{Twins}
-use Rattle.language.proofs.Noninterference.{Agree, agree}
+use Rattle.language.proofs.Noninterference.{Same, agree, prefix}
 use Rattle.language.proofs.Flows.{safe-of}
 
 pub steps-agree : {L : Type 0} (names : Names L) (at : System L) → StepsAgree names at
@@ -40,10 +39,7 @@ runs-agree names seen n room at = record { path = run-is names seen n room at; o
 pub runs-join :
     {L : Type 0} (names : Names L) (seen : ℕ → Bool) (n room : ℕ) (at : System L) → RunsJoin names seen n room at
 runs-join names seen n room at =
-    record {
-      returns = run-returns names seen n room at;
-      joins = λ limit h. reach-onward names seen n limit room at h;
-    }
+    record { joins = λ limit. reach-onward names seen n limit room at; once = reach-once names seen room at }
 
 module _
     {L : Type 0} (𝓛 : Lattice L) (laws : Laws 𝓛) (names : Names L) (p : Proc L) (scope : ℕ → Bool)
@@ -92,35 +88,20 @@ module _
     pub noninterference : needs 𝓛 names p ≡ true → (reader : L) → NonInterference 𝓛 names reader p
     noninterference h reader s t q room n m l =
         record {
-          shorter = both .lines;
-          equal = λ e. both .lines ∙ ap (λ j. upTo j (run names low m room (starts p t) .lines)) e ∙ sym (alone .lines);
-          registers = λ e x w i u. both .registers e x (u, w, i);
+          shorter = both .lines ∙ prefix names low n m n room (starts p t) (zero-add n) l;
+          equal = λ e. both .lines ∙ ap (λ j. reach names low j room (starts p t) .lines) e;
+          registers =
+              λ e x w i u.
+              given-back-session names _ x w
+              ∙ both .registers x u w i
+              ∙ ap (λ j. held (reach names low j room (starts p t) .at .values) x) e
+              ∙ sym (given-back-session names _ x w);
         }
       where
         low : ℕ → Bool
         low = readable 𝓛 names reader
 
-        safe : Safe names low p
-        safe = safe-of 𝓛 laws names reader p (names .isSession) scoped (needs-hold 𝓛 names p h)
-
-        both : Agree names low n n m (run names low n room (starts p s)) (run names low m room (starts p t))
-        both = agree names low n m n room (starts p s) (starts p t) (zero-add n) l (starts-twins reader s t q) safe
-
-        self : StartsAgree 𝓛 names reader t t
-        self = record { lengths = refl; session = λ x w u. refl; owned = λ x w. (q .owned x w .1, q .owned x w .1) }
-
-        alone : Agree names low m m m (run names low m room (starts p t)) (run names low m room (starts p t))
-        alone =
-            agree
-            names
-            low
-            m
-            m
-            m
-            room
-            (starts p t)
-            (starts p t)
-            (zero-add m)
-            (le-refl m)
-            (starts-twins reader t t self)
-            safe
+        both : Same names low (reach names low n room (starts p s)) (reach names low n room (starts p t))
+        both =
+            agree names low n room (starts p s) (starts p t) (starts-twins reader s t q)
+            (safe-of 𝓛 laws names reader p (names .isSession) scoped (needs-hold 𝓛 names p h))

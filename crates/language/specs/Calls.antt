@@ -2,7 +2,7 @@
 use Prim.Native.Nat.{ℕ, zero, suc}
 use mathlib.Core.Bool.{Bool, cond}
 use mathlib.Core.Option.{Option, none, some}
-use mathlib.Core.List.{List, [], _∷_}
+use mathlib.Core.List.{List, [], _∷_, _++_}
 use lib.IntN.{ℤ, pos}
 use lib.ListN.{length}
 use Rattle.prelude.specs.Table.{table}
@@ -35,6 +35,12 @@ pub record Run : Type 0 where
   pub lines : List Line
   pub values : List ℤ
 
+-- where a run stops: how it ends, what the script has come to, and the lines up to there
+pub record Stop (L : Type 0) : Type 0 where
+  pub ending : Ending
+  pub at : System L
+  pub lines : List Line
+
 abbrev pub starts : {L : Type 0} → Proc L → List ℤ → System L
 starts p s = record { process = p; values = s; steps = 0; instants = 0 }
 
@@ -55,10 +61,7 @@ module _ {L : Type 0} (seen : ℕ → Bool) (at : System L) where
   calledFor (emitted a) = lineFor a (pos 1)
 
 module _ {L : Type 0} (names : Names L) where
-  -- 'Values then hold the state after the counted steps, owned names 0.'
-  unfoldable pub givenBack : List ℤ → List ℤ
-  givenBack s = table (λ x. cond (names .isSession x) (held s x) (pos 0)) (length s)
-
+  -- what a step shows, and the system after it
   abbrev pub output : System L → Output
   output at = step names (at .process) (at .values) .output
 
@@ -71,27 +74,48 @@ module _ {L : Type 0} (names : Names L) where
         instants = cond (suspended (at .process) (at .values)) (suc (at .instants)) (at .instants);
       }
 
-  abbrev pub stops : Ending → System L → Run
-  stops how at =
-      record { ending = how; steps = at .steps; instants = at .instants; lines = []; values = givenBack (at .values) }
+  -- 'Values then hold the state after the counted steps, owned names 0.'
+  unfoldable pub givenBack : List ℤ → List ℤ
+  givenBack s = table (λ x. cond (names .isSession x) (held s x) (pos 0)) (length s)
 
-abbrev pub withLine : Line → Run → Run
-withLine l r =
-    record { ending = r .ending; steps = r .steps; instants = r .instants; lines = l ∷ r .lines; values = r .values }
+  -- what a run returns that stops there
+  abbrev pub returned : Stop L → Run
+  returned r =
+      record {
+        ending = r .ending;
+        steps = r .at .steps;
+        instants = r .at .instants;
+        lines = r .lines;
+        values = givenBack (r .at .values);
+      }
 
--- A step that calls for this line, with room for so many: `go` on with the room that is left, or stop as `full`.
-unfoldable pub logged : Option Line → ℕ → (ℕ → Run) → Run → Run
-logged none room go full = go room
-logged (some l) zero go full = full
-logged (some l) (suc room) go full = withLine l (go room)
+module _ {L : Type 0} where
+  -- a run that stops before its first step
+  abbrev pub halts : Ending → System L → Stop L
+  halts how at = record { ending = how; at = at; lines = [] }
+
+  -- these lines first
+  abbrev pub behind : List Line → Stop L → Stop L
+  behind ls r = record { ending = r .ending; at = r .at; lines = ls ++ r .lines }
+
+  -- A step that calls for this line, with room for so many: `go` on with the room that is left, or stop as `full`.
+  unfoldable pub noted : Option Line → ℕ → (ℕ → Stop L) → Stop L → Stop L
+  noted none room go full = go room
+  noted (some l) zero go full = full
+  noted (some l) (suc room) go full = behind (l ∷ []) (go room)
 
 module _ {L : Type 0} (names : Names L) (seen : ℕ → Bool) where
-  -- At most n steps more, with room for so many lines. 'Before each step: 0 finished if the script is nil; else 1 spent
-  -- if the limit is reached; else 2 log full if this step needs a line and no four words are left.'
-  unfoldable pub run : ℕ → ℕ → System L → Run
-  run zero room at = cond (isNil (at .process)) (stops names finished at) (stops names spent at)
-  run (suc n) room at =
+  -- Where a run of at most n steps more stops, with room for so many lines. 'Before each step: 0 finished if the script
+  -- is nil; else 1 spent if the limit is reached; else 2 log full if this step needs a line and no four words are
+  -- left.'
+  unfoldable pub reach : ℕ → ℕ → System L → Stop L
+  reach zero room at = cond (isNil (at .process)) (halts finished at) (halts spent at)
+  reach (suc n) room at =
       cond
       (isNil (at .process))
-      (stops names finished at)
-      (logged (calledFor seen at (output names at)) room (λ left. run n left (next names at)) (stops names logFull at))
+      (halts finished at)
+      (noted (calledFor seen at (output names at)) room (λ left. reach n left (next names at)) (halts logFull at))
+
+  -- what that run returns
+  abbrev pub run : ℕ → ℕ → System L → Run
+  run n room at = returned names (reach n room at)

@@ -6,7 +6,6 @@ pub mod Scope
 pub mod Levels
 pub mod Steps
 pub mod Calls
-pub mod Stops
 pub mod Suspension
 pub mod Moves
 pub mod Instants

@@ -3,7 +3,7 @@ use Prim.Native.Nat.{ℕ, _+_, _-_, _≤_}
 use mathlib.Core.Path.{_≡_}
 use mathlib.Core.Bool.{Bool, true, false, cond}
 use mathlib.Core.Logic.{_↔_}
-use mathlib.Core.List.{List, [], _∷_}
+use mathlib.Core.List.{List, [], _∷_, Option·toList}
 use lib.Dec.{leb}
 use lib.IntN.{ℤ, pos}
 use lib.ListN.{length}
@@ -11,8 +11,7 @@ use Rattle.lattice.specs.Lattice.{Lattice}
 use Rattle.language.specs.Syntax.{Names, Proc, isNil}
 use Rattle.language.specs.Levels.{writeLevel, testLevel, needs}
 use Rattle.language.specs.Steps.{held, Output}
-use Rattle.language.specs.Calls.{Line, System, Run, starts, readable, output, next, run}
-use Rattle.language.specs.Stops.{reach, onward, returned}
+use Rattle.language.specs.Calls.{Line, finished, spent, System, Run, Stop, starts, readable, calledFor, output, next, behind, reach, run}
 use Rattle.language.specs.Instants.{Step}
 use Rattle.language.specs.Typing.{Environment, Below, Typed}
 use Rattle.language.specs.Paths.{IsRun}
@@ -28,13 +27,29 @@ pub record RunsAgree {L : Type 0} (names : Names L) (seen : ℕ → Bool) (n roo
   pub path : IsRun names seen n room at (run names seen n room at)
   pub only : (r : Run) → IsRun names seen n room at r → r ≡ run names seen n room at
 
--- A run returns from where it stops; and under a limit on all steps it goes on from wherever a run of n of them stopped,
--- however that ended.
+module _ {L : Type 0} (names : Names L) (seen : ℕ → Bool) where
+  -- a run that stopped goes on, under a limit on all steps, with what it left of this room
+  abbrev pub onward : ℕ → ℕ → Stop L → Stop L
+  onward limit room r = behind (r .lines) (reach names seen (limit - r .at .steps) (room - length (r .lines)) (r .at))
+
+  -- where one step leads, with the line that it calls for, if any
+  abbrev pub stepped : System L → Stop L
+  stepped at =
+      record {
+        ending = cond (isNil (next names at .process)) finished spent;
+        at = next names at;
+        lines = Option·toList (calledFor seen at (output names at));
+      }
+
+-- Under a limit on all steps a run goes on from wherever a run of n of them stopped, however that ended.
 pub record RunsJoin {L : Type 0} (names : Names L) (seen : ℕ → Bool) (n room : ℕ) (at : System L) : Type 0 where
-  pub returns : run names seen n room at ≡ returned names (reach names seen n room at)
   pub joins :
       (limit : ℕ) → at .steps + n ≤ limit →
       reach names seen (limit - at .steps) room at ≡ onward names seen limit room (reach names seen n room at)
+  -- One step is a run of one step, if the script is not nil and there is room for the line that the step calls for.
+  pub once :
+      isNil (at .process) ≡ false → length (stepped names seen at .lines) ≤ room →
+      reach names seen 1 room at ≡ stepped names seen at
 
 -- Demand 2, the checker: the needs hold exactly when the rules give some pair; then (W, T) is one, and the tightest.
 pub record LevelsAgree {L : Type 0} (𝓛 : Lattice L) (names : Names L) (Γ : Environment L) (p : Proc L) : Type 0 where

@@ -1,130 +1,126 @@
 -- Moves that a node has made, from one system to another.
--- Assumes nothing.
 use mathlib.Core.Path.{_≡_, refl, sym, ap, _∙_, subst}
 use mathlib.Core.Bool.{Bool, true, false}
 use mathlib.Core.Option.{Option, none, some}
 use mathlib.Core.List.{List}
-use Prim.Native.Nat.{ℕ, suc, _≤_, _<_}
-use native.Mathlib.Nat.{le-refl, le-of-lt}
+use Prim.Native.Nat.{ℕ, suc, _/_, _≤_, _<_}
+use native.Mathlib.Nat.{le-refl}
 use native.Mathlib.Omega.{arith}
 use lib.IntN.{ℤ}
-use lib.ListN.{set}
+use lib.ListN.{length, set}
 use borrow.Author.Tests.{ltb-true}
 use Rattle.language.specs.Syntax.{Proc, nil, isNil}
 use Rattle.language.specs.Calls.{Line, lineFor}
-use Rattle.moves.specs.Moves.{Running, system, logAfter, linesAfter, hasRoom, moved, Silent, isGone, isFull, Path, stays, moves, Ends, gone, full}
-use Rattle.moves.specs.Contracts.{Writes, Advances}
-use Rattle.moves.proofs.Framing.{silently, silent-move}
+use Rattle.moves.specs.declared.counts.Counts.{Counts}
+use Rattle.moves.specs.declared.counts.Reason.the-variants.{Nil}
+use Rattle.moves.specs.declared.counts.Moved.{Moved}
+use Rattle.moves.specs.declared.counts.Moved.the-variants.{Again, Rests}
+use Rattle.moves.specs.Moves.{Running, system, logAfter, linesAfter, hasRoom, nextLine, moved, Silent, Path, stays, moves, Goes, Stops, Comes, IsFull}
+use Rattle.moves.specs.Contracts.{Counted, Writes, runningWith}
+use Rattle.moves.proofs.Framing.{joined, silently, silent-move}
 
 lines-fit : (room : ℕ) (l : Option Line) (n : ℕ) → n ≤ room → hasRoom room l n ≡ true → linesAfter l n ≤ room
 lines-fit room none n h e = h
 lines-fit room (some l) n h e = ltb-true n room e
 
+-- what moves do to the counts
 module _ {seen : ℕ → Bool} {limit room : ℕ} where
-  -- no move is made
-  pub ended :
-      {at : Running ℕ} {why : ℕ} → at .steps ≤ limit → at .lines ≤ room → (why ≡ 0 → ⊥) → Ends seen limit room at why →
-      Advances seen limit room at at why
-  ended {at} t l n e =
-      record {
-        path = stays;
-        later = le-refl (at .steps);
-        time = t;
-        space = l;
-        again = λ z. absurd (n z);
-        ends = λ _. e;
-      }
+  pub path-later : {at to : Running ℕ} → Path seen limit room at to → at .steps ≤ to .steps
+  unfolding moved
+  path-later {at} stays = le-refl (at .steps)
+  path-later (moves r p) = omega (arith, path-later p)
 
-  -- one move that writes no line
-  pub again :
-      (at : Running ℕ) {p : Proc ℕ} {s : List ℤ} → at .steps < limit → at .lines ≤ room →
-      Silent (at .process) (at .values) p s → Advances seen limit room at (silently p s at) 0
-  again at t l m =
-      record {
-        path = silent-move refl m t;
-        later = omega arith;
-        time = t;
-        space = l;
-        again = λ _. omega arith;
-        ends = λ n. absurd (n refl);
-      }
+  pub path-time : {at to : Running ℕ} → Path seen limit room at to → at .steps ≤ limit → to .steps ≤ limit
+  unfolding moved
+  path-time stays h = h
+  path-time (moves r p) h = path-time p (r .time)
 
-  -- an assignment or an emission
-  module _ (at : Running ℕ) {x : ℕ} {v : ℤ} (w : Writes (at .process) (at .values) x v) (t : at .steps < limit)
-      (l : at .lines ≤ room) where
-    -- its line has no room
-    pub no-room : hasRoom room (lineFor seen (system at) x v) (at .lines) ≡ false → Advances seen limit room at at isFull
-    no-room e =
-        ended (le-of-lt t) l (λ z. absurd (omega (arith, z)))
-        (full refl (w .live) t (ap (λ z. hasRoom room z (at .lines)) (w .line seen (system at)) ∙ e))
+  path-space : {at to : Running ℕ} → Path seen limit room at to → at .lines ≤ room → to .lines ≤ room
+  unfolding moved
+  path-space stays h = h
+  path-space {at} (moves r p) h = path-space p (lines-fit room (nextLine seen at) (at .lines) h (r .space))
 
-    -- its line is written
-    module _ (e : hasRoom room (lineFor seen (system at) x v) (at .lines) ≡ true) where
-      written-line :
-          Advances seen limit room at
-          (record {
-            process = nil;
-            values = set (at .values) x v;
-            log = logAfter (lineFor seen (system at) x v) (at .lines) (at .log);
-            steps = suc (at .steps);
-            instants = at .instants;
-            lines = linesAfter (lineFor seen (system at) x v) (at .lines);
-          })
-          isGone
-      unfolding moved isNil
-      written-line =
-          record {
-            path =
-                subst (Path seen limit room at) (rw (w .process, w .values, w .line seen (system at)))
-                (moves
-                (record {
-                  live = w .live;
-                  time = t;
-                  space = ap (λ z. hasRoom room z (at .lines)) (w .line seen (system at)) ∙ e;
-                })
-                stays);
-            later = omega arith;
-            time = t;
-            space = lines-fit room (lineFor seen (system at) x v) (at .lines) l e;
-            again = λ z. absurd (omega (arith, z));
-            ends = λ _. gone refl refl;
-          }
+  path-instants : {at to : Running ℕ} → Path seen limit room at to → to .instants ≡ at .instants
+  unfolding moved
+  path-instants stays = refl
+  path-instants (moves r p) = path-instants p
 
-      pub writes-line :
-          {p : Proc ℕ} {log : List ℕ} {steps lines : ℕ} → p ≡ nil →
-          log ≡ logAfter (lineFor seen (system at) x v) (at .lines) (at .log) → steps ≡ suc (at .steps) →
-          lines ≡ linesAfter (lineFor seen (system at) x v) (at .lines) →
-          Advances seen limit room at
-          (record {
-            process = p;
-            values = set (at .values) x v;
-            log = log;
-            steps = steps;
-            instants = at .instants;
-            lines = lines;
-          })
-          isGone
-      writes-line a b c d =
-          subst
-          (λ (to : Running ℕ). Advances seen limit room at to isGone)
-          (λ i.
-          record {
-            process = sym a i;
-            values = set (at .values) x v;
-            log = sym b i;
-            steps = sym c i;
-            instants = at .instants;
-            lines = sym d i;
-          })
-          written-line
-
-abbrev pub logged : Running ℕ → List ℕ → Running ℕ
-logged at log =
+-- what is counted stays within the limits
+pub counted-on :
+    {seen : ℕ → Bool} {limit : ℕ} {p p′ : Proc ℕ} {vs vs′ : List ℤ} {log log′ : List ℕ} {c d : Counts} →
+    Path seen limit (length log / 4) (runningWith p vs log c) (runningWith p′ vs′ log′ d) → Counted limit log c →
+    length log′ ≡ length log → Counted limit log′ d
+counted-on path c l =
     record {
-      process = at .process;
-      values = at .values;
-      log = log;
-      steps = at .steps;
-      instants = at .instants;
-      lines = at .lines;
+      time = path-time path (c .time);
+      most = c .most;
+      instants = omega (arith, path-instants path, c .instants, path-later path);
+      space = omega (arith, path-space path (omega (arith, c .space)), l);
     }
+
+module _ {seen : ℕ → Bool} {limit room : ℕ} where
+  -- moves, and then what comes of them
+  pub comes-on :
+      {at mid : Running ℕ} (to : Counts → Running ℕ) (m : Moved) → Path seen limit room at mid →
+      Comes seen limit room mid to m → Comes seen limit room at to m
+  comes-on to (Again c) p g = record { path = joined p (g .path); some = omega (arith, path-later p, g .some) }
+  comes-on to (Rests why c) p g = record { path = joined p (g .path); ends = g .ends }
+
+  -- one move that calls for no line
+  pub goes-silently :
+      (at : Running ℕ) {p : Proc ℕ} {s : List ℤ} → at .steps < limit → Silent (at .process) (at .values) p s →
+      Goes seen limit room at (silently p s at)
+  goes-silently at t m = record { path = silent-move refl m t; some = omega arith }
+
+-- an assignment or an emission
+module _ (seen : ℕ → Bool) (limit room : ℕ) (at : Running ℕ) {x : ℕ} {v : ℤ} (w : Writes (at .process) (at .values) x v) (t : at .steps < limit) where
+  abbrev line : Option Line
+  line = lineFor seen (system at) x v
+
+  same-room : {b : Bool} → hasRoom room line (at .lines) ≡ b → hasRoom room (nextLine seen at) (at .lines) ≡ b
+  same-room e = ap (λ z. hasRoom room z (at .lines)) (w .line seen (system at)) ∙ e
+
+  -- its line has no room
+  pub stops-full : hasRoom room line (at .lines) ≡ false → IsFull seen limit room at
+  stops-full e = record { live = w .live; time = t; space = same-room e }
+
+  -- its line is written
+  module _ (e : hasRoom room line (at .lines) ≡ true) where
+    written-path :
+        Path seen limit room at
+        (record {
+          process = nil;
+          values = set (at .values) x v;
+          log = logAfter line (at .lines) (at .log);
+          steps = suc (at .steps);
+          instants = at .instants;
+          lines = linesAfter line (at .lines);
+        })
+    unfolding moved
+    written-path =
+        subst (Path seen limit room at) (rw (w .process, w .values, w .line seen (system at)))
+        (moves (record { live = w .live; time = t; space = same-room e }) stays)
+
+    pub stops-written :
+        {p : Proc ℕ} {vs : List ℤ} {log : List ℕ} {c : Counts} → p ≡ nil → vs ≡ set (at .values) x v →
+        log ≡ logAfter line (at .lines) (at .log) →
+        c ≡ record { steps = suc (at .steps); instants = at .instants; lines = linesAfter line (at .lines) } →
+        Stops seen limit room at
+        (record { process = p; values = vs; log = log; steps = c .steps; instants = c .instants; lines = c .lines }) Nil
+    unfolding isNil
+    stops-written {p} {vs} {log} {c} a b l d =
+        record {
+          path =
+              subst (Path seen limit room at)
+              (λ i.
+              record {
+                process = sym a i;
+                values = sym b i;
+                log = sym l i;
+                steps = sym d i .steps;
+                instants = sym d i .instants;
+                lines = sym d i .lines;
+              })
+              written-path;
+          ends = ap isNil a;
+        }

@@ -1,9 +1,8 @@
 -- A part in front moves as it would alone, and the frame around it stays as it is, and open.
--- Assumes nothing.
 use mathlib.Core.Path.{_≡_, refl, sym, _∙_, subst}
 use mathlib.Core.Bool.{Bool, true, false, not, _&&_, true≢false, false≢true}
 use mathlib.Core.List.{List}
-use Prim.Native.Nat.{ℕ, suc, _≤_, _<_}
+use Prim.Native.Nat.{ℕ, suc, _<_}
 use native.Mathlib.Decide.{decLt, ℕ-discrete}
 use native.Mathlib.Omega.{arith}
 use lib.Dec.{eqb}
@@ -17,7 +16,7 @@ use Rattle.language.specs.Steps.{present, test, value, Outcome, inside, suspend
 use Rattle.language.specs.Calls.{calledFor}
 use Rattle.language.specs.Shapes.{leavesAlone}
 use Rattle.residual.specs.Frames.{Frame, alone, beforeThe, watchedBy, guardedBy, besideThe, around, Open}
-use Rattle.moves.specs.Moves.{Running, withProcess, nextLine, hasRoom, moved, Live, Silent, isSpent, Path, stays, moves, Ends, gone, waits, spent, full}
+use Rattle.moves.specs.Moves.{Running, withProcess, nextLine, hasRoom, moved, Live, Silent, Path, stays, moves, IsSpent, IsFull}
 
 parts : (b c : Bool) → (b && c) ≡ true → (b ≡ true) × (c ≡ true)
 parts b c h = (and-left b c h, and-right b c h)
@@ -40,22 +39,22 @@ present-emitted s x a h =
     ]
 
 module _ {L : Type 0} where
-  pub nil-awake : (p : Proc L) (s : List ℤ) → isNil p ≡ true → suspended p s ≡ false
+  pub nil-runs : (p : Proc L) (s : List ℤ) → isNil p ≡ true → suspended p s ≡ false
   unfolding isNil suspended
-  nil-awake nil s h = refl
-  nil-awake (assign x e) s h = refl
-  nil-awake (letIn x δ e p) s h = refl
-  nil-awake (ifThenElse e p q) s h = refl
-  nil-awake (while e p) s h = refl
-  nil-awake (sequence p q) s h = absurd (false≢true h)
-  nil-awake (emit a) s h = refl
-  nil-awake (local a δ p) s h = refl
-  nil-awake (watching a p) s h = absurd (false≢true h)
-  nil-awake (when a p) s h = absurd (false≢true h)
-  nil-awake (parallel p q) s h = absurd (false≢true h)
+  nil-runs nil s h = refl
+  nil-runs (assign x e) s h = refl
+  nil-runs (letIn x δ e p) s h = refl
+  nil-runs (ifThenElse e p q) s h = refl
+  nil-runs (while e p) s h = refl
+  nil-runs (sequence p q) s h = absurd (false≢true h)
+  nil-runs (emit a) s h = refl
+  nil-runs (local a δ p) s h = refl
+  nil-runs (watching a p) s h = absurd (false≢true h)
+  nil-runs (when a p) s h = absurd (false≢true h)
+  nil-runs (parallel p q) s h = absurd (false≢true h)
 
   pub waits-some : (p : Proc L) (s : List ℤ) → suspended p s ≡ true → isNil p ≡ false
-  waits-some p s h = fails (isNil p) (λ e. true≢false (sym h ∙ nil-awake p s e))
+  waits-some p s h = fails (isNil p) (λ e. true≢false (sym h ∙ nil-runs p s e))
 
   -- signal a stays present
   abbrev Spares : ℕ → Proc L → Type 0
@@ -108,10 +107,10 @@ module _ {L : Type 0} where
   pub live-around : (F : Frame L) {p : Proc L} {s : List ℤ} → Live p s → Open F p s → Live (around F p) s
   unfolding isNil suspended
   live-around alone l o = l
-  live-around (beforeThe q) l o = record { some = refl; awake = l .awake }
-  live-around (watchedBy a) l o = record { some = refl; awake = l .awake }
-  live-around (guardedBy a) l o = record { some = refl; awake = rw (o .0) (l .awake) }
-  live-around (besideThe q) l o = record { some = refl; awake = rw (l .awake) }
+  live-around (beforeThe q) l o = record { some = refl; moving = l .moving }
+  live-around (watchedBy a) l o = record { some = refl; moving = l .moving }
+  live-around (guardedBy a) l o = record { some = refl; moving = rw (o .0) (l .moving) }
+  live-around (besideThe q) l o = record { some = refl; moving = rw (l .moving) }
 
   pub move-around :
       (F : Frame L) {p : Proc L} {s : List ℤ} → Live p s → move (around F p) s ≡ inside (around F) (move p s)
@@ -120,30 +119,30 @@ module _ {L : Type 0} where
   move-around (beforeThe q) l = rw (l .some)
   move-around (watchedBy a) l = rw (l .some)
   move-around (guardedBy a) l = rw (l .some)
-  move-around (besideThe q) l = rw (l .some, l .awake)
+  move-around (besideThe q) l = rw (l .some, l .moving)
 
   module _ {p : Proc L} (s : List ℤ) (h : isNil p ≡ true) where
     pub drop-before : (q : Proc L) → Silent (sequence p q) s q s
     unfolding isNil suspended move
-    drop-before q = (record { some = refl; awake = nil-awake p s h }, rw h)
+    drop-before q = (record { some = refl; moving = nil-runs p s h }, rw h)
 
     pub drop-watched : (a : ℕ) → Silent (watching a p) s nil s
     unfolding isNil suspended move
-    drop-watched a = (record { some = refl; awake = nil-awake p s h }, rw h)
+    drop-watched a = (record { some = refl; moving = nil-runs p s h }, rw h)
 
     pub drop-guarded : (a : ℕ) → present s a ≡ true → Silent (when a p) s nil s
     unfolding isNil suspended move
-    drop-guarded a o = (record { some = refl; awake = rw o (nil-awake p s h) }, rw h)
+    drop-guarded a o = (record { some = refl; moving = rw o (nil-runs p s h) }, rw h)
 
     pub drop-beside : (q : Proc L) → Silent (parallel p q) s q s
     unfolding isNil suspended move
-    drop-beside q = (record { some = refl; awake = rw (nil-awake p s h) }, rw h)
+    drop-beside q = (record { some = refl; moving = rw (nil-runs p s h) }, rw h)
 
   pub trade :
       (p q : Proc L) (s : List ℤ) → suspended p s ≡ true → suspended q s ≡ false →
       Silent (parallel p q) s (parallel q p) s
   unfolding isNil suspended move
-  trade p q s h k = (record { some = refl; awake = rw (h, k) }, rw (waits-some p s h, h))
+  trade p q s h k = (record { some = refl; moving = rw (h, k) }, rw (waits-some p s h, h))
 
 -- where `at` runs the part in front: the same with the process around it
 abbrev pub framed : {L : Type 0} → Frame L → Running L → Running L
@@ -190,13 +189,17 @@ module _ {L : Type 0} {seen : ℕ → Bool} {limit room : ℕ} where
       (sym (moved-around seen F at (r .live)))
       (lift F (open-moves F (at .process) (at .values) o) p))
 
-  pub ends-around :
-      (F : Frame L) {at : Running L} {why : ℕ} → Open F (at .process) (at .values) → Ends seen limit room at why →
-      isSpent ≤ why → Ends seen limit room (framed F at) why
-  ends-around F o (gone e n) h = absurd (omega arith)
-  ends-around F o (waits e w) h = absurd (omega arith)
-  ends-around F o (spent e l n) h = spent e (live-around F l o) n
-  ends-around F {at} o (full e l t n) h = full e (live-around F l o) t (rw (line-around seen F at l) n)
+  module _ (F : Frame L) {at : Running L} (o : Open F (at .process) (at .values)) where
+    pub spent-around : IsSpent seen limit room at → IsSpent seen limit room (framed F at)
+    spent-around e = record { live = live-around F (e .live) o; time = e .time }
+
+    pub full-around : IsFull seen limit room at → IsFull seen limit room (framed F at)
+    full-around e =
+        record {
+          live = live-around F (e .live) o;
+          time = e .time;
+          space = rw (line-around seen F at (e .live)) (e .space);
+        }
 
 -- after a silent move that leaves p and s
 abbrev pub silently : {L : Type 0} → Proc L → List ℤ → Running L → Running L

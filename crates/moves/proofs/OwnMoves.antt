@@ -1,5 +1,4 @@
 -- A node whose own move is next: what the move is, kind by kind, and what the bytes say after it.
--- Assumes nothing.
 use mathlib.Core.Path.{_≡_, refl, sym, ap, _∙_, subst}
 use mathlib.Core.Bool.{true, false, true≢false}
 use mathlib.Core.Logic.{inl, inr}
@@ -141,13 +140,13 @@ module _ (words : List ℕ) (ok : Runnable words) (k : ℕ) (h : k < nodeCount w
     live-of : MovesItself (kind words k) → NodeView words k → Live (left words k st) vs
     unfolding residual suspended isNil
     live-of m (aNil e q) = absurd (not-itself m e (inl refl))
-    live-of m (anAssign e q x y) = rw (q, z) (record { some = refl; awake = refl })
-    live-of m (aLet e q x y w) = rw (q, z) (record { some = refl; awake = refl })
-    live-of m (anIf e q x y w) = rw (q, z) (record { some = refl; awake = refl })
-    live-of m (aWhile e q x y) = rw (q, z) (record { some = refl; awake = refl })
+    live-of m (anAssign e q x y) = rw (q, z) (record { some = refl; moving = refl })
+    live-of m (aLet e q x y w) = rw (q, z) (record { some = refl; moving = refl })
+    live-of m (anIf e q x y w) = rw (q, z) (record { some = refl; moving = refl })
+    live-of m (aWhile e q x y) = rw (q, z) (record { some = refl; moving = refl })
     live-of m (aSequence e q x y) = absurd (not-itself m e (inr (inl refl)))
-    live-of m (anEmit e q x) = rw (q, z) (record { some = refl; awake = refl })
-    live-of m (aLocal e q x y) = rw (q, z) (record { some = refl; awake = refl })
+    live-of m (anEmit e q x) = rw (q, z) (record { some = refl; moving = refl })
+    live-of m (aLocal e q x y) = rw (q, z) (record { some = refl; moving = refl })
     live-of m (aWatching e q x y g) = absurd (not-itself m e (inr (inr (omega arith))))
     live-of m (aWhen e q x y l) = absurd (not-itself m e (inr (inr (omega arith))))
     live-of m (aParallel e q x y) = absurd (not-itself m e (inr (inr (omega arith))))
@@ -161,33 +160,33 @@ module _ (words : List ℕ) (ok : Runnable words) (k : ℕ) (h : k < nodeCount w
     unfolding residual suspended move isNil
     let-moves e =
         rw (known words ok k h e .0, z, own-set 1, first-set 1 (one words k))
-        (record { some = refl; awake = refl }, refl)
+        (record { some = refl; moving = refl }, refl)
 
     pub local-moves : kind words k ≡ 7 → Silent (left words k st) vs (left words k (set st 0 1)) (set vs (a words k) (pos 0))
     unfolding residual suspended move isNil
     local-moves e =
         rw (known words ok k h e .0, z, own-set 1, first-set 1 (one words k))
-        (record { some = refl; awake = refl }, refl)
+        (record { some = refl; moving = refl }, refl)
 
     pub then-moves :
         kind words k ≡ 3 → test (expressionOf words (a words k)) vs ≡ true → Silent (left words k st) vs (left words k (set st 0 1)) vs
     unfolding residual suspended move isNil
     then-moves e t =
         rw (known words ok k h e .0, z, own-set 1, first-set 1 (one words k), t)
-        (record { some = refl; awake = refl }, refl)
+        (record { some = refl; moving = refl }, refl)
 
     pub else-moves :
         kind words k ≡ 3 → test (expressionOf words (a words k)) vs ≡ false → Silent (left words k st) vs (left words k (set st 0 2)) vs
     unfolding residual suspended move isNil
     else-moves e t =
         rw (known words ok k h e .0, z, own-set 2, second-set 2 (one words k), t)
-        (record { some = refl; awake = refl }, refl)
+        (record { some = refl; moving = refl }, refl)
 
     pub done-moves :
         kind words k ≡ 4 → test (expressionOf words (a words k)) vs ≡ false → Silent (left words k st) vs (left words k (set st 0 4)) vs
     unfolding residual suspended move isNil
     done-moves e t =
-        rw (known words ok k h e .0, z, own-set 4, t) (record { some = refl; awake = refl }, refl)
+        rw (known words ok k h e .0, z, own-set 4, t) (record { some = refl; moving = refl }, refl)
 
     pub assign-writes :
         kind words k ≡ 1 → Writes (left words k st) vs (a words k) (value (expressionOf words (b words k)) vs)
@@ -195,7 +194,7 @@ module _ (words : List ℕ) (ok : Runnable words) (k : ℕ) (h : k < nodeCount w
     assign-writes e =
         rw (known words ok k h e .0, z)
         (record {
-          live = record { some = refl; awake = refl };
+          live = record { some = refl; moving = refl };
           process = refl;
           values = refl;
           line = λ seen at. refl;
@@ -206,7 +205,7 @@ module _ (words : List ℕ) (ok : Runnable words) (k : ℕ) (h : k < nodeCount w
     emit-writes e =
         rw (known words ok k h e .0, z)
         (record {
-          live = record { some = refl; awake = refl };
+          live = record { some = refl; moving = refl };
           process = refl;
           values = refl;
           line = λ seen at. refl;
@@ -249,4 +248,4 @@ module _ (words : List ℕ) (ok : Runnable words) (k : ℕ) (h : k < nodeCount w
       pub round-moves : test (expressionOf words (a words k)) vs ≡ true → Silent (left words k st) vs (left words k cleared) vs
       unfolding residual suspended move isNil
       round-moves t =
-          rw (known words ok k h e .0, z, own-cleared, t, fresh-body) (record { some = refl; awake = refl }, refl)
+          rw (known words ok k h e .0, z, own-cleared, t, fresh-body) (record { some = refl; moving = refl }, refl)

@@ -4,41 +4,51 @@ use mathlib.Core.Bool.{Bool, true, false, cond, _||_}
 use mathlib.Core.Logic.{_⊎_}
 use mathlib.Core.Option.{Option, none, some}
 use mathlib.Core.List.{List}
-use Prim.Native.Nat.{ℕ, suc, _*_, _/_, _≤_, _<_}
+use Prim.Native.Nat.{ℕ, suc, _+_, _*_, _/_, _≤_, _<_}
 use lib.Dec.{eqb}
 use lib.IntN.{ℤ}
-use lib.ListN.{getD, set, length}
+use lib.ListN.{set, length}
 use Rattle.language.specs.Syntax.{Proc, nil}
 use Rattle.language.specs.Steps.{move}
 use Rattle.language.specs.Calls.{Line, System, lineFor, calledFor}
-use Rattle.program.specs.Program.{mostNames, nodeCount, kindAt, aAt}
+use Rattle.program.specs.Program.{mostNames, nodeCount, kindAt, aAt, seenBy}
 use Rattle.program.specs.Forms.{itself, frontOf}
 use Rattle.residual.specs.Residual.{own}
 use Rattle.residual.specs.Nodes.{Valued, At, left}
 use Rattle.moves.specs.declared.log.Noted.{Noted}
-use Rattle.moves.specs.declared.Counts.{Counts}
-use Rattle.moves.specs.declared.Limits.{Limits}
-use Rattle.moves.specs.declared.Done.{Done}
-use Rattle.moves.specs.Moves.{Running, logAfter, linesAfter, hasRoom, Live, Path, Ends}
+use Rattle.moves.specs.declared.counts.Counts.{Counts}
+use Rattle.moves.specs.declared.counts.Moved.{Moved}
+use Rattle.moves.specs.Moves.{Running, logAfter, linesAfter, hasRoom, Live, Silent, Comes}
 
 -- 'a step limit to 1,000,000'
 abbrev pub mostSteps : ℕ
 mostSteps = 1000000
 
+-- what is counted after a move, with so many lines, and after n instant changes
+abbrev pub afterMove : Counts → ℕ → Counts
+afterMove at lines = record { steps = suc (at .steps); instants = at .instants; lines = lines }
+
+abbrev pub afterChanges : Counts → ℕ → Counts
+afterChanges at n = record { steps = at .steps + n; instants = at .instants + n; lines = at .lines }
+
 -- what has been counted is within the limits
-pub record Counted (limit : ℕ) (log : List ℕ) (steps lines : ℕ) : Type 0 where
-  pub time : steps ≤ limit
+pub record Counted (limit : ℕ) (log : List ℕ) (at : Counts) : Type 0 where
+  pub time : at .steps ≤ limit
   pub most : limit ≤ mostSteps
-  pub space : 4 * lines ≤ length log
+  pub instants : at .instants ≤ at .steps
+  pub space : 4 * at .lines ≤ length log
 
--- a table that has 1 for each name that the reader sees
-abbrev pub seenIn : List ℕ → ℕ → Bool
-seenIn seen x = eqb (getD seen x 0) 1
+-- the line of a step that gives x this value, if the reader sees x
+abbrev pub lineOf : List ℕ → Counts → ℕ → ℤ → Option Line
+lineOf words at x v =
+    cond (seenBy words x) (some (record { step = suc (at .steps); instant = at .instants; name = x; value = v })) none
 
--- the line of a step that gives x this value, if it is seen
-abbrev pub lineOf : List ℕ → ℕ → ℕ → ℕ → ℤ → Option Line
-lineOf seen steps instant x v =
-    cond (seenIn seen x) (some (record { step = suc steps; instant = instant; name = x; value = v })) none
+-- what is asked for a line
+pub record CanNote (log : List ℕ) (at : Counts) (x : ℕ) : Type 0 where
+  pub few : x < mostNames
+  pub time : at .steps < mostSteps
+  pub instants : at .instants ≤ at .steps
+  pub space : 4 * at .lines ≤ length log
 
 -- a line is written if there is room for it
 pub record Notes (room : ℕ) (l : Option Line) (n : ℕ) (log : List ℕ) (r : Noted) (after : List ℕ) : Type 0 where
@@ -47,19 +57,40 @@ pub record Notes (room : ℕ) (l : Option Line) (n : ℕ) (log : List ℕ) (r : 
   pub lines : r .fits ≡ true → r .lines ≡ linesAfter l n
   pub full : r .fits ≡ false → after ≡ log
 
--- What each function of the run asks: a program that can be run with its values, node k with its bytes, and counts within
+-- What a function of the run asks: a program that can be run with its values, node k with its bytes, and counts within
 -- the limits.
 pub record CanMove
     (words : List ℕ) (k : ℕ) (st : List ℕ) (values : List ℤ) (log : List ℕ) (limit : ℕ) (at : Counts) : Type 0 where
   pub valued : Valued words values
   pub node : At words k st
-  pub counted : Counted limit log (at .steps) (at .lines)
+  pub counted : Counted limit log at
 
 -- and its own move is next
-pub record CanMoveOwn
+pub record CanMoveItself
     (words : List ℕ) (k : ℕ) (st : List ℕ) (values : List ℤ) (log : List ℕ) (limit : ℕ) (at : Counts) : Type 0 where
   pub can : CanMove words k st values log limit at
-  pub front : frontOf words k (own st) (length st) .form ≡ itself
+  pub form : frontOf words k (own st) (length st) .form ≡ itself
+
+-- a process with the values, the log and what has been counted, as the definitions see it; node k with its bytes
+abbrev pub runningWith : Proc ℕ → List ℤ → List ℕ → Counts → Running ℕ
+runningWith p values log at =
+    record {
+      process = p;
+      values = values;
+      log = log;
+      steps = at .steps;
+      instants = at .instants;
+      lines = at .lines;
+    }
+
+abbrev pub nodeAt : List ℕ → ℕ → List ℕ → List ℤ → List ℕ → Counts → Running ℕ
+nodeAt words k st values log at = runningWith (left words k st) values log at
+
+-- What it leaves: node k has made moves, to these bytes, values and log.
+abbrev pub Makes :
+    List ℕ → ℕ → ℕ → List ℕ → List ℤ → List ℕ → Counts → List ℕ → List ℤ → List ℕ → Moved → Type 0
+Makes words limit k st values log at st′ values′ log′ m =
+    Comes (seenBy words) limit (length log / 4) (nodeAt words k st values log at) (nodeAt words k st′ values′ log′) m
 
 -- node k is of this kind, and as it is written
 pub record Unmoved (words : List ℕ) (k : ℕ) (st : List ℕ) (values : List ℤ) (n : ℕ) : Type 0 where
@@ -68,11 +99,15 @@ pub record Unmoved (words : List ℕ) (k : ℕ) (st : List ℕ) (values : List �
   pub kind : kindAt words k ≡ n
   pub clear : own st ≡ 0
 
--- let, if, while and local write no line
+-- its move calls for no line, and leaves these bytes and values
+abbrev pub MovesSilently : List ℕ → ℕ → List ℕ → List ℤ → List ℕ → List ℤ → Type 0
+MovesSilently words k st values st′ values′ = Silent (left words k st) values (left words k st′) values′
+
+-- let, if, while and local are such
 abbrev pub IsSilent : ℕ → Type 0
 IsSilent kind = (kind ≡ 2) ⊎ ((kind ≡ 3) ⊎ ((kind ≡ 4) ⊎ (kind ≡ 7)))
 
--- assignments and emissions write one
+-- assignments and emissions call for one
 abbrev pub isWriter : ℕ → Bool
 isWriter kind = eqb kind 1 || eqb kind 6
 
@@ -93,52 +128,7 @@ pub record WriterAt (words : List ℕ) (k : ℕ) (values : List ℤ) (n : ℕ) :
   pub kind : kindAt words k ≡ n
   pub writer : IsWriter n
 
--- node k is to give x this value, and there is a step left for it
-pub record CanWrite
-    (words : List ℕ) (k : ℕ) (st : List ℕ) (values : List ℤ) (log : List ℕ) (limit : ℕ) (at : Counts) (x : ℕ) (v : ℤ)
-    : Type 0 where
-  pub node : At words k st
-  pub writes : Writes (left words k st) values x v
-  pub counted : Counted limit log (at .steps) (at .lines)
-  pub time : at .steps < limit
-  pub named : x < length values
-  pub few : x < mostNames
-
 -- what node k, an assignment or an emission whose move is next, gives its name
 abbrev pub Written : List ℕ → ℕ → List ℤ → ℤ → Type 0
 Written words k values v =
     (st : List ℕ) → 1 ≤ length st → own st ≡ 0 → Writes (left words k st) values (aAt words k) v
-
--- node k, with its bytes, values and log, and what has been counted
-abbrev pub runningAt : List ℕ → ℕ → List ℕ → List ℤ → List ℕ → ℕ → ℕ → ℕ → Running ℕ
-runningAt words k st values log steps instant lines =
-    record {
-      process = left words k st;
-      values = values;
-      log = log;
-      steps = steps;
-      instants = instant;
-      lines = lines;
-    }
-
--- A node has made moves: why is 0 if it can go on, or else why there is no move.
-pub record Advances (seen : ℕ → Bool) (limit room : ℕ) (at to : Running ℕ) (why : ℕ) : Type 0 where
-  pub path : Path seen limit room at to
-  pub later : at .steps ≤ to .steps
-  pub time : to .steps ≤ limit
-  pub space : to .lines ≤ room
-  pub again : why ≡ 0 → at .steps < to .steps
-  pub ends : (why ≡ 0 → ⊥) → Ends seen limit room to why
-
--- node k with its bytes, the values, the log and the counts, as the definitions see it
-abbrev pub nodeAt : List ℕ → ℕ → Limits → List ℕ → List ℤ → List ℕ → Counts → Running ℕ
-nodeAt words k limits st values log at = runningAt words k st values log (at .steps) (limits .instant) (at .lines)
-
--- It has made moves, to the bytes, values, log and counts that it leaves; it makes no further one where `sure` holds.
-pub record Makes
-    (words seen : List ℕ) (limits : Limits) (k : ℕ) (st : List ℕ) (values : List ℤ) (log : List ℕ) (at : Counts)
-    (st′ : List ℕ) (values′ : List ℤ) (log′ : List ℕ) (r : Done) (sure : Type 0) : Type 0 where
-  pub made :
-      Advances (seenIn seen) (limits .steps) (length log / 4) (nodeAt words k limits st values log at)
-      (nodeAt words k limits st′ values′ log′ (r .at)) (r .why)
-  pub some : sure → 0 < r .why

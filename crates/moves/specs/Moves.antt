@@ -12,6 +12,11 @@ use mir.Val.{ofZ}
 use Rattle.language.specs.Syntax.{Names, Proc, isNil}
 use Rattle.language.specs.Steps.{leaves, suspended, move, change, instantStart}
 use Rattle.language.specs.Calls.{Line, System, calledFor}
+use Rattle.moves.specs.declared.counts.Counts.{Counts}
+use Rattle.moves.specs.declared.counts.Reason.{Reason}
+use Rattle.moves.specs.declared.counts.Reason.the-variants.{Nil, Suspended, Spent, Full}
+use Rattle.moves.specs.declared.counts.Moved.{Moved}
+use Rattle.moves.specs.declared.counts.Moved.the-variants.{Again, Rests}
 
 -- a script that runs, and its log: what is left of it, the values, the words of the log, and what has been counted
 pub record Running (L : Type 0) : Type 0 where
@@ -93,24 +98,11 @@ module _ {L : Type 0} (seen : ℕ → Bool) where
 -- neither nil nor suspended
 pub record Live {L : Type 0} (p : Proc L) (s : List ℤ) : Type 0 where
   pub some : isNil p ≡ false
-  pub awake : suspended p s ≡ false
+  pub moving : suspended p s ≡ false
 
 -- a move that writes nothing for a reader to see
 abbrev pub Silent : {L : Type 0} → Proc L → List ℤ → Proc L → List ℤ → Type 0
 Silent p s p′ s′ = Live p s × (move p s ≡ leaves p′ s′)
-
--- Why there is no move: it is nil, it is suspended, the limit is reached, or the line of the next move has no room.
-abbrev pub isGone : ℕ
-isGone = 1
-
-abbrev pub isSuspended : ℕ
-isSuspended = 2
-
-abbrev pub isSpent : ℕ
-isSpent = 3
-
-abbrev pub isFull : ℕ
-isFull = 4
 
 module _ {L : Type 0} (seen : ℕ → Bool) (limit room : ℕ) where
   -- 'Before each step: finished if the script is nil; else spent if the limit is reached; else log full if this step
@@ -125,11 +117,34 @@ module _ {L : Type 0} (seen : ℕ → Bool) (limit room : ℕ) where
     stays : {at : Running L} → Path at at
     moves : {at to : Running L} → Ready at → Path (moved seen at) to → Path at to
 
-  -- at stands where there is no move, for this reason
-  pub data Ends (at : Running L) (why : ℕ) : Type 0 where
-    gone : why ≡ isGone → isNil (at .process) ≡ true → Ends at why
-    waits : why ≡ isSuspended → suspended (at .process) (at .values) ≡ true → Ends at why
-    spent : why ≡ isSpent → Live (at .process) (at .values) → at .steps ≡ limit → Ends at why
-    full :
-        why ≡ isFull → Live (at .process) (at .values) → at .steps < limit →
-        hasRoom room (nextLine seen at) (at .lines) ≡ false → Ends at why
+  -- the limit is reached; the line of the next move has no room
+  pub record IsSpent (at : Running L) : Type 0 where
+    pub live : Live (at .process) (at .values)
+    pub time : at .steps ≡ limit
+
+  pub record IsFull (at : Running L) : Type 0 where
+    pub live : Live (at .process) (at .values)
+    pub time : at .steps < limit
+    pub space : hasRoom room (nextLine seen at) (at .lines) ≡ false
+
+  -- what each reason for which there is no further move says
+  abbrev pub Ends : Running L → Reason → Type 0
+  Ends at Nil = isNil (at .process) ≡ true
+  Ends at Suspended = suspended (at .process) (at .values) ≡ true
+  Ends at Spent = IsSpent at
+  Ends at Full = IsFull at
+
+  -- moves have been made, at least one
+  pub record Goes (at to : Running L) : Type 0 where
+    pub path : Path at to
+    pub some : at .steps < to .steps
+
+  -- moves have been made, as many as there are
+  pub record Stops (at to : Running L) (why : Reason) : Type 0 where
+    pub path : Path at to
+    pub ends : Ends to why
+
+  -- what has become of `at`, by what is counted then
+  abbrev pub Comes : Running L → (Counts → Running L) → Moved → Type 0
+  Comes at to (Again c) = Goes at (to c)
+  Comes at to (Rests why c) = Stops at (to c) why

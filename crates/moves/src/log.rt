@@ -1,11 +1,11 @@
 // The log: four words make a line.
-use program::MAX_NAMES;
+use crate::counts::Counts;
+use program::WORDS;
 ghost use mathlib.Core.Path.{_≡_};
-ghost use Prim.Native.Nat.{_*_, _/_, _+_, _≤_, _<_};
+ghost use Prim.Native.Nat.{_/_, _+_, _≤_};
 ghost use lib.ListN.{length};
-ghost use Rattle.program.specs.Program.{mostNames};
 ghost use Rattle.moves.specs.Moves.{putWords};
-ghost use Rattle.moves.specs.Contracts.{mostSteps, lineOf, Notes};
+ghost use Rattle.moves.specs.Contracts.{lineOf, CanNote, Notes};
 
 fn put_line(log: &mut [u32], at: usize, step: u32, instant: u32, name: u32, value: u32)
     requires { ⌜ at + 4 ≤ length (now log) ⌝ }
@@ -23,27 +23,21 @@ pub struct Noted {
     pub lines: usize,
 }
 
-// Writes the line that a step calls for which gives x this value, if a reader sees x and there is room.
-pub fn note(
-    seen: &[u8; MAX_NAMES],
-    log: &mut [u32],
-    steps: usize,
-    instant: u32,
-    lines: usize,
-    x: usize,
-    value: i32,
-) -> Noted
-    requires { ⌜ (x < mostNames) × ((steps < mostSteps) × (4 * lines ≤ length (now log))) ⌝ }
-    ensures { λ r. ⌜ Notes (length (now (log .entry)) / 4) (lineOf (now (seen .entry)) steps instant x value) lines (now (log .entry)) r (now (log .exit)) ⌝ }
+// Writes the line that a step calls for which gives x this value, if the reader sees x and there is room.
+pub fn note(program: &[usize; WORDS], log: &mut [u32], at: Counts, x: usize, value: i32) -> Noted
+    requires { ⌜ CanNote (now log) at x ⌝ }
+    ensures { λ r. ⌜ Notes (length (now (log .entry)) / 4) (lineOf (now (program .entry)) at x value) (at .lines) (now (log .entry)) r (now (log .exit)) ⌝ }
 {
-    if seen[x] != 1 {
+    let lines = at.lines;
+    if !program::is_seen(program, x) {
         return Noted { fits: true, lines };
     }
     if log.len() / 4 <= lines {
         return Noted { fits: false, lines };
     }
     let word = signed::word_of(value);
-    put_line(log, 4 * lines, (steps + 1) as u32, instant, x as u32, word);
+    let step = (at.steps + 1) as u32;
+    put_line(log, 4 * lines, step, at.instants as u32, x as u32, word);
     Noted {
         fits: true,
         lines: lines + 1,

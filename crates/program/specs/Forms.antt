@@ -41,6 +41,10 @@ beside = 7
 abbrev pub turned : ℕ
 turned = 8
 
+-- a node's own byte when it is over: past the forms of every kind, so that it is nil
+abbrev pub over : ℕ
+over = 4
+
 abbrev pub formRows : List (List ℕ)
 formRows =
     []

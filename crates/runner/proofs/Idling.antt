@@ -1,5 +1,4 @@
 -- Where no signal is present an instant change changes nothing: a suspended script stays as it is to the end.
--- Assumes nothing.
 use mathlib.Core.Path.{_≡_, refl, sym, ap, _∙_}
 use mathlib.Core.Bool.{Bool, true, false, cond, true≢false}
 use mathlib.Core.List.{List}

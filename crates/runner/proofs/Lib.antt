@@ -2,3 +2,4 @@
 pub mod Outcomes
 pub mod Idling
 pub mod Whole
+pub mod Theorems

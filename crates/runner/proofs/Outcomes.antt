@@ -1,6 +1,5 @@
 -- What comes of a script that runs: moves and instant changes keep it; what it is where the script stops; and the words
 -- of its log.
--- Assumes nothing.
 use mathlib.Core.Path.{_≡_, refl, sym, ap, ap₂, _∙_}
 use mathlib.Core.Bool.{Bool, true, false, cond, true≢false}
 use mathlib.Core.Option.{Option, none, some}
@@ -14,8 +13,7 @@ use lib.Seq.{sets, sets-eq}
 use borrow.Author.Tests.{ltb-true, ltb-false}
 use Rattle.language.specs.Syntax.{Names, Proc, isNil}
 use Rattle.language.specs.Steps.{Outcome as Left, leaves, suspended, move, change, instantStart, step}
-use Rattle.language.specs.Calls.{Line, Ending, finished, spent, logFull, calledFor}
-use Rattle.language.specs.Stops.{Stop, halts, noted, reach}
+use Rattle.language.specs.Calls.{Line, Ending, finished, spent, logFull, Stop, calledFor, halts, noted, reach}
 use Rattle.moves.specs.Moves.{Running, system, putLine, logAfter, linesAfter, hasRoom, nextLine, moved, changed, Live, Path, stays, moves}
 use Rattle.runner.specs.Outcome.{Outcome, written, words, recorded, outcome, stopped}
 use Rattle.moves.proofs.Framing.{waits-some}
@@ -124,7 +122,7 @@ module _ {L : Type 0} (names : Names L) (seen : ℕ → Bool) (limit room : ℕ)
 
     rest-moves : Live (at .process) (at .values) → rest ≡ goes (move (at .process) (at .values)) false
     rest-moves l =
-        rest-goes (l .some) ∙ ap₂ goes (step-moves names (at .process) (at .values) (l .awake)) (l .awake)
+        rest-goes (l .some) ∙ ap₂ goes (step-moves names (at .process) (at .values) (l .moving)) (l .moving)
 
     rest-changes :
         suspended (at .process) (at .values) ≡ true →
@@ -138,7 +136,7 @@ module _ {L : Type 0} (names : Names L) (seen : ℕ → Bool) (limit room : ℕ)
       out at ≡ stopped logFull at
   outcome-full l t f = stops-here logFull (rest-moves t l ∙ noted-full room (nextLine seen at) (at .lines) _ _ f)
 
-  outcome-move :
+  pub outcome-move :
       Live (at .process) (at .values) → at .steps < limit → hasRoom room (nextLine seen at) (at .lines) ≡ true →
       out (moved seen at) ≡ out at
   unfolding outcome moved

@@ -1,74 +1,93 @@
--- A whole run: where it comes to, from its start and from where it has come to.
--- Assumes nothing.
+-- A whole run: where it comes to, from where it began and from where it has come to.
 use mathlib.Core.Path.{_≡_, refl, sym, ap, _∙_, subst}
-use mathlib.Core.Bool.{Bool, true, false}
+use mathlib.Core.Bool.{true, false, false≢true}
 use mathlib.Core.List.{List}
-use Prim.Native.Nat.{ℕ, suc, _+_, _-_, _/_, _≤_, _<_}
-use native.Mathlib.Nat.{le-refl}
+use Prim.Native.Nat.{ℕ, _+_, _-_, _/_, _<_}
 use native.Mathlib.Omega.{arith}
 use lib.IntN.{ℤ}
 use lib.ListN.{length}
 use Rattle.language.specs.Steps.{suspended}
-use Rattle.language.specs.Calls.{Ending, finished, logFull}
-use Rattle.language.specs.Calls as calls
-use Rattle.program.specs.Program.{namesOf}
-use Rattle.moves.specs.Moves.{Running, isSuspended, changed, Ends, gone, waits, spent, full}
-use Rattle.moves.specs.Contracts.{Advances}
-use Rattle.moves.proofs.Framing.{waits-some}
+use Rattle.program.specs.Program.{namesOf, seenBy}
 use Rattle.instants.specs.Contracts.{someSignalPresent}
-use Rattle.advance.proofs.Turning.{ended-waits}
-use Rattle.runner.specs.declared.Tally.{Tally}
-use Rattle.runner.specs.declared.Rested.{Rested}
+use Rattle.moves.specs.declared.counts.Counts.{Counts}
+use Rattle.moves.specs.declared.counts.Reason.{Reason}
+use Rattle.moves.specs.declared.counts.Reason.the-variants.{Nil, Suspended, Spent, Full}
+use Rattle.moves.specs.declared.counts.Rested.{Rested}
+use Rattle.moves.specs.Moves.{Running, changed, Stops, Ends}
+use Rattle.moves.specs.Contracts.{afterChanges}
+use Rattle.moves.proofs.Framing.{waits-some}
+use Rattle.moves.proofs.Advancing.{counted-on}
 use Rattle.runner.specs.declared.Ran.{Ran}
-use Rattle.runner.specs.Outcome.{Outcome, outcome, stopped}
-use Rattle.runner.specs.Contracts.{root, scriptAt, CanRun, InstantMade, endingNumber, endingOf, Gives}
+use Rattle.runner.specs.Outcome.{Outcome, stopped}
+use Rattle.runner.specs.Contracts.{root, scriptAt, CanRun, InstantMade, endingBy, endingOf, isSuspended, endingNumber, outcomeOf, Runs}
 use Rattle.runner.proofs.Idling.{idle-stays, values-stay, outcome-idle}
 use Rattle.runner.proofs.Outcomes.{outcome-moves, outcome-finished, outcome-spent, outcome-full, outcome-changes}
 
-module _ (words : List ℕ) (seen : ℕ → Bool) (limit : ℕ) (begun : Running ℕ) where
-  abbrev comesTo : Running ℕ → Outcome ℕ
-  comesTo = outcome (namesOf words) seen limit (length (begun .log) / 4)
+-- a reason by name
+pub is-suspended : (why : Reason) → isSuspended why ≡ true → why ≡ Suspended
+is-suspended Nil e = absurd (false≢true e)
+is-suspended Suspended e = refl
+is-suspended Spent e = absurd (false≢true e)
+is-suspended Full e = absurd (false≢true e)
+
+module _ (words : List ℕ) (limit : ℕ) (begun : Running ℕ) where
+  abbrev room : ℕ
+  room = length (begun .log) / 4
 
   -- a run that has come to these bytes, values, log and counts comes to the same as from where it began
-  pub record Comes (st : List ℕ) (values : List ℤ) (log : List ℕ) (t : Tally) : Type 0 where
-    pub same : comesTo (scriptAt words st values log t) ≡ comesTo begun
-    pub can : CanRun words st values log limit t
+  pub record Comes (st : List ℕ) (values : List ℤ) (log : List ℕ) (at : Counts) : Type 0 where
+    pub same : outcomeOf words limit room (scriptAt words st values log at) ≡ outcomeOf words limit room begun
+    pub can : CanRun words st values log limit at
     pub logged : length log ≡ length (begun .log)
 
-  module _ {st : List ℕ} {values : List ℤ} {log : List ℕ} {t : Tally} (u : Comes st values log t) where
+  module _ {st : List ℕ} {values : List ℤ} {log : List ℕ} {at : Counts} (u : Comes st values log at) where
     -- after the moves of an instant
-    pub comes-on :
-        {st′ : List ℕ} {values′ : List ℤ} {log′ : List ℕ} {r : Rested} →
-        InstantMade words seen limit (scriptAt words st values log t) st′ values′ log′ r → length log′ ≡ length log →
-        Comes st′ values′ log′ (r .at)
-    comes-on {st′} {values′} {log′} {r} i l =
-        let a =
-        subst
-        (λ n. Advances seen limit (n / 4) (scriptAt words st values log t) (scriptAt words st′ values′ log′ (r .at)) (r .why))
-        (u .logged) (i .made) in
-        record { same = outcome-moves (namesOf words) (a .path) ∙ u .same; can = i .again; logged = l ∙ u .logged }
+    module _ (st′ : List ℕ) (values′ : List ℤ) (log′ : List ℕ) (r : Rested)
+        (i : InstantMade words limit st values log at st′ values′ log′ r) where
+      here : Stops (seenBy words) limit room (scriptAt words st values log at) (scriptAt words st′ values′ log′ (r .at)) (r .why)
+      here =
+          subst
+          (λ n.
+          Stops (seenBy words) limit (n / 4) (scriptAt words st values log at) (scriptAt words st′ values′ log′ (r .at)) (r .why))
+          (u .logged)
+          i
 
-    pub comes-ends :
-        {st′ : List ℕ} {values′ : List ℤ} {log′ : List ℕ} {r : Rested} →
-        InstantMade words seen limit (scriptAt words st values log t) st′ values′ log′ r →
-        Ends seen limit (length (begun .log) / 4) (scriptAt words st′ values′ log′ (r .at)) (r .why)
-    comes-ends {st′} {values′} {log′} {r} i =
-        subst (λ n. Ends seen limit (n / 4) (scriptAt words st′ values′ log′ (r .at)) (r .why)) (u .logged)
-        (i .made .ends (λ e. omega (arith, e, i .some)))
+      pub comes-on :
+          length st′ ≡ length st → length values′ ≡ length values → length log′ ≡ length log →
+          Comes st′ values′ log′ (r .at)
+      comes-on b v l =
+          let c = u .can in
+          record {
+            same = outcome-moves (namesOf words) (here .path) ∙ u .same;
+            can =
+                record {
+                  valued = record { runnable = c .valued .runnable; named = v ∙ c .valued .named };
+                  node = record { known = c .node .known; whole = b ∙ c .node .whole };
+                  counted = counted-on (i .path) (c .counted) l;
+                };
+            logged = l ∙ u .logged;
+          }
+
+      pub ends-so : Ends (seenBy words) limit room (scriptAt words st′ values′ log′ (r .at)) (r .why)
+      ends-so = here .ends
 
     -- after an instant change
     pub comes-changed :
-        {st′ : List ℕ} {values′ : List ℤ} {t′ : Tally} → suspended (scriptAt words st values log t .process) values ≡ true →
-        t .steps < limit → length st′ ≡ length st → length values′ ≡ length values →
-        scriptAt words st′ values′ log t′ ≡ changed (namesOf words) (scriptAt words st values log t) →
-        Comes st′ values′ log t′
+        {st′ : List ℕ} {values′ : List ℤ} {at′ : Counts} →
+        suspended (scriptAt words st values log at .process) values ≡ true → at .steps < limit →
+        length st′ ≡ length st → length values′ ≡ length values →
+        scriptAt words st′ values′ log at′ ≡ changed (namesOf words) (scriptAt words st values log at) →
+        Comes st′ values′ log at′
     comes-changed w l b v e =
         let steps = ap (λ (x : Running ℕ). x .steps) e in
         let instants = ap (λ (x : Running ℕ). x .instants) e in
         let lines = ap (λ (x : Running ℕ). x .lines) e in
         let c = u .can in
         record {
-          same = ap comesTo e ∙ outcome-changes (namesOf words) seen limit (length (begun .log) / 4) (scriptAt words st values log t) w l ∙ u .same;
+          same =
+              ap (outcomeOf words limit room) e
+              ∙ outcome-changes (namesOf words) (seenBy words) limit room (scriptAt words st values log at) w l
+              ∙ u .same;
           can =
               record {
                 valued = record { runnable = c .valued .runnable; named = v ∙ c .valued .named };
@@ -77,29 +96,29 @@ module _ (words : List ℕ) (seen : ℕ → Bool) (limit : ℕ) (begun : Running
                     record {
                       time = omega (arith, steps, l);
                       most = c .counted .most;
+                      instants = omega (arith, steps, instants, c .counted .instants);
                       space = omega (arith, lines, c .counted .space);
                     };
-                instants = omega (arith, steps, instants, c .instants);
               };
           logged = u .logged;
         }
 
     -- suspended with no signal present: to the end, where nothing changes
     pub comes-idle :
-        {t′ : Tally} → suspended (scriptAt words st values log t .process) values ≡ true →
-        someSignalPresent (namesOf words) values ≡ false → t′ .steps ≡ limit →
-        t′ .instants ≡ t .instants + (limit - t .steps) → t′ .lines ≡ t .lines → Comes st values log t′
-    comes-idle {t′} w none s i l =
+        suspended (scriptAt words st values log at .process) values ≡ true →
+        someSignalPresent (namesOf words) values ≡ false → Comes st values log (afterChanges at (limit - at .steps))
+    comes-idle w none =
         let c = u .can in
+        let s : limit ≡ at .steps + (limit - at .steps) = omega (arith, c .counted .time) in
         record {
           same =
-              rw (s, l)
-              (sym
-              (outcome-idle (namesOf words) seen limit (length (begun .log) / 4) (limit - t .steps) (scriptAt words st values log t)
-              (t′ .instants) w
+              ap (λ n. outcomeOf words limit room (scriptAt words st values log (record { steps = n; instants = at .instants + (limit - at .steps); lines = at .lines }))) (sym s)
+              ∙ sym
+              (outcome-idle (namesOf words) (seenBy words) limit room (limit - at .steps) (scriptAt words st values log at)
+              (at .instants + (limit - at .steps)) w
               (idle-stays (namesOf words) values none words (c .valued .runnable) (λ x. refl) (root words) (c .node .known) st)
-              (values-stay (namesOf words) values none) (omega (arith, c .counted .time)) (sym i))
-              ∙ u .same);
+              (values-stay (namesOf words) values none) (sym s) refl)
+              ∙ u .same;
           can =
               record {
                 valued = c .valued;
@@ -108,31 +127,44 @@ module _ (words : List ℕ) (seen : ℕ → Bool) (limit : ℕ) (begun : Running
                     record {
                       time = omega (arith, s);
                       most = c .counted .most;
-                      space = omega (arith, l, c .counted .space);
+                      instants = omega (arith, c .counted .instants);
+                      space = c .counted .space;
                     };
-                instants = omega (arith, s, i, c .instants, c .counted .time);
               };
           logged = u .logged;
         }
 
     -- where it stops
-    pub gives :
-        {why : ℕ} {r : Ran} → Ends seen limit (length (begun .log) / 4) (scriptAt words st values log t) why →
-        (why ≡ isSuspended → t .steps ≡ limit) → r .ending ≡ endingOf why → r .at ≡ t →
-        Gives words (comesTo begun) limit st values log r
-    gives {why} {r} e w n a = rw a (stops e)
+    pub stops-there :
+        (why : Reason) → Ends (seenBy words) limit room (scriptAt words st values log at) why →
+        (why ≡ Suspended → at .steps ≡ limit) →
+        outcomeOf words limit room begun ≡ stopped (endingBy why) (scriptAt words st values log at)
+    stops-there why e w = sym (u .same) ∙ here why e w
       where
-        at : Running ℕ
-        at = scriptAt words st values log t
+        script : Running ℕ
+        script = scriptAt words st values log at
 
-        here : (how : Ending) → endingOf why ≡ endingNumber how → comesTo at ≡ stopped how at → Gives words (comesTo begun) limit st values log (record { ending = r .ending; at = t })
-        here how k o =
-            subst (λ z. Gives words z limit st values log (record { ending = r .ending; at = t })) (sym o ∙ u .same)
-            (record { ending = n ∙ k; at = refl; again = u .can })
+        here :
+            (why : Reason) → Ends (seenBy words) limit room script why → (why ≡ Suspended → at .steps ≡ limit) →
+            outcomeOf words limit room script ≡ stopped (endingBy why) script
+        here Nil e w = outcome-finished (namesOf words) (seenBy words) limit room script e
+        here Suspended e w =
+            outcome-spent (namesOf words) (seenBy words) limit room script (waits-some (script .process) values e) (w refl)
+        here Spent e w = outcome-spent (namesOf words) (seenBy words) limit room script (e .live .some) (e .time)
+        here Full e w = outcome-full (namesOf words) (seenBy words) limit room script (e .live) (e .time) (e .space)
 
-        stops : Ends seen limit (length (begun .log) / 4) at why → Gives words (comesTo begun) limit st values log (record { ending = r .ending; at = t })
-        stops (gone q z) = here finished (rw q) (outcome-finished (namesOf words) seen limit _ at z)
-        stops (waits q z) =
-            here calls.spent (rw q) (outcome-spent (namesOf words) seen limit _ at (waits-some (at .process) (at .values) z) (w q))
-        stops (spent q l z) = here calls.spent (rw q) (outcome-spent (namesOf words) seen limit _ at (l .some) z)
-        stops (full q l x z) = here logFull (rw q) (outcome-full (namesOf words) seen limit _ at l x z)
+-- what the run returns and leaves
+pub runs-to :
+    {words st st₀ : List ℕ} {values values₀ : List ℤ} {log log₀ : List ℕ} {at₀ at : Counts} {limit : ℕ}
+    (u : Comes words limit (scriptAt words st₀ values₀ log₀ at₀) st values log at) (why : Reason) →
+    Ends (seenBy words) limit (length log₀ / 4) (scriptAt words st values log at) why →
+    (why ≡ Suspended → at .steps ≡ limit) → {r : Ran} → r .ending ≡ endingOf why → r .at ≡ at →
+    Runs words limit st₀ values₀ log₀ at₀ st values log r
+runs-to {words} {st} {values = values} {log = log} {at = at} {limit = limit} u why e w {r} n a =
+    let o = stops-there words limit _ u why e w in
+    rw a
+    (record {
+      ending = n ∙ ap (λ (z : Outcome ℕ). endingNumber (z .ending)) (sym o);
+      left = ap (λ (z : Outcome ℕ). z .at) (sym o);
+      again = u .can;
+    })

@@ -1,43 +1,51 @@
 -- What the functions of the runner ask for and promise.
 use mathlib.Core.Path.{_≡_}
-use mathlib.Core.Bool.{Bool, cond}
+use mathlib.Core.Bool.{Bool, true, false}
 use mathlib.Core.List.{List}
 use Prim.Native.Nat.{ℕ, _-_, _/_, _≤_, _<_}
-use lib.Dec.{eqb}
 use lib.IntN.{ℤ}
 use lib.ListN.{length}
 use Rattle.language.specs.Calls.{Ending, finished, spent, logFull}
-use Rattle.program.specs.Program.{nodeCount, namesOf}
-use Rattle.residual.specs.Nodes.{Valued, At}
-use Rattle.moves.specs.Moves.{Running, isGone, isFull, changed}
-use Rattle.moves.specs.Contracts.{mostSteps, Counted, runningAt, Advances}
-use Rattle.runner.specs.declared.Tally.{Tally}
-use Rattle.runner.specs.declared.Rested.{Rested}
+use Rattle.program.specs.Program.{nodeCount, namesOf, seenBy}
+use Rattle.residual.specs.Nodes.{NodeIn}
+use Rattle.moves.specs.declared.counts.Counts.{Counts}
+use Rattle.moves.specs.declared.counts.Reason.{Reason}
+use Rattle.moves.specs.declared.counts.Reason.the-variants.{Nil, Suspended, Spent, Full}
+use Rattle.moves.specs.declared.counts.Rested.{Rested}
+use Rattle.moves.specs.Moves.{Running, changed}
+use Rattle.moves.specs.Contracts.{mostSteps, CanMove, nodeAt}
+use Rattle.advance.specs.Contracts.{Advances}
 use Rattle.runner.specs.declared.Ran.{Ran}
-use Rattle.runner.specs.Outcome.{Outcome}
+use Rattle.runner.specs.Outcome.{Outcome, outcome}
 
 -- the node of the script
 abbrev pub root : List ℕ → ℕ
 root words = nodeCount words - 1
 
 -- a program with its bytes, values and log, and what has been counted, as the definitions see it
-abbrev pub scriptAt : List ℕ → List ℕ → List ℤ → List ℕ → Tally → Running ℕ
-scriptAt words st values log t = runningAt words (root words) st values log (t .steps) (t .instants) (t .lines)
+abbrev pub scriptAt : List ℕ → List ℕ → List ℤ → List ℕ → Counts → Running ℕ
+scriptAt words st values log at = nodeAt words (root words) st values log at
 
 -- what a run asks: any bytes, values and counts
-pub record CanRun
-    (words : List ℕ) (st : List ℕ) (values : List ℤ) (log : List ℕ) (limit : ℕ) (t : Tally) : Type 0 where
-  pub valued : Valued words values
-  pub node : At words (root words) st
-  pub counted : Counted limit log (t .steps) (t .lines)
-  pub instants : t .instants ≤ t .steps
+abbrev pub CanRun : List ℕ → List ℕ → List ℤ → List ℕ → ℕ → Counts → Type 0
+CanRun words st values log limit at = CanMove words (root words) st values log limit at
+
+-- the script has made moves, as far as it goes within the instant
+abbrev pub InstantMade :
+    List ℕ → ℕ → List ℕ → List ℤ → List ℕ → Counts → List ℕ → List ℤ → List ℕ → Rested → Type 0
+InstantMade words limit st values log at st′ values′ log′ r =
+    Advances words limit (root words) st values log at st′ values′ log′ r
 
 -- what an instant change asks
-pub record CanChange (words : List ℕ) (st : List ℕ) (values : List ℤ) (t : Tally) : Type 0 where
-  pub valued : Valued words values
-  pub node : At words (root words) st
-  pub steps : t .steps < mostSteps
-  pub instants : t .instants < mostSteps
+pub record CanChange (words : List ℕ) (st : List ℕ) (values : List ℤ) (at : Counts) : Type 0 where
+  pub node : NodeIn words (root words) st values
+  pub time : at .steps < mostSteps
+  pub instants : at .instants ≤ at .steps
+
+-- the next instant begins, which is a step; whatever the log is, it stays
+abbrev pub Begins : List ℕ → List ℕ → List ℤ → Counts → List ℕ → List ℤ → Counts → Type 0
+Begins words st values at st′ values′ at′ =
+    (log : List ℕ) → scriptAt words st′ values′ log at′ ≡ changed (namesOf words) (scriptAt words st values log at)
 
 -- 'Run returns how it ended': '0 finished', '1 spent', '2 log full'
 abbrev pub endingNumber : Ending → ℕ
@@ -45,27 +53,32 @@ endingNumber finished = 0
 endingNumber spent = 1
 endingNumber logFull = 2
 
--- the number of the ending of a script that made no further move for this reason
-abbrev pub endingOf : ℕ → ℕ
-endingOf why = cond (eqb why isGone) 0 (cond (eqb why isFull) 2 1)
+-- how a run ends whose script makes no further move for this reason
+abbrev pub endingBy : Reason → Ending
+endingBy Nil = finished
+endingBy Suspended = spent
+endingBy Spent = spent
+endingBy Full = logFull
 
-module _ (words : List ℕ) where
-  -- The script has made moves, as far as it goes within the instant.
-  pub record InstantMade
-      (seen : ℕ → Bool) (limit : ℕ) (begun : Running ℕ) (st : List ℕ) (values : List ℤ) (log : List ℕ)
-      (r : Rested) : Type 0 where
-    pub made : Advances seen limit (length (begun .log) / 4) begun (scriptAt words st values log (r .at)) (r .why)
-    pub some : 0 < r .why
-    pub again : CanRun words st values log limit (r .at)
+abbrev pub endingOf : Reason → ℕ
+endingOf why = endingNumber (endingBy why)
 
-  -- The next instant begins, which is a step; whatever the log is, it stays.
-  abbrev pub Begins : List ℕ → List ℤ → Tally → List ℕ → List ℤ → Tally → Type 0
-  Begins st values t st′ values′ t′ =
-      (log : List ℕ) → scriptAt words st′ values′ log t′ ≡ changed (namesOf words) (scriptAt words st values log t)
+abbrev pub isSuspended : Reason → Bool
+isSuspended Nil = false
+isSuspended Suspended = true
+isSuspended Spent = false
+isSuspended Full = false
 
-  -- A run comes to this outcome: it returns its ending and leaves its script, from which a run can go on.
-  pub record Gives
-      (o : Outcome ℕ) (limit : ℕ) (st : List ℕ) (values : List ℤ) (log : List ℕ) (r : Ran) : Type 0 where
-    pub ending : r .ending ≡ endingNumber (o .ending)
-    pub at : scriptAt words st values log (r .at) ≡ o .at
-    pub again : CanRun words st values log limit (r .at)
+-- what comes of a program, for its reader, under a limit on all steps
+abbrev pub outcomeOf : List ℕ → ℕ → ℕ → Running ℕ → Outcome ℕ
+outcomeOf words limit room at = outcome (namesOf words) (seenBy words) limit room at
+
+-- A run returns its ending and leaves the script where the definition says; from there a run can go on.
+pub record Runs
+    (words : List ℕ) (limit : ℕ) (st : List ℕ) (values : List ℤ) (log : List ℕ) (at : Counts) (st′ : List ℕ)
+    (values′ : List ℤ) (log′ : List ℕ) (r : Ran) : Type 0 where
+  pub ending :
+      r .ending ≡ endingNumber (outcomeOf words limit (length log / 4) (scriptAt words st values log at) .ending)
+  pub left :
+      scriptAt words st′ values′ log′ (r .at) ≡ outcomeOf words limit (length log / 4) (scriptAt words st values log at) .at
+  pub again : CanRun words st′ values′ log′ limit (r .at)

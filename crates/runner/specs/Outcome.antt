@@ -6,8 +6,7 @@ use lib.ListN.{length}
 use mir.Syntax.{w32}
 use mir.Val.{ofZ}
 use Rattle.language.specs.Syntax.{Names}
-use Rattle.language.specs.Calls.{Line, Ending}
-use Rattle.language.specs.Stops.{Stop, reach}
+use Rattle.language.specs.Calls.{Line, Ending, Stop, reach}
 use Rattle.moves.specs.Moves.{Running, system, putLine}
 
 -- these lines, from line n on

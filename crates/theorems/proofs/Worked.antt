@@ -12,7 +12,7 @@ use Rattle.arithmetic.specs.Values.{clamped, quotient}
 use Rattle.language.specs.Syntax.{isNil}
 use Rattle.language.specs.Levels.{expLevel, writeLevel, testLevel, need}
 use Rattle.language.specs.Steps.{evaluate, value, suspended, move, change, instantStart, step}
-use Rattle.language.specs.Calls.{calledFor, givenBack, logged, run}
+use Rattle.language.specs.Calls.{calledFor, givenBack, noted, reach}
 use Rattle.faults.specs.Faults.{holds, faultRefusal}
 use Rattle.uses.specs.Uses.{used, timesUsed, useRefusal}
 use Rattle.reach.specs.Reach.{isOutOfReach, reachRefusal}
@@ -25,5 +25,5 @@ use Rattle.engine.specs.Answers.{verdict, left}
 use Rattle.theorems.specs.Examples.{PegsHold}
 
 pub pegs-hold : PegsHold
-unfolding firstFrom first any all count course entry table leastUpper top orders.isFaulty orders.firstFaulty orders.refusal pairs.firstLacking books.refusal clamped quotient isNil expLevel writeLevel testLevel need evaluate value suspended move change instantStart step calledFor givenBack logged run used timesUsed isOutOfReach holds faultRefusal useRefusal reachRefusal scripts.entryRefusal scripts.refusal expressionOf processOf words checkRefusal valuesRefusal callRefusal runRefusal verdict left
+unfolding firstFrom first any all count course entry table leastUpper top orders.isFaulty orders.firstFaulty orders.refusal pairs.firstLacking books.refusal clamped quotient isNil expLevel writeLevel testLevel need evaluate value suspended move change instantStart step calledFor givenBack noted reach used timesUsed isOutOfReach holds faultRefusal useRefusal reachRefusal scripts.entryRefusal scripts.refusal expressionOf processOf words checkRefusal valuesRefusal callRefusal runRefusal verdict left
 pegs-hold = refl

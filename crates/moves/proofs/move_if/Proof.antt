@@ -2,7 +2,7 @@
 use mathlib.Core.Path.{_≡_, sym, ap, _∙_}
 use native.Mathlib.Omega.{arith}
 use Rattle.language.specs.Steps.{test}
-use Rattle.program.specs.Program.{kindAt, aAt, expressionOf}
+use Rattle.program.specs.Program.{aAt, expressionOf}
 use Rattle.residual.proofs.Residuals.{some-bytes}
 use Rattle.moves.proofs.OwnMoves.{known, then-moves, else-moves}
 use borrow.Author.Needs.{needs}

@@ -1,62 +1,77 @@
 -- `move_own`: by the kind, if the limit is not reached.
-use mathlib.Core.Path.{_≡_, refl, sym, ap, _∙_, subst}
-use mathlib.Core.Bool.{true≢false}
+use mathlib.Core.Path.{_≡_, sym, ap, _∙_, subst}
 use mathlib.Core.Logic.{⊎-elim}
-use Prim.Native.Nat.{_/_, _≤_, _<_}
+use Prim.Native.Nat.{_/_, _<_}
 use native.Mathlib.Nat.{le-antisymm}
 use native.Mathlib.Omega.{arith}
-use native.Mathlib.Numerals.{add-one}
 use mir.Syntax.{w32}
 use mir.Facts.{toZ-ofZ}
-use lib.ListN.{length}
-use Rattle.program.specs.Program.{nameCount, kindAt, aAt}
+use lib.ListN.{length, set}
+use borrow.Author.Tests.{not-true, not-false}
+use Rattle.program.specs.Program.{nameCount, kindAt, aAt, processOf, seenBy}
 use Rattle.residual.specs.Residual.{own}
-use Rattle.residual.proofs.Residuals.{some-bytes}
+use Rattle.residual.proofs.Residuals.{nil-at-four, some-bytes, own-set-at}
 use Rattle.residual.proofs.Sights.{MovesItself, sight}
-use Rattle.moves.specs.Moves.{spent}
-use Rattle.moves.specs.Contracts.{isWriter, IsWriter, runningAt}
-use Rattle.moves.proofs.Advancing.{ended, again}
-use Rattle.moves.proofs.OwnMoves.{known, is-itself, writer-is, writer-was, is-silent, itself-live}
+use Rattle.moves.specs.Contracts.{IsWriter, Writes, afterMove, lineOf, Notes, nodeAt}
+use Rattle.moves.specs.Moves.{stays}
+use Rattle.moves.proofs.Advancing.{goes-silently, stops-full, stops-written}
+use Rattle.moves.proofs.OwnMoves.{known, is-itself, writer-is, is-silent, itself-live}
 use borrow.Author.Needs.{needs}
 use Rattle.moves.proofs.move_own.Statement.{statement}
 use Rattle.moves.proofs.move_own.Tie as tie
 
 -- the node is as its form tells
 moves-itself :
-    (c : tie.Start) →
-    (own (c .args .state .now) ≡ 0) × MovesItself (kindAt (c .args .program .now) (c .args .k))
+    (c : tie.Start) → (own (c .args .state .now) ≡ 0) × MovesItself (kindAt (c .args .program .now) (c .args .k))
 moves-itself c =
+    let can = c .pre .can in
     is-itself
-    (sight (c .args .program .now) (c .pre .can .valued .runnable) (c .args .k) (c .pre .can .node .known) (c .args .state .now) (c .pre .can .node .whole))
-    (c .pre .front)
-
-lines-within : (c : tie.Start) → c .args .at .lines ≤ length (c .args .log .now) / 4
-lines-within c = omega (arith, c .pre .can .counted .space)
+    (sight (c .args .program .now) (can .valued .runnable) (c .args .k) (can .node .known) (c .args .state .now) (can .node .whole))
+    (c .pre .form)
 
 -- it is an assignment or an emission
 writer : (c : tie.Then2) → IsWriter (c .before .before .kind-at .result)
 writer c = writer-is _ (sym (c .before .is-writer .ensures) ∙ c .if2 .taken)
 
-name-known :
-    (c : tie.Then2) → let start = c .before .before .before .before .before .before .before .before in aAt (start .args .program .now) (start .args .k) < nameCount (start .args .program .now)
-name-known c =
-    let start = c .before .before .before .before .before .before .before .before in
-    ⊎-elim
-    (λ e. known (start .args .program .now) (start .pre .can .valued .runnable) (start .args .k) (start .pre .can .node .known) {n = 1} (sym (c .before .before .kind-at .ensures) ∙ e) .1 .0)
-    (λ e. known (start .args .program .now) (start .pre .can .valued .runnable) (start .args .k) (start .pre .can .node .known) {n = 6} (sym (c .before .before .kind-at .ensures) ∙ e) .1)
-    (writer c)
-
 returns : tie.Need-returns
 returns c =
-    let start = c .before .before .before .before .before in
+    let start = c .before .before .before .before in
+    let can = start .pre .can in
     record {
-      made =
-          ended (start .pre .can .counted .time) (lines-within start) (λ e. absurd (omega (arith, e)))
-          (spent refl (itself-live (start .args .program .now) (start .pre .can .valued .runnable) (start .args .k) (start .pre .can .node .known)
-          (start .args .state .now) (some-bytes (start .pre .can .node)) (moves-itself start .0) (start .args .values .now) (moves-itself start .1))
-          (le-antisymm (start .pre .can .counted .time) (c .if1 .taken)));
-      some = λ _. omega arith;
+      path = stays;
+      ends =
+          record {
+            live =
+                itself-live (start .args .program .now) (can .valued .runnable) (start .args .k) (can .node .known)
+                (start .args .state .now) (some-bytes (can .node)) (moves-itself start .0) (start .args .values .now)
+                (moves-itself start .1);
+            time = le-antisymm (can .counted .time) (c .if1 .taken);
+          };
     }
+
+-- its name has a value
+name-known :
+    (c : tie.Then2) → let start = c .before .before .before .before .before .before .before in aAt (start .args .program .now) (start .args .k) < nameCount (start .args .program .now)
+name-known c =
+    let start = c .before .before .before .before .before .before .before in
+    let a = start .args in
+    let can = start .pre .can in
+    ⊎-elim
+    (λ e. known (a .program .now) (can .valued .runnable) (a .k) (can .node .known) {n = 1} (sym (c .before .before .kind-at .ensures) ∙ e) .1 .0)
+    (λ e. known (a .program .now) (can .valued .runnable) (a .k) (can .node .known) {n = 6} (sym (c .before .before .kind-at .ensures) ∙ e) .1)
+    (writer c)
+
+name-few : (c : tie.After-a-at) → let start = c .before .before .before .before .before .before .before .before in c .a-at .result < nameCount (start .args .program .now)
+name-few c = omega (arith, c .a-at .ensures, name-known (c .before))
+
+-- the value, as it was given
+writes :
+    (c : tie.After-written) →
+    let a = c .before .before .before .before .before .before .before .before .before .before .args in
+    Writes (nodeAt (a .program .now) (a .k) (a .state .now) (a .values .now) (a .log .now) (a .at) .process) (a .values .now) (c .before .before .a-at .result) (c .written .result)
+writes c =
+    let start = c .before .before .before .before .before .before .before .before .before .before in
+    rw (c .before .before .a-at .ensures) (c .written .ensures (start .args .state .now) (some-bytes (start .pre .can .node)) (moves-itself start .0))
 
 kind-at-requires : tie.Need-kind-at-requires
 kind-at-requires c κs = search needs
@@ -69,29 +84,36 @@ a-at-requires c κs = search needs
 
 written-requires : tie.Need-written-requires
 written-requires c κs =
-    let start = c .before .before .before .before .before .before .before .before .before .before in
+    let can = c .before .before .before .before .before .before .before .before .before .pre .can in
     record {
-      valued = start .pre .can .valued;
-      known = start .pre .can .node .known;
+      valued = can .valued;
+      known = can .node .known;
       kind = sym (c .before .before .before .before .kind-at .ensures);
       writer = writer (c .before .before);
     }
 
-write-requires : tie.Need-write-requires
-write-requires c κs =
-    let start = c .before .before .before .before .before .before .before .before .before .before .before .before .before .before in
-    let name : c .before .before .before .before .before .a-at .result < nameCount (start .args .program .now) = omega (arith, c .before .before .before .before .before .a-at .ensures, name-known (c .before .before .before .before .before .before)) in
-    let can = start .pre .can in
+note-requires : tie.Need-note-requires
+note-requires c κs =
+    let can = c .before .before .before .before .before .before .before .before .before .before .before .pre .can in
     record {
-      node = can .node;
-      writes =
-          rw (toZ-ofZ {w = w32} (record { sfits = c .before .before .before .written .ok }), c .before .before .before .before .before .a-at .ensures)
-          (c .before .before .before .written .ensures (start .args .state .now) (some-bytes (can .node)) (moves-itself start .0));
-      counted = can .counted;
-      time = c .before .before .before .before .before .before .before .before .before .if1 .left;
-      named = omega (arith, name, can .valued .named);
-      few = omega (arith, name, can .valued .runnable .fewNames);
+      few = omega (arith, name-few (c .before .before .before), can .valued .runnable .fewNames);
+      time = omega (arith, c .before .before .before .before .before .before .before .if1 .left, can .counted .most);
+      instants = can .counted .instants;
+      space = can .counted .space;
     }
+
+-- what was noted, of the value as it was given
+noted :
+    (c : tie.After-note) →
+    let a = c .before .before .before .before .before .before .before .before .before .before .before .before .args in
+    Notes (length (a .log .now) / 4) (lineOf (a .program .now) (a .at) (c .before .before .before .before .a-at .result) (c .before .before .written .result)) (a .at .lines) (a .log .now)
+    (c .note .result) (c .note .last .1 .0)
+noted c =
+    let a = c .before .before .before .before .before .before .before .before .before .before .before .before .args in
+    subst
+    (λ v. Notes (length (a .log .now) / 4) (lineOf (a .program .now) (a .at) (c .before .before .before .before .a-at .result) v) (a .at .lines) (a .log .now) (c .note .result) (c .note .last .1 .0))
+    (toZ-ofZ {w = w32} (record { sfits = c .before .before .written .ok }))
+    (c .note .ensures)
 
 same-length : tie.Need-same-length
 same-length c = search needs
@@ -99,26 +121,33 @@ same-length c = search needs
 same-length-2 : tie.Need-same-length-2
 same-length-2 c = search needs
 
+returns-2 : tie.Need-returns-2
+returns-2 c =
+    let a = c .before .before .before .before .before .before .before .before .before .before .before .before .before .before .before .before .args in
+    let n = noted (c .before .before .before .before) in
+    let here = nodeAt (a .program .now) (a .k) (a .state .now) (a .values .now) (a .log .now) (a .at) in
+    let w = writes (c .before .before .before .before .before .before) in
+    let none = not-true _ (c .if3 .taken) in
+    rw (n .full none)
+    (record {
+      path = stays;
+      ends = stops-full (seenBy (a .program .now)) (a .limit) (length (a .log .now) / 4) here w (c .before .before .before .before .before .before .before .before .before .before .before .before .if1 .left) (sym (n .fits) ∙ none);
+    })
+
+mul-v : tie.Need-mul-v
+mul-v c = search needs
+
+slice-set-from-v : tie.Need-slice-set-from-v
+slice-set-from-v c = omega (arith, name-few (c .before .before .before .before .before .before .before .before), c .before .before .before .before .before .before .before .before .before .before .before .before .before .before .before .before .pre .can .valued .named)
+
+slice-write-state : tie.Need-slice-write-state
+slice-write-state c = some-bytes (c .before .before .before .before .before .before .before .before .before .before .before .before .before .before .before .before .pre .can .node)
+
+after-move-requires : tie.Need-after-move-requires
+after-move-requires c κs = search needs
+
 same-length-3 : tie.Need-same-length-3
 same-length-3 c = search needs
-
-returns-2 : tie.Need-returns-2
-returns-2 c = let w = c .before .before .before .before .before .write .ensures in record { made = w .made; some = λ _. w .some tt }
-
-move-silently-requires : tie.Need-move-silently-requires
-move-silently-requires c κs =
-    let start = c .before .before .before .before .before .before .before .before .before .before in (
-      record {
-        valued = start .pre .can .valued;
-        node = start .pre .can .node;
-        kind = sym (c .before .before .before .before .kind-at .ensures);
-        clear = moves-itself start .0;
-      },
-      is-silent (subst MovesItself (sym (c .before .before .before .before .kind-at .ensures)) (moves-itself start .1)) (sym (c .before .before .before .is-writer .ensures) ∙ c .before .before .if2 .left),
-    )
-
-add-t27 : tie.Need-add-t27
-add-t27 c = search needs
 
 same-length-4 : tie.Need-same-length-4
 same-length-4 c = search needs
@@ -128,12 +157,43 @@ same-length-5 c = search needs
 
 returns-3 : tie.Need-returns-3
 returns-3 c =
-    let start = c .before .before .before .before .before .before .before .before .before .before .before .before .before .before .before in
-    let at = runningAt (start .args .program .now) (start .args .k) (start .args .state .now) (start .args .values .now) (start .args .log .now) (start .args .at .steps) (start .args .limits .instant) (start .args .at .lines) in
-    record {
-      made = rw (add-one (start .args .at .steps)) (again at (c .before .before .before .before .before .before .before .before .before .before .if1 .left) (lines-within start) (c .before .before .before .before .move-silently .ensures));
-      some = λ w. absurd (true≢false (sym (writer-was w) ∙ ap isWriter (sym (c .before .before .before .before .before .before .before .before .before .kind-at .ensures)) ∙ sym (c .before .before .before .before .before .before .before .before .is-writer .ensures) ∙ c .before .before .before .before .before .before .before .if2 .left));
-    }
+    let a = c .before .before .before .before .before .before .before .before .before .before .before .before .before .before .before .before .before .args in
+    let n = noted (c .before .before .before .before .before) in
+    let here = nodeAt (a .program .now) (a .k) (a .state .now) (a .values .now) (a .log .now) (a .at) in
+    let fits = not-false _ (c .before .if3 .left) in
+    stops-written (seenBy (a .program .now)) (a .limit) (length (a .log .now) / 4) here (writes (c .before .before .before .before .before .before .before)) (c .before .before .before .before .before .before .before .before .before .before .before .before .before .if1 .left) (sym (n .fits) ∙ fits)
+    (nil-at-four (processOf (a .program .now) (a .k)) _ (own-set-at (a .state .now) (some-bytes (c .before .before .before .before .before .before .before .before .before .before .before .before .before .before .before .before .before .pre .can .node)) 4))
+    (ap (set (a .values .now) (c .before .before .before .before .before .before .before .before .before .a-at .result)) (toZ-ofZ {w = w32} (record { sfits = c .before .before .before .before .before .before .before .written .ok })))
+    (n .written fits)
+    (c .after-move .ensures ∙ ap (afterMove (a .at)) (n .lines fits))
+
+move-silently-requires : tie.Need-move-silently-requires
+move-silently-requires c κs =
+    let start = c .before .before .before .before .before .before .before .before .before in
+    let can = start .pre .can in (
+      record {
+        valued = can .valued;
+        node = can .node;
+        kind = sym (c .before .before .before .before .kind-at .ensures);
+        clear = moves-itself start .0;
+      },
+      is-silent (subst MovesItself (sym (c .before .before .before .before .kind-at .ensures)) (moves-itself start .1)) (sym (c .before .before .before .is-writer .ensures) ∙ c .before .before .if2 .left),
+    )
+
+after-move-requires-2 : tie.Need-after-move-requires-2
+after-move-requires-2 c κs = search needs
+
+same-length-6 : tie.Need-same-length-6
+same-length-6 c = search needs
+
+same-length-7 : tie.Need-same-length-7
+same-length-7 c = search needs
+
+returns-4 : tie.Need-returns-4
+returns-4 c =
+    let a = c .before .before .before .before .before .before .before .before .before .before .before .before .before .before .args in
+    let here = nodeAt (a .program .now) (a .k) (a .state .now) (a .values .now) (a .log .now) (a .at) in
+    rw (c .after-move2 .ensures) (goes-silently here (c .before .before .before .before .before .before .before .before .before .before .if1 .left) (c .before .before .before .before .move-silently .ensures))
 
 pub move-own-spec : {M : Type 1} → statement M
 move-own-spec =
@@ -144,13 +204,20 @@ move-own-spec =
     is-writer-requires
     a-at-requires
     written-requires
-    write-requires
+    note-requires
     same-length
     same-length-2
-    same-length-3
     returns-2
-    move-silently-requires
-    add-t27
+    mul-v
+    slice-set-from-v
+    slice-write-state
+    after-move-requires
+    same-length-3
     same-length-4
     same-length-5
-    returns-3)
+    returns-3
+    move-silently-requires
+    after-move-requires-2
+    same-length-6
+    same-length-7
+    returns-4)

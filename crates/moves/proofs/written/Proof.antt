@@ -4,7 +4,7 @@ use mathlib.Core.Logic.{⊎-elim}
 use native.Mathlib.Omega.{arith}
 use mir.Syntax.{w32}
 use mir.Facts.{toZ-ofZ}
-use Rattle.program.specs.Program.{kindAt, aAt}
+use Rattle.program.specs.Program.{kindAt}
 use Rattle.moves.proofs.OwnMoves.{known, assign-writes, emit-writes}
 use borrow.Author.Needs.{needs}
 use Rattle.moves.proofs.written.Statement.{statement}

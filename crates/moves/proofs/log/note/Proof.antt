@@ -1,4 +1,4 @@
--- `note`: a line is written where a reader sees the name and there is room.
+-- `note`: a line is written where the reader sees the name and there is room.
 use mathlib.Core.Path.{_≡_, refl, sym, ap, ap₂, _∙_}
 use mathlib.Core.Bool.{true≢false, false≢true}
 use mathlib.Core.List.{List}
@@ -8,19 +8,19 @@ use lib.IntN.{ℤ}
 use mir.Syntax.{w32}
 use mir.Val.{SFits, ofZ}
 use mir.Facts.{toZ-ofZ}
-use borrow.Author.Tests.{lt-ltb, le-ltb, eq-eqb, ne-eqb}
+use borrow.Author.Tests.{lt-ltb, le-ltb, not-true, not-false}
 use Rattle.arithmetic.proofs.Signed.{readBack}
 use Rattle.moves.specs.Moves.{putWords, putLine}
 use borrow.Author.Needs.{needs}
 use Rattle.moves.proofs.log.note.Statement.{statement}
 use Rattle.moves.proofs.log.note.Tie as tie
 
-element-copy-out-if1 : tie.Need-element-copy-out-if1
-element-copy-out-if1 c = search needs
+is-seen-requires : tie.Need-is-seen-requires
+is-seen-requires c κs = search needs
 
 returns : tie.Need-returns
 returns c =
-    rw (ne-eqb _ _ (c .if1 .taken)) (record {
+    rw (sym (c .before .is-seen .ensures) ∙ not-true _ (c .if1 .taken)) (record {
       fits = refl;
       written = λ _. refl;
       lines = λ _. refl;
@@ -29,7 +29,7 @@ returns c =
 
 returns-2 : tie.Need-returns-2
 returns-2 c =
-    rw (eq-eqb _ _ (c .before .if1 .left)) (record {
+    rw (sym (c .before .before .is-seen .ensures) ∙ not-false _ (c .before .if1 .left)) (record {
       fits = sym (le-ltb _ _ (c .if2 .taken));
       written = λ e. absurd (false≢true e);
       lines = λ e. absurd (false≢true e);
@@ -39,11 +39,14 @@ returns-2 c =
 word-of-requires : tie.Need-word-of-requires
 word-of-requires c κs = search needs
 
+add-step : tie.Need-add-step
+add-step c = search needs
+
+cast-step : tie.Need-cast-step
+cast-step c = search needs
+
 mul-put-line : tie.Need-mul-put-line
 mul-put-line c = search needs
-
-add-put-line : tie.Need-add-put-line
-add-put-line c = search needs
 
 cast-put-line : tie.Need-cast-put-line
 cast-put-line c = search needs
@@ -54,8 +57,8 @@ cast-put-line-2 c = search needs
 put-line-requires : tie.Need-put-line-requires
 put-line-requires c κs = search needs
 
-add-t13 : tie.Need-add-t13
-add-t13 c = search needs
+add-t11 : tie.Need-add-t11
+add-t11 c = search needs
 
 same-length : tie.Need-same-length
 same-length c = search needs
@@ -70,16 +73,14 @@ put log n steps instant x w f e q =
 
 returns-3 : tie.Need-returns-3
 returns-3 c =
-    let start = c .before .before .before .before .before .before .before .before .before in
-    rw (eq-eqb _ _ (c .before .before .before .before .before .before .if1 .left)) (record {
-      fits = sym (lt-ltb _ _ (c .before .before .before .before .before .if2 .left));
+    let a = c .before .before .before .before .before .before .before .before .before .before .before .args in
+    rw (sym (c .before .before .before .before .before .before .before .before .before .is-seen .ensures) ∙ not-false _ (c .before .before .before .before .before .before .before .before .if1 .left)) (record {
+      fits = sym (lt-ltb _ _ (c .before .before .before .before .before .before .before .if2 .left));
       written =
           λ _.
-          put (start .args .log .now) (start .args .lines) (start .args .steps) (start .args .instant) (start .args .x) _
-          (start .fits .value)
-          (c .before .before .before .before .word-of .ensures)
+          put (a .log .now) (a .at .lines) (a .at .steps) (a .at .instants) (a .x) _ (c .before .before .before .before .before .before .before .before .before .before .before .fits .value) (c .before .before .before .before .before .before .word-of .ensures)
           (c .before .before .put-line .ensures);
-      lines = λ _. add-one (start .args .lines);
+      lines = λ _. add-one (a .at .lines);
       full = λ e. absurd (true≢false e);
     })
 
@@ -87,15 +88,16 @@ pub note-spec : {M : Type 1} → statement M
 note-spec =
     tie.close
     (tie.spec
-    element-copy-out-if1
+    is-seen-requires
     returns
     returns-2
     word-of-requires
+    add-step
+    cast-step
     mul-put-line
-    add-put-line
     cast-put-line
     cast-put-line-2
     put-line-requires
-    add-t13
+    add-t11
     same-length
     returns-3)

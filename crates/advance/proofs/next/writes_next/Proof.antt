@@ -1,10 +1,10 @@
 -- `writes_next`: by the byte, then by the kind.
 use mathlib.Core.Path.{ap, _∙_}
 use borrow.Author.Tests.{eq-eqb, ne-eqb}
-use borrow.Author.Needs.{needs}
 use Rattle.moves.specs.Contracts.{isWriter}
-use Rattle.advance.proofs.writes_next.Statement.{statement}
-use Rattle.advance.proofs.writes_next.Tie as tie
+use borrow.Author.Needs.{needs}
+use Rattle.advance.proofs.next.writes_next.Statement.{statement}
+use Rattle.advance.proofs.next.writes_next.Tie as tie
 
 returns : tie.Need-returns
 returns c = rw (ne-eqb _ 0 (c .if1 .taken))

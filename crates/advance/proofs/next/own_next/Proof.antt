@@ -2,8 +2,8 @@
 use mathlib.Core.Path.{sym}
 use borrow.Author.Tests.{eq-eqb, ne-eqb}
 use Rattle.program.specs.Forms.{itself}
-use Rattle.advance.proofs.own_next.Statement.{statement}
-use Rattle.advance.proofs.own_next.Tie as tie
+use Rattle.advance.proofs.next.own_next.Statement.{statement}
+use Rattle.advance.proofs.next.own_next.Tie as tie
 
 returns : tie.Need-returns
 returns c = sym (rw (eq-eqb _ itself (c .if1 .taken)))
