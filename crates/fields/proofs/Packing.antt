@@ -1,16 +1,13 @@
 -- A row of roles as a number: each role is four of its bits.
--- Assumes nothing.
 use mathlib.Core.Path.{_≡_, refl}
 use mathlib.Core.Bool.{Bool, true, _&&_}
 use mathlib.Core.List.{List, [], _∷_}
-use Prim.Native.Nat.{ℕ, zero, suc, _*_, _/_, _%_, _^_, _≤_, _<_}
-use native.Mathlib.Decide.{decLt}
+use Prim.Native.Nat.{ℕ, zero, suc, _*_, _/_, _%_, _^_, _<_}
 use native.Mathlib.Omega.{arith}
 use lib.Dec.{ltb}
 use lib.ListN.{getD}
 use borrow.Author.Tests.{ltb-true}
 use Rattle.prelude.proofs.Bools.{and-left, and-right}
-use Rattle.prelude.proofs.Each.{Each, each}
 use Rattle.fields.specs.Roles.{Row, packed, roleIn}
 
 -- the roles of a row are below 16
@@ -45,11 +42,3 @@ unpacked row h f l =
 pub role-of-row :
     (rows : List Row) → allSmall rows ≡ true → (k f : ℕ) → f < 3 → packed (getD rows k []) / 2 ^ (4 * f) % 16 ≡ roleIn rows k f
 role-of-row rows h k = unpacked (getD rows k []) (small-at rows h k)
-
--- a number that is none of the first n
-pub past-all : (n k : ℕ) → Each (λ m. k ≡ m → ⊥) n → n ≤ k
-past-all n k others =
-    elim (decLt k n) [
-      | yes h ↦ absurd (each (λ m. k ≡ m → ⊥) n others k h refl)
-      | no h ↦ omega arith
-    ]

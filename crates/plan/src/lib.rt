@@ -66,7 +66,7 @@ fn node_word(
 {
     let p = layout::entries::part_at(s, c, c.expressions + k);
     let parts = fields::children::children_of(p);
-    let first = parts.first % 256;
+    let first = parts.first % Script::MAX_NODES;
     let b = field_b(p.kind, p.b, parts.second);
     let fields = packing::pack_fields(p.a, b, first, wide(sizes[first]));
     let kind = packing::mark(p.kind, has_watching(words, k, p.kind, parts));

@@ -1,9 +1,10 @@
 -- Numbers below n, one by one: for a table of n rows.
--- Assumes nothing.
-use mathlib.Core.Path.{sym, subst}
+use mathlib.Core.Path.{_≡_, refl, sym, subst}
 use mathlib.Core.Logic.{⊎-elim}
-use Prim.Native.Nat.{ℕ, zero, suc, _<_}
+use Prim.Native.Nat.{ℕ, zero, suc, _≤_, _<_}
+use native.Mathlib.Decide.{decLt}
 use native.Mathlib.Nat.{le-of-suc-le-suc, not-suc-le-zero, eq-or-lt-of-le}
+use native.Mathlib.Omega.{arith}
 
 -- P 0, .., P (n - 1), as pairs nested to the left
 abbrev pub Each : (ℕ → Type 0) → ℕ → Type 0
@@ -14,3 +15,11 @@ pub each : (P : ℕ → Type 0) (n : ℕ) → Each P n → (k : ℕ) → k < n �
 each P zero t k h = absurd (not-suc-le-zero h)
 each P (suc n) t k h =
     ⊎-elim (λ e. subst P (sym e) (t .1)) (λ l. each P n (t .0) k l) (eq-or-lt-of-le (le-of-suc-le-suc h))
+
+-- a number that is none of the first n
+pub past-all : (n k : ℕ) → Each (λ m. k ≡ m → ⊥) n → n ≤ k
+past-all n k others =
+    elim (decLt k n) [
+      | yes h ↦ absurd (each (λ m. k ≡ m → ⊥) n others k h refl)
+      | no h ↦ omega arith
+    ]

@@ -12,21 +12,12 @@ use lib.ListN.{getD, length, List·getD-eq-default}
 use borrow.Author.Tests.{eqb-true, eq-eqb, ne-eqb, leb-true, le-leb, lt-leb, le-ltb}
 use Rattle.prelude.specs.Search.{all, any, firstFrom}
 use Rattle.prelude.specs.Search as search-for
-use Rattle.prelude.proofs.Each.{Each, each}
 use Rattle.prelude.proofs.Bools.{and-left, and-right, or-second, by-cases}
 use Rattle.prelude.proofs.Searches.{all-elim}
 use Rattle.program.specs.declared.forms.Front.{Front}
 use Rattle.program.specs.Program.{nodeCount, kindAt}
 use Rattle.program.specs.Runnable.{NodeRuns, Runnable}
 use Rattle.program.specs.Forms.{nothing, itself, beside, turned, formRows, formOf, fromSecond, firstFront, secondFront, frontOf, rearOf}
-
--- a number that is none of the first n
-pub past-all : (n k : ℕ) → Each (λ m. k ≡ m → ⊥) n → n ≤ k
-past-all n k others =
-    elim (decLt k n) [
-      | yes h ↦ absurd (each (λ m. k ≡ m → ⊥) n others k h refl)
-      | no h ↦ omega arith
-    ]
 
 -- a node of a program that can be run
 pub runs-at : {words : List ℕ} (k : ℕ) → Runnable words × (k < nodeCount words) → NodeRuns words k

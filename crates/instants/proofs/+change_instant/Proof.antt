@@ -126,7 +126,7 @@ module _ (t : ℕ) where
   returns c =
       let start = c .before .before .before in
       let runs = asked start .valued .runnable .nodes (start .args .k) (asked start .node .known) in
-      let none = sym (runs .watches) ∙ sym (c .before .watches-at .ensures) ∙ not-true _ (c .if1 .taken) in
+      let none = sym (runs .watches) ∙ sym (c .before .watches-at .ensures) ∙ not-true (c .before .watches-at .result) (c .if1 .taken) in
       sym (unwatched-stays (start .args .values .now) (processOf (start .args .program .now) (start .args .k)) none (start .args .state .now))
 
   slice-read-tag : lts.Need-slice-read-tag (R t) (at t) reads.Post

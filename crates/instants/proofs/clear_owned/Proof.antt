@@ -1,10 +1,10 @@
 -- `clear_owned`: the names below x hold their new values, the others what they held.
-use mathlib.Core.Path.{sym, _∙_}
-use mathlib.Core.Bool.{cond}
+use mathlib.Core.Path.{sym, ap, _∙_}
+use mathlib.Core.Bool.{Bool, cond}
 use mathlib.Core.Logic.{⊎-elim}
 use Prim.Native.Nat.{_-_}
 use native.Mathlib.Omega.{arith}
-use lib.IntN.{pos}
+use lib.IntN.{ℤ, pos}
 use borrow.Author.Tests.{not-true, not-false}
 use Rattle.language.specs.Steps.{held}
 use Rattle.language.specs.Calls.{givenBack}
@@ -44,10 +44,18 @@ loop-again : tie.Need-loop-again Inv-loop μ-loop
 loop-again c =
     let turn = c .before .before in
     let loop = turn .before .loop in
-    let test = c .before .is-session .ensures in
+    let start = turn .before .before in
+    let session = c .before .is-session in
+    let new : Bool → ℤ = λ b. cond b (held (start .args .values .now) (loop .x)) (pos 0) in
     ⊎-elim
-    (λ w. rw (w .1) (renewed-set _ _ _ (loop .values) (turn .loop-test .taken) (loop .inv) (pos 0) (rw (sym test ∙ not-true _ (w .0 .taken)))))
-    (λ w. rw (w .1) (renewed-kept _ _ _ (loop .values) (turn .loop-test .taken) (loop .inv) (rw (sym test ∙ not-false _ (w .0 .left)))))
+    (λ w.
+    rw (w .1)
+    (renewed-set _ _ _ (loop .values) (turn .loop-test .taken) (loop .inv) (pos 0)
+    (sym (ap new (sym (session .ensures) ∙ not-true (session .result) (w .0 .taken))))))
+    (λ w.
+    rw (w .1)
+    (renewed-kept _ _ _ (loop .values) (turn .loop-test .taken) (loop .inv)
+    (sym (ap new (sym (session .ensures) ∙ not-false (session .result) (w .0 .left))))))
     (c .if1 .came)
 
 same-length : tie.Need-same-length Inv-loop μ-loop

@@ -1,7 +1,7 @@
 -- `has_watching`: the kind, then the first child, then the second.
 use mathlib.Core.Path.{sym, _∙_}
 use borrow.Author.Needs.{needs}
-use borrow.Author.Tests.{ne-eqb}
+use borrow.Author.Tests.{eq-eqb, ne-eqb}
 use Rattle.plan.proofs.has_watching.Statement.{statement}
 use Rattle.plan.proofs.has_watching.Tie as tie
 
@@ -12,7 +12,7 @@ watches-before-requires-2 : tie.Need-watches-before-requires-2
 watches-before-requires-2 c κs = search needs
 
 returns : tie.Need-returns
-returns c = rw (c .if1 .taken)
+returns c = rw (eq-eqb (c .before .args .kind) 8 (c .if1 .taken))
 
 returns-2 : tie.Need-returns-2
 returns-2 c =

@@ -1,6 +1,6 @@
 -- `forms_of`: each arm gives the forms of its kind.
 use native.Mathlib.Omega.{arith}
-use Rattle.program.proofs.Fronts.{past-all}
+use Rattle.prelude.proofs.Each.{past-all}
 use Rattle.program.proofs.forms.forms_of.Statement.{statement}
 use Rattle.program.proofs.forms.forms_of.Tie as tie
 
