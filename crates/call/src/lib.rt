@@ -2,7 +2,8 @@
 use layout::Script;
 use prelude::Refusal;
 ghost use mathlib.Core.Path.{_≡_};
-ghost use Prim.Native.Nat.{_<_};
+ghost use Prim.Native.Nat.{_+_, _*_, _≤_, _<_};
+ghost use lib.ListN.{length};
 ghost use Rattle.layout.specs.Layout.{Laid};
 ghost use Rattle.call.specs.Refusals.{Listed, valueIsRight, valuesRefusal, callRefusal, firstWrong};
 
@@ -10,15 +11,15 @@ ghost use Rattle.call.specs.Refusals.{Listed, valueIsRight, valuesRefusa
 pub const MAX_STEPS: u32 = 1000000;
 
 // Whether name x may have this value at the start.
-fn value_is_right(s: &[u8], c: Script, values: &[i32], x: usize) -> bool
-    requires { ⌜ Listed (now s) c (now values) × (x < c .names) ⌝ }
+fn value_is_right(s: &[u8], values: &[i32], x: usize) -> bool
+    requires { ⌜ (4 * x + 4 ≤ length (now s)) × (x < length (now values)) ⌝ }
     ensures { λ r. ⌜ r ≡ valueIsRight (now (s .entry)) (now (values .entry)) x ⌝ }
 {
     let v = values[x];
     if v == 0 {
         return true;
     }
-    let name = layout::entries::name_at(s, c, x);
+    let name = layout::entries::name_at(s, x);
     if name.owner != layout::entries::SESSION {
         return false;
     }
@@ -33,7 +34,7 @@ fn first_wrong(s: &[u8], c: Script, values: &[i32]) -> usize
     let n = c.names;
     let mut x: usize = 0;
     while x < n {
-        if !value_is_right(s, c, values, x) {
+        if !value_is_right(s, values, x) {
             return x;
         }
         x += 1;

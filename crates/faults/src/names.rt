@@ -40,7 +40,7 @@ fn name_is_right(s: &[u8], c: Script, levels: usize, x: usize) -> bool
     requires { ⌜ Laid (now s) c × (x < c .names) ⌝ }
     ensures { λ r. ⌜ r ≡ nameIsRight (now (s .entry)) levels x ⌝ }
 {
-    let name = name_at(s, c, x);
+    let name = name_at(s, x);
     if 1 < name.kind {
         return false;
     }

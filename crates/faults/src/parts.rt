@@ -36,7 +36,7 @@ fn holds_name(s: &[u8], c: Script, q: usize, field: Field) -> bool
     if c.names <= x {
         return false;
     }
-    let name = name_at(s, c, x);
+    let name = name_at(s, x);
     if name.kind != kind_for(field.role) {
         return false;
     }

@@ -18,7 +18,7 @@ pub fn level_of(s: &[u8], c: Script, bottom: usize, join: &PairTable, e: usize) 
         return bottom;
     }
     if part.kind == kinds::REGISTER {
-        let name = name_at(s, c, part.a);
+        let name = name_at(s, part.a);
         return name.level;
     }
     let left = level_of(s, c, bottom, join, part.a);

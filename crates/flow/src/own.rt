@@ -15,7 +15,7 @@ pub fn own_levels(s: &[u8], c: Script, bottom: usize, join: &PairTable, p: Part)
     ensures { λ r. ⌜ ((l : Levels) → Reads (now (s .entry)) c bottom (now (join .entry)) l → OwnOf l (now (s .entry)) p r) ⌝ }
 {
     if is_either(p.kind, kinds::ASSIGN, kinds::LET) {
-        let name = name_at(s, c, p.a);
+        let name = name_at(s, p.a);
         return Own {
             level: level_of(s, c, bottom, join, p.b),
             name: name.level,
@@ -28,7 +28,7 @@ pub fn own_levels(s: &[u8], c: Script, bottom: usize, join: &PairTable, p: Part)
         };
     }
     if kinds::has_signal(p.kind) {
-        let name = name_at(s, c, p.a);
+        let name = name_at(s, p.a);
         return Own {
             level: name.level,
             name: name.level,

@@ -3,7 +3,7 @@
 use mathlib.Core.Path.{_≡_, refl, ap}
 use mathlib.Core.Bool.{true}
 use mathlib.Core.List.{List}
-use Prim.Native.Nat.{ℕ, _+_, _-_, _%_, _≤_}
+use Prim.Native.Nat.{ℕ, _+_, _-_, _*_, _%_, _≤_, _<_}
 use native.Mathlib.Omega.{arith}
 use lib.Dec.{leb, eqb}
 use lib.ListN.{length}
@@ -55,6 +55,10 @@ pub laid : (s : List ℕ) → tailIsRight s ≡ true → countsAreRight (layoutO
 laid s h few =
     let t = tail-is s h in
     record { same = refl; few = few; touching = omega arith; whole = omega arith }
+
+-- the bytes of a name lie in the file
+pub name-within : {s : List ℕ} {c : Script} {x : ℕ} → Laid s c → x < c .names → 4 * x + 4 ≤ length s
+name-within l h = omega (arith, h, l .touching, l .whole)
 
 -- the counts of a file that is laid out
 module _ {s : List ℕ} {c : Script} (laid : Laid s c) where

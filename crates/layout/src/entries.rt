@@ -1,7 +1,7 @@
 // Names, and the parts, which are the expressions and then the nodes.
 use crate::Script;
 ghost use mathlib.Core.Path.{_≡_};
-ghost use Prim.Native.Nat.{_+_, _<_, _≤_};
+ghost use Prim.Native.Nat.{_+_, _*_, _<_, _≤_};
 ghost use lib.ListN.{length};
 ghost use Rattle.layout.specs.Layout.{wordAt, Laid};
 ghost use Rattle.layout.specs.Entries.{nameOf, partOf};
@@ -37,8 +37,8 @@ pub fn word_at(s: &[u8], i: usize) -> usize
     prelude::word_of(s[i], s[i + 1]) as usize
 }
 
-pub fn name_at(s: &[u8], c: Script, x: usize) -> Name
-    requires { ⌜ Laid (now s) c × (x < c .names) ⌝ }
+pub fn name_at(s: &[u8], x: usize) -> Name
+    requires { ⌜ 4 * x + 4 ≤ length (now s) ⌝ }
     ensures { λ r. ⌜ r ≡ nameOf (now (s .entry)) x ⌝ }
 {
     let at = 4 * x;

@@ -4,23 +4,26 @@ use mathlib.Core.List.{List}
 use Prim.Native.Nat.{ℕ, _+_, _<_}
 use native.Mathlib.Omega.{arith}
 use Rattle.book.specs.declared.Book.{Book}
-use Rattle.book.specs.LevelBook.{mostLevels}
 use Rattle.layout.specs.declared.Script.{Script}
 use Rattle.layout.specs.declared.entries.Part.{Part}
-use Rattle.layout.specs.Layout.{nodeCount, Laid}
-use Rattle.layout.specs.Entries.{nameOf, partOf, node}
-use Rattle.layout.proofs.Layouts.{names-are, expressions-are}
+use Rattle.layout.specs.Layout.{nameCount, nodeCount, Laid}
+use Rattle.layout.specs.Entries.{partOf, node}
+use Rattle.layout.proofs.Layouts.{name-within, names-are, expressions-are}
 use Rattle.reach.specs.Checked.{Checked}
-use Rattle.plan.specs.Plan.{CanPlan}
+use Rattle.plan.specs.Plan.{CanPlan, CanPackName}
 use Rattle.tree.proofs.Views.{NodeView, aNil, anAssign, aLet, anIf, aWhile, aSequence, anEmit, aLocal, aWatching, aWhen, aParallel, node-view}
 
 -- a name has a level of the book, and is a register or a signal
 module _ {s : List ℕ} {c : Script} {b : Book} {reader : ℕ} (x : ℕ) where
-  pub name-level : CanPlan s c b reader × (x < c .names) → nameOf s x .level < mostLevels
-  name-level (can, h) = omega (arith, can .levelled x (omega (arith, h, names-are (can .laid))), can .levels)
-
-  pub name-kind : CanPlan s c b reader × (x < c .names) → nameOf s x .kind < 2
-  name-kind (can, h) = omega (arith, can .checked .kinds x (omega (arith, h, names-are (can .laid))))
+  pub name-known : CanPlan s c b reader → x < c .names → CanPackName s reader x
+  name-known can h =
+      let known : x < nameCount s = omega (arith, h, names-are (can .laid)) in
+      record {
+        within = name-within (can .laid) h;
+        kind = omega (arith, can .checked .kinds x known);
+        named = omega (arith, can .levelled x known, can .levels);
+        reader = omega (arith, can .reader, can .levels);
+      }
 
 -- a part after the expressions is a node
 pub node-read :

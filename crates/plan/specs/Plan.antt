@@ -32,6 +32,13 @@ pub record CanPlan (s : List ℕ) (c : Script) (b : Book) (level : ℕ) : Type 0
 abbrev pub seesIn : Book → List ℕ → ℕ → ℕ → Bool
 seesIn b s reader x = atOrBelow (b .rows) (nameOf s x .level) reader
 
+-- name x of a file lies in it, is a register or a signal, and has a level that a book may have, as the reader has
+pub record CanPackName (s : List ℕ) (level x : ℕ) : Type 0 where
+  pub within : 4 * x + 4 ≤ length s
+  pub kind : nameOf s x .kind < 2
+  pub named : nameOf s x .level < mostLevels
+  pub reader : level < mostLevels
+
 -- the word of name x
 pub record NamePacked (s : List ℕ) (sees : ℕ → Bool) (x w : ℕ) : Type 0 where
   pub level : levelIn w ≡ nameOf s x .level

@@ -9,7 +9,7 @@ ghost use Prim.Native.Nat.{_<_};
 ghost use lib.Dec.{leb};
 ghost use mathlib.Core.Bool.{cond};
 ghost use Rattle.layout.specs.Layout.{mostNodes, Laid};
-ghost use Rattle.plan.specs.Plan.{CanPlan, seesIn, NamePacked, ExpressionPacked, NodePacked, Keeps, CanPack, watchesBefore, watchesBy, ProgramOf};
+ghost use Rattle.plan.specs.Plan.{CanPlan, seesIn, CanPackName, NamePacked, ExpressionPacked, NodePacked, Keeps, CanPack, watchesBefore, watchesBy, ProgramOf};
 
 // The kind of a watching.
 const WATCHING: usize = 8;
@@ -87,11 +87,11 @@ fn expression_word(s: &[u8], c: Script, e: usize) -> usize
 
 // The word of name x. The reader sees a name at or below its level: others make no line, so that nothing of them shows in
 // the log.
-fn name_word(s: &[u8], c: Script, b: Book, reader: usize, x: usize) -> usize
-    requires { ⌜ CanPlan (now s) c b reader × (x < c .names) ⌝ }
+fn name_word(s: &[u8], b: Book, reader: usize, x: usize) -> usize
+    requires { ⌜ CanPackName (now s) reader x ⌝ }
     ensures { λ r. ⌜ NamePacked (now (s .entry)) (seesIn b (now (s .entry)) reader) x r ⌝ }
 {
-    let n = layout::entries::name_at(s, c, x);
+    let n = layout::entries::name_at(s, x);
     let seen = book::at_or_below(b, n.level, reader);
     packing::pack_name(n.level, n.kind, n.owner == layout::entries::SESSION, seen)
 }
@@ -105,7 +105,7 @@ fn find_names(s: &[u8], c: Script, b: Book, reader: usize) -> [usize; WORDS]
     let n = c.names;
     let mut x: usize = 0;
     while x < n {
-        words[program::NAMES + x] = name_word(s, c, b, reader, x);
+        words[program::NAMES + x] = name_word(s, b, reader, x);
         x += 1;
     }
     words

@@ -46,7 +46,7 @@ fn session_names(s: &[u8], c: Script) -> u64
     let mut set: u64 = 0;
     let mut x: usize = 0;
     while x < n {
-        let name = name_at(s, c, x);
+        let name = name_at(s, x);
         if name.owner == SESSION {
             set = with_name(set, x);
         }

@@ -12,10 +12,10 @@ use Rattle.call.proofs.first_wrong.Statement.{statement}
 use Rattle.call.proofs.first_wrong.Tie as tie
 
 abbrev Inv-loop : tie.InvT-loop
-Inv-loop s c values n x₀ x = (x ≤ n) × NoneBelow (λ y. not (valueIsRight s values y)) x
+Inv-loop s values n x₀ x = (x ≤ n) × NoneBelow (λ y. not (valueIsRight s values y)) x
 
 abbrev μ-loop : tie.MeasureT-loop
-μ-loop s c values n x₀ x = n - x
+μ-loop s values n x₀ x = n - x
 
 loop-holds : tie.Need-loop-holds Inv-loop μ-loop
 loop-holds c = (search needs, below-none _)

@@ -7,15 +7,16 @@ use Rattle.layout.specs.Layout.{mostNames}
 use Rattle.layout.proofs.Layouts.{few-bounds}
 use Rattle.plan.specs.Plan.{seesIn, Keeps}
 use Rattle.plan.proofs.Plans.{name-more}
+use Rattle.plan.proofs.Reading.{name-known}
 use borrow.Author.Needs.{needs, fits-under}
 use Rattle.plan.proofs.find_names.Statement.{statement}
 use Rattle.plan.proofs.find_names.Tie as tie
 
 abbrev Inv-loop : tie.InvT-loop
-Inv-loop s c b reader words₀ n x₀ words x = (x ≤ n) × Keeps s (seesIn b s reader) x 0 0 words
+Inv-loop s b reader words₀ n x₀ words x = (x ≤ n) × Keeps s (seesIn b s reader) x 0 0 words
 
 abbrev μ-loop : tie.MeasureT-loop
-μ-loop s c b reader words₀ n x₀ words x = n - x
+μ-loop s b reader words₀ n x₀ words x = n - x
 
 loop-holds : tie.Need-loop-holds Inv-loop μ-loop
 loop-holds c = (
@@ -24,7 +25,8 @@ loop-holds c = (
 )
 
 name-word-requires : tie.Need-name-word-requires Inv-loop μ-loop
-name-word-requires c κs = search needs
+name-word-requires c κs =
+    name-known (c .before .loop .x) (c .before .before .before .pre) (c .loop-test .taken)
 
 inside : (c : tie.After-name-word Inv-loop μ-loop) → c .before .before .loop .x < mostNames
 inside c =

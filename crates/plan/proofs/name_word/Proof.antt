@@ -4,7 +4,6 @@ use Prim.Native.Nat.{_<_}
 use native.Mathlib.Omega.{arith}
 use Rattle.book.specs.LevelBook.{mostLevels, atOrBelow}
 use Rattle.plan.proofs.Plans.{name-packed}
-use Rattle.plan.proofs.Reading.{name-level, name-kind}
 use borrow.Author.Needs.{needs}
 use Rattle.plan.proofs.name_word.Statement.{statement}
 use Rattle.plan.proofs.name_word.Tie as tie
@@ -14,10 +13,10 @@ name-at-requires c κs = search needs
 
 -- the entry that was read has a level of the book, and is a register or a signal
 level : (c : tie.After-name-at) → c .name-at .result .level < mostLevels
-level c = omega (arith, ap (λ n. n .level) (c .name-at .ensures), name-level _ (c .before .before .pre))
+level c = omega (arith, ap (λ n. n .level) (c .name-at .ensures), c .before .before .pre .named)
 
 kind : (c : tie.After-name-at) → c .name-at .result .kind < 2
-kind c = omega (arith, ap (λ n. n .kind) (c .name-at .ensures), name-kind _ (c .before .before .pre))
+kind c = omega (arith, ap (λ n. n .kind) (c .name-at .ensures), c .before .before .pre .kind)
 
 at-or-below-requires : tie.Need-at-or-below-requires
 at-or-below-requires c κs = (omega (arith, level c), omega (arith, level c))

@@ -15,10 +15,10 @@ use Rattle.reach.proofs.session_names.Statement.{statement}
 use Rattle.reach.proofs.session_names.Tie as tie
 
 abbrev Inv-loop : tie.InvT-loop
-Inv-loop s c n set₀ x₀ set x = (x ≤ n) × IsSet mostNames (upTo x (isSession s)) set
+Inv-loop s n set₀ x₀ set x = (x ≤ n) × IsSet mostNames (upTo x (isSession s)) set
 
 abbrev μ-loop : tie.MeasureT-loop
-μ-loop s c n set₀ x₀ set x = n - x
+μ-loop s n set₀ x₀ set x = n - x
 
 loop-holds : tie.Need-loop-holds Inv-loop μ-loop
 loop-holds c = (search needs, collect-none _ _)

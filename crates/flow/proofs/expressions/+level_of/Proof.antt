@@ -10,6 +10,7 @@ use Rattle.flow.proofs.expressions.level_of.Reads as level-of
 use Rattle.flow.proofs.expressions.level_of.Kinds as level-of-kinds
 use Rattle.flow.proofs.expressions.+level_of.Lts-level_of as level-of-lts
 use Rattle.table.proofs.level_at.Reads as level-at-reads
+use Rattle.layout.proofs.Layouts.{name-within}
 use Rattle.layout.proofs.entries.name_at.Reads as name-at-reads
 use Rattle.layout.proofs.entries.part_at.Reads as part-at-reads
 use Rattle.flow.proofs.expressions.+level_of.{statement}
@@ -61,7 +62,7 @@ level-of-returns t c l h =
 
 level-of-name-at-requires : (t : ℕ) → level-of-lts.Need-name-at-requires (R t) (level-of-at t) level-of.Post
 level-of-name-at-requires t c κs =
-    let known = some-read t ((c .before .before .before .before)) in (known .ready .laid, register-known known (c .if2 .taken))
+    let known = some-read t ((c .before .before .before .before)) in name-within (known .ready .laid) (register-known known (c .if2 .taken))
 
 level-of-returns-2 : (t : ℕ) → level-of-lts.Need-returns-2 (R t) (level-of-at t) level-of.Post
 level-of-returns-2 t c l h = at-register (read t ((c .before .before .before .before .before)) l h) (c .before .if2 .taken) (c .name-at .ensures)

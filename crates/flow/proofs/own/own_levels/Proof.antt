@@ -4,6 +4,7 @@ use mathlib.Core.Bool.{true, false}
 use Rattle.levels.specs.Kinds.{hasValue, hasCondition, hasSignal}
 use Rattle.levels.specs.Nodes.{brings}
 use Rattle.flow.specs.Flow.{OwnOf}
+use Rattle.layout.proofs.Layouts.{name-within}
 use Rattle.flow.proofs.OwnViews.{value-known, value-brings, condition-known, condition-brings, signal-known, signal-brings, nothing-brings}
 use Rattle.flow.proofs.own.own_levels.Statement.{statement}
 use Rattle.flow.proofs.own.own_levels.Tie as tie
@@ -29,7 +30,7 @@ is-either-requires c κs = tt
 
 name-at-requires : tie.Need-name-at-requires
 name-at-requires c κs =
-    let ready = c .before .before .before .pre .0 .1 .ready in (ready .laid, value-known ready (c .before .before .before .pre .1) (value (c)) .0)
+    let ready = c .before .before .before .pre .0 .1 .ready in name-within (ready .laid) (value-known ready (c .before .before .before .pre .1) (value (c)) .0)
 
 level-of-requires : tie.Need-level-of-requires
 level-of-requires c κs = (c .before .before .before .before .pre .0, value-known (c .before .before .before .before .pre .0 .1 .ready) (c .before .before .before .before .pre .1) (value ((c .before))) .1)
@@ -57,10 +58,9 @@ has-signal-requires c κs = tt
 
 name-at-requires-2 : tie.Need-name-at-requires-2
 name-at-requires-2 c κs =
-    let ready = c .before .before .before .before .before .before .before .pre .0 .1 .ready in (
-      ready .laid,
-      signal-known ready (c .before .before .before .before .before .before .before .pre .1) (no-value ((c .before .before .before .before))) (no-condition ((c .before .before))) (signal (c)),
-    )
+    let ready = c .before .before .before .before .before .before .before .pre .0 .1 .ready in
+    name-within (ready .laid)
+    (signal-known ready (c .before .before .before .before .before .before .before .pre .1) (no-value ((c .before .before .before .before))) (no-condition ((c .before .before))) (signal (c)))
 
 returns-3 : tie.Need-returns-3
 returns-3 c l h =
