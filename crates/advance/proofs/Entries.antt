@@ -18,11 +18,11 @@ use Rattle.program.specs.declared.forms.Front.{Front}
 use Rattle.program.specs.Forms.{nothing, itself, frontOf, partIn}
 use Rattle.program.proofs.Fronts.{front-form}
 use Rattle.residual.specs.Residual.{own}
-use Rattle.residual.specs.Nodes.{left}
+use Rattle.residual.specs.Nodes.{left, inFront}
 use Rattle.residual.proofs.Sights.{Sight, sees-nothing, sees-itself, sees-alone, sees-before, sees-watched, sees-guarded, sees-beside}
 use Rattle.moves.specs.Contracts.{isWriter, IsWriter}
 use Rattle.moves.proofs.OwnMoves.{writer-is}
-use Rattle.advance.specs.Contracts.{inFront, ownNext, Leads, ownMove, Follows}
+use Rattle.advance.specs.Contracts.{ownNext, Leads, ownMove, Follows}
 
 nil-seen :
     {words : List ℕ} {k : ℕ} {st : List ℕ} {f : Front} → Sight words k st f → f .form ≡ nothing →

@@ -12,7 +12,7 @@ use Rattle.prelude.proofs.Bools.{by-cases}
 use Rattle.program.specs.Program.{seenBy}
 use Rattle.program.specs.declared.forms.Front.{Front}
 use Rattle.program.specs.Forms.{itself, before, partIn}
-use Rattle.residual.specs.Nodes.{At, NodeIn, left}
+use Rattle.residual.specs.Nodes.{At, NodeIn, left, inFront}
 use Rattle.instants.proofs.Deciding.{Found, Part, sees, front-part}
 use Rattle.moves.specs.declared.counts.Counts.{Counts}
 use Rattle.moves.specs.declared.counts.Reason.{Reason}
@@ -22,7 +22,7 @@ use Rattle.moves.specs.declared.counts.Moved.the-variants.{Again, Rests}
 use Rattle.moves.specs.Moves.{Running, Ends, Comes}
 use Rattle.moves.specs.Contracts.{Counted, nodeAt, runningWith}
 use Rattle.moves.proofs.Advancing.{path-time}
-use Rattle.advance.specs.Contracts.{inFront, itselfOf, Stands, Ahead, Leads, ownMove, partAhead, PartEnds, PartCame, LeftBy, Leaves}
+use Rattle.advance.specs.Contracts.{itselfOf, Stands, Ahead, Leads, ownMove, partAhead, PartEnds, PartCame, LeftBy, Leaves}
 use Rattle.advance.proofs.Entries.{writer-itself}
 use Rattle.advance.proofs.Places.{mid-whole, put-whole, stays-alone}
 use Rattle.advance.proofs.Turning.{Going, going, reached, put-back, length-kept, front-kept, path-in, stays-open, spent-in, full-in, StopsAs, settled}

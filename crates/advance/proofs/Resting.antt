@@ -8,15 +8,15 @@ use native.Mathlib.Decide.{decLt}
 use native.Mathlib.Nat.{le-antisymm}
 use native.Mathlib.Omega.{arith}
 use lib.IntN.{ℤ}
-use lib.ListN.{length, set}
+use lib.ListN.{set}
 use borrow.Author.Tests.{le-leb, lt-leb}
 use Rattle.language.specs.Syntax.{Proc, parallel, isNil}
 use Rattle.language.specs.Steps.{present, suspended}
 use Rattle.program.specs.declared.forms.Front.{Front}
-use Rattle.program.specs.Forms.{before, guarded, beside, frontOf, partIn}
+use Rattle.program.specs.Forms.{before, guarded, beside, partIn}
 use Rattle.residual.specs.Residual.{own}
 use Rattle.residual.specs.Frames.{besideThe}
-use Rattle.residual.specs.Nodes.{left}
+use Rattle.residual.specs.Nodes.{inRear, left}
 use Rattle.residual.proofs.Sights.{signalAt, Inside, Sight, sees-nothing, sees-itself, sees-alone, sees-before, sees-watched, sees-guarded, sees-beside, part-set}
 use Rattle.instants.specs.Contracts.{RearWaits}
 use Rattle.moves.specs.declared.counts.Counts.{Counts}
@@ -36,7 +36,7 @@ module _ (words : List ℕ) (k : ℕ) (st : List ℕ) (f : Front) (vs : List ℤ
 
   -- the part behind
   rear :
-      {w : Bool} (g : Front) → g ≡ frontOf words k (1 - own st) (length st) → beside ≤ f .form →
+      {w : Bool} (g : Front) → g ≡ inRear words k st → beside ≤ f .form →
       RearWaits words k st vs (f .form) w → suspended (left words (g .child) (partIn g st)) vs ≡ w
   rear g q h p = ap (λ (x : Front). suspended (left words (x .child) (partIn x st)) vs) q ∙ sym (p .other h)
 

@@ -14,7 +14,7 @@ use Rattle.program.specs.declared.forms.Front.{Front}
 use Rattle.program.specs.Forms.{itself, guarded, partIn}
 use Rattle.residual.specs.Residual.{own}
 use Rattle.residual.specs.Frames.{Frame, alone, beforeThe, watchedBy, guardedBy, besideThe, Open}
-use Rattle.residual.specs.Nodes.{Valued, At, left}
+use Rattle.residual.specs.Nodes.{Valued, At, left, inFront}
 use Rattle.residual.proofs.Sights.{signalAt, Inside, Sight, sees-nothing, sees-itself, sees-alone, sees-before, sees-watched, sees-guarded, sees-beside, own-put, length-put, part-put}
 use Rattle.moves.specs.declared.counts.Counts.{Counts}
 use Rattle.moves.specs.declared.counts.Reason.{Reason}
@@ -24,7 +24,7 @@ use Rattle.moves.specs.Moves.{Running, Path, stays, IsSpent, IsFull, Ends, Come
 use Rattle.moves.specs.Contracts.{runningWith, nodeAt}
 use Rattle.moves.proofs.Framing.{joined, open-path, lift, spent-around, full-around}
 use Rattle.moves.proofs.Advancing.{goes-silently, comes-on}
-use Rattle.advance.specs.Contracts.{inFront, EndsWith, Settles, restsOn, atLimit, makesMove}
+use Rattle.advance.specs.Contracts.{EndsWith, Settles, restsOn, atLimit, makesMove}
 
 -- the bytes with those of the part put back
 abbrev pub reached : Front → List ℕ → List ℕ → List ℕ

@@ -10,9 +10,9 @@ use Rattle.language.specs.Syntax.{Proc, isNil}
 use Rattle.language.specs.Steps.{present, suspended}
 use Rattle.program.specs.Program.{kindAt, aAt}
 use Rattle.program.specs.declared.forms.Front.{Front}
-use Rattle.program.specs.Forms.{over, itself, before, watched, guarded, frontOf, partIn}
+use Rattle.program.specs.Forms.{over, itself, before, watched, guarded, partIn}
 use Rattle.residual.specs.Residual.{own}
-use Rattle.residual.specs.Nodes.{NodeIn, left}
+use Rattle.residual.specs.Nodes.{NodeIn, inFront, left}
 use Rattle.moves.specs.declared.counts.Counts.{Counts}
 use Rattle.moves.specs.declared.counts.Reason.{Reason}
 use Rattle.moves.specs.declared.counts.Reason.the-variants.{Nil, Suspended, Spent, Full}
@@ -26,10 +26,7 @@ use Rattle.advance.specs.declared.next.Next.the-variants.{Rests, Inside,
 use Rattle.advance.specs.declared.Turned.{Turned}
 use Rattle.advance.specs.declared.Turned.the-variants as turn
 
--- the part in front of node k, and what is left of it
-abbrev pub inFront : List ℕ → ℕ → List ℕ → Front
-inFront words k st = frontOf words k (own st) (length st)
-
+-- what is left of the part in front of node k
 abbrev pub frontLeft : List ℕ → ℕ → List ℕ → Proc ℕ
 frontLeft words k st = left words (inFront words k st .child) (partIn (inFront words k st) st)
 

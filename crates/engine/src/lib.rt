@@ -42,12 +42,12 @@ fn run_checked(
     let program = plan::find_plan(s, c, b, reader);
     let mut state = [0u8; Script::MAX_NODES];
     let n = c.nodes;
+    let most = limit as usize;
     let from = Counts {
         steps: 0,
         instants: 0,
         lines: 0,
     };
-    let most = limit as usize;
     let r = runner::run(&program, values, &mut state[0..n], log, most, from);
     instants::clear_owned(&program, values);
     r

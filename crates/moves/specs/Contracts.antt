@@ -12,9 +12,9 @@ use Rattle.language.specs.Syntax.{Proc, nil}
 use Rattle.language.specs.Steps.{move}
 use Rattle.language.specs.Calls.{Line, System, lineFor, calledFor}
 use Rattle.program.specs.Program.{mostNames, nodeCount, kindAt, aAt, seenBy}
-use Rattle.program.specs.Forms.{itself, frontOf}
+use Rattle.program.specs.Forms.{itself}
 use Rattle.residual.specs.Residual.{own}
-use Rattle.residual.specs.Nodes.{Valued, At, left}
+use Rattle.residual.specs.Nodes.{Valued, At, inFront, left}
 use Rattle.moves.specs.declared.log.Noted.{Noted}
 use Rattle.moves.specs.declared.counts.Counts.{Counts}
 use Rattle.moves.specs.declared.counts.Moved.{Moved}
@@ -69,7 +69,7 @@ pub record CanMove
 pub record CanMoveItself
     (words : List ℕ) (k : ℕ) (st : List ℕ) (values : List ℤ) (log : List ℕ) (limit : ℕ) (at : Counts) : Type 0 where
   pub can : CanMove words k st values log limit at
-  pub form : frontOf words k (own st) (length st) .form ≡ itself
+  pub form : inFront words k st .form ≡ itself
 
 -- a process with the values, the log and what has been counted, as the definitions see it; node k with its bytes
 abbrev pub runningWith : Proc ℕ → List ℤ → List ℕ → Counts → Running ℕ

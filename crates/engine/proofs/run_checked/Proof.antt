@@ -1,6 +1,6 @@
 -- `run_checked`: the program of the script, a clear state, and owned names given back.
 use mathlib.Core.Path.{_≡_, sym, ap, _∙_}
-use Prim.Native.Nat.{ℕ, _-_, _≤_, zero-le}
+use Prim.Native.Nat.{ℕ, _-_, _≤_}
 use native.Mathlib.Omega.{arith}
 use native.Mathlib.Nat.{sub-zero}
 use denote.Ref.{now}
@@ -53,7 +53,7 @@ run-requires c κs =
                 ∙ length-replicate (nodeCount (c .before .before .before .before .find-plan .result)) 0
                 ∙ sym (p .runnable .whole);
           };
-      counted = record { time = zero-le; most = pre .most; instants = zero-le; space = omega arith };
+      counted = record { time = omega arith; most = pre .most; instants = omega arith; space = omega arith };
     }
 
 clear-owned-requires : tie.Need-clear-owned-requires

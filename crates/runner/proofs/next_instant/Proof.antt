@@ -34,9 +34,9 @@ returns c =
     record {
       process =
           (ap (λ k. left (a .program .now) k (r .last .1 .1 .0)) (sym (c .before .before .before .before .before .before .before .root-of .ensures))
-          ∙ r .ensures .0
+          ∙ r .ensures .process
           ∙ ap (λ k. change (left (a .program .now) k (a .state .now)) (a .values .now)) (c .before .before .before .before .before .before .before .root-of .ensures)) i;
-      values = r .ensures .1 i;
+      values = r .ensures .values i;
       log = log;
       steps = (ap (λ (x : Counts). x .steps) (c .after-changes .ensures) ∙ add-one (a .at .steps)) i;
       instants = (ap (λ (x : Counts). x .instants) (c .after-changes .ensures) ∙ add-one (a .at .instants)) i;

@@ -7,13 +7,13 @@ use native.Mathlib.Omega.{arith}
 use denote.Ref.{now}
 use mathlib.Core.List.{List}
 use Rattle.program.specs.Forms.{before, beside}
-use Rattle.residual.specs.Nodes.{left}
+use Rattle.residual.specs.Nodes.{left, inFront}
 use Rattle.residual.proofs.Residuals.{some-bytes}
 use Rattle.instants.specs.Contracts.{RearWaits}
 use Rattle.instants.proofs.Deciding.{Found, sees, waiting-front}
 use Rattle.moves.specs.declared.counts.Moved.{Moved}
 use Rattle.residual.specs.Residual.{own}
-use Rattle.advance.specs.Contracts.{Byte, PartEnds, EndsWith, inFront, PartCame, PartRests, Settles, restsOn, LeftBy, Leaves}
+use Rattle.advance.specs.Contracts.{Byte, PartEnds, EndsWith, PartCame, PartRests, Settles, restsOn, LeftBy, Leaves}
 use Rattle.advance.proofs.Resting.{drops, trades, byte-bound, settles}
 use borrow.Author.Needs.{needs}
 use Rattle.advance.proofs.around.leave.Statement.{statement}
@@ -99,7 +99,7 @@ enum-told-3 c = search needs
 
 rear-waits-requires : tie.Need-rear-waits-requires
 rear-waits-requires c κs =
-    let pre = c .before .before .before .before .before .before .before .before .pre in record { valued = pre .node .valued; node = pre .node .node; form = rested (c .before .before .before .before) .form-is }
+    let pre = c .before .before .before .before .before .before .before .before .pre in record { at = pre .node; form = rested (c .before .before .before .before) .form-is }
 
 same-length : tie.Need-same-length
 same-length c = search needs

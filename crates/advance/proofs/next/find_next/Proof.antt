@@ -9,10 +9,11 @@ use Rattle.language.specs.Steps.{present}
 use Rattle.program.specs.declared.forms.Front.{Front}
 use Rattle.program.specs.Forms.{itself, before, guarded}
 use Rattle.program.proofs.Fronts.{front-form}
+use Rattle.residual.specs.Nodes.{inFront}
 use Rattle.residual.proofs.Residuals.{some-bytes}
 use Rattle.residual.proofs.Sights.{signalAt, part-length}
 use Rattle.instants.proofs.Deciding.{Found, Part, sees, front-part, signal-known, shuts}
-use Rattle.advance.specs.Contracts.{inFront, Follows, partAhead}
+use Rattle.advance.specs.Contracts.{Follows, partAhead}
 use Rattle.advance.proofs.Entries.{own-follows, own-part, writes-both}
 use borrow.Author.Needs.{needs}
 use Rattle.advance.proofs.next.find_next.Statement.{statement}
