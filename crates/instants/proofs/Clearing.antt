@@ -1,6 +1,5 @@
 -- A loop that gives the names new values, one after the other: those of the names before x are new, the others are as
 -- they were.
--- Assumes nothing.
 use mathlib.Core.Path.{_≡_, refl, sym, ap, _∙_, subst}
 use mathlib.Core.List.{List}
 use Prim.Native.Nat.{ℕ, _+_, _≤_, _<_}

@@ -1,5 +1,4 @@
 -- The example, computed.
--- Assumes nothing.
 use mathlib.Core.Path.{refl}
 use Rattle.prelude.specs.Course.{course, entry}
 use Rattle.program.specs.Program.{processOf}

@@ -1,6 +1,5 @@
 -- What is left of a process by its bytes: cleared bytes are the process as it is written, and what is left of a process
 -- leaves alone what the process does.
--- Assumes nothing.
 use mathlib.Core.Path.{_≡_, refl, ap, ap₂, _∙_}
 use mathlib.Core.Bool.{true, not}
 use mathlib.Core.List.{List, [], _∷_}

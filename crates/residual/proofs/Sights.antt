@@ -1,5 +1,4 @@
 -- What the bytes of a node say of it: its form, and what is left of it by what is left of the part in front.
--- Assumes nothing.
 use mathlib.Core.Path.{_≡_, refl, sym, ap, _∙_}
 use mathlib.Core.Bool.{true}
 use mathlib.Core.Logic.{_⊎_, inl, inr}

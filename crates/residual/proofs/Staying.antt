@@ -1,6 +1,5 @@
 -- What an instant change leaves as it is: what is left of a process in which every watching waits for a signal that is
 -- absent, and so of one without a watching.
--- Assumes nothing.
 use mathlib.Core.Path.{_≡_, refl, ap, ap₂}
 use mathlib.Core.Bool.{false, true≢false}
 use mathlib.Core.List.{List, [], _∷_}
