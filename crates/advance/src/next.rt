@@ -25,7 +25,7 @@ fn writes_next(program: &[usize; WORDS], k: usize, tag: u8) -> bool
     requires { ⌜ k < mostNodes ⌝ }
     ensures { λ r. ⌜ r ≡ (eqb tag 0 && isWriter (kindAt (now (program .entry)) k)) ⌝ }
 {
-    if tag != 0 {
+    if tag != forms::WRITTEN {
         return false;
     }
     moves::is_writer(program::kind_at(program, k))

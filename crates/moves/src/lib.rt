@@ -16,7 +16,7 @@ fn clear(state: &mut [u8])
 {
     let mut i: usize = 0;
     while i < state.len() {
-        state[i] = 0;
+        state[i] = forms::WRITTEN;
         i += 1;
     }
 }
@@ -26,7 +26,7 @@ fn clear_body(state: &mut [u8])
     ensures { λ _. ⌜ now (state .exit) ≡ replicate (length (now (state .entry))) 0 ⌝ }
 {
     if state.len() == 1 {
-        state[0] = 0;
+        state[0] = forms::WRITTEN;
         return;
     }
     clear(state);
@@ -40,7 +40,7 @@ fn move_let(program: &[usize; WORDS], values: &mut [i32], state: &mut [u8], k: u
     let x = program::a_at(program, k);
     let v = evaluation::value_of(program, values, program::b_at(program, k));
     values[x] = v;
-    state[0] = 1;
+    state[0] = forms::ENTERED;
 }
 
 // A local makes its signal absent and leaves its body.
@@ -50,7 +50,7 @@ fn move_local(program: &[usize; WORDS], values: &mut [i32], state: &mut [u8], k:
 {
     let a = program::a_at(program, k);
     values[a] = 0;
-    state[0] = 1;
+    state[0] = forms::ENTERED;
 }
 
 // An if leaves a branch.
@@ -59,9 +59,9 @@ fn move_if(program: &[usize; WORDS], values: &[i32], state: &mut [u8], k: usize)
     ensures { λ _. ⌜ MovesSilently (now (program .entry)) k (now (state .entry)) (now (values .entry)) (now (state .exit)) (now (values .entry)) ⌝ }
 {
     if evaluation::test_holds(program, values, program::a_at(program, k)) {
-        state[0] = 1;
+        state[0] = forms::ENTERED;
     } else {
-        state[0] = 2;
+        state[0] = forms::OTHERWISE;
     }
 }
 
@@ -71,7 +71,7 @@ fn move_while(program: &[usize; WORDS], values: &[i32], state: &mut [u8], k: usi
     ensures { λ _. ⌜ MovesSilently (now (program .entry)) k (now (state .entry)) (now (values .entry)) (now (state .exit)) (now (values .entry)) ⌝ }
 {
     if evaluation::test_holds(program, values, program::a_at(program, k)) {
-        state[0] = 1;
+        state[0] = forms::ENTERED;
         clear_body(&mut state[1..]);
     } else {
         state[0] = forms::OVER;

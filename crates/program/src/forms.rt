@@ -52,7 +52,14 @@ const PARALLEL: usize = (BESIDE as usize)
     + TWO * (FIRST as usize)
     + THREE * (SECOND as usize);
 
-// A byte past all forms: the node is nil.
+// A node's own byte: as it is written; entered, which for an if is its first branch; an if's second branch. Past all forms
+// the node is nil.
+pub const WRITTEN: u8 = 0;
+
+pub const ENTERED: u8 = 1;
+
+pub const OTHERWISE: u8 = 2;
+
 pub const OVER: u8 = 4;
 
 // The part in front: its node, and where its bytes stand among those of its parent.

@@ -13,10 +13,14 @@ use borrow.Author.Needs.{needs, fits-under}
 use Rattle.program.specs.Program.{seenBy}
 use Rattle.residual.proofs.Sights.{part-length}
 use Rattle.moves.specs.declared.counts.Moved.the-variants as moved
-use Rattle.moves.specs.Moves.{stays, Goes, Comes}
+use Rattle.moves.specs.Moves.{Running, stays, Comes}
 use Rattle.moves.specs.Contracts.{Counted, nodeAt}
 use Rattle.moves.proofs.Advancing.{path-time, counted-on, comes-on}
-use Rattle.advance.specs.Contracts.{Follows, StandsAlone, TurnMade}
+use Rattle.moves.specs.declared.counts.Counts.{Counts}
+use Rattle.moves.specs.declared.counts.Moved.{Moved}
+use Rattle.advance.specs.declared.Turned.{Turned}
+use Rattle.advance.specs.declared.Turned.the-variants as turned
+use Rattle.advance.specs.Contracts.{Follows, TurnMade}
 use Rattle.advance.proofs.Turning.{reached, begins, valued, in-room}
 use Rattle.advance.proofs.Places.{Placed, itself-placed, long, bytes-kept, comes-there, part-falls, part-placed, Here, here-on, here-inside}
 use Rattle.advance.proofs.Nexts.{stands-ends, Way, way, within, at-part, moves-next, falls-by, bytes-long, part-came, node-came}
@@ -86,23 +90,37 @@ turn-long :
     length (c .turn .last .1 .1 .0) ≡ c .before .before .before .before .loop .end - c .before .before .before .before .loop .start
 turn-long t c = c .turn .kept .1 .1 .0 ∙ long (c .before .before .before .before .loop .inv .placed)
 
+-- what the turn was, and what it made of the node
+abbrev turn-is :
+    (t : ℕ) (c : advance-lts.After-turn (R t) (advance-at t) advance.Post advance-Inv-loop advance-μ-loop) → Turned → Type 0
+turn-is t c =
+    let a = c .before .before .before .before .before .before .before .args in
+    let u = c .before .before .before .before .loop in
+    let r = c .turn in
+    TurnMade (now (a .program)) (a .limit) (u .node) (midOf (u .start) (u .end - u .start) (u .state)) (u .values) (u .log) (u .at)
+    (r .last .1 .1 .0) (r .last .1 .0) (r .last .1 .1 .1 .0)
+
+abbrev node-then :
+    (t : ℕ) (c : advance-lts.After-turn (R t) (advance-at t) advance.Post advance-Inv-loop advance-μ-loop) → Counts → Running ℕ
+node-then t c =
+    let a = c .before .before .before .before .before .before .before .args in
+    let u = c .before .before .before .before .loop in
+    let r = c .turn in
+    nodeAt (now (a .program)) (a .k) (putMid (u .start) (u .end - u .start) (u .state) (r .last .1 .1 .0)) (r .last .1 .0) (r .last .1 .1 .1 .0)
+
+abbrev node-made :
+    (t : ℕ) (c : advance-lts.After-turn (R t) (advance-at t) advance.Post advance-Inv-loop advance-μ-loop) → Moved → Type 0
+node-made t c =
+    let a = c .before .before .before .before .before .before .before .args in
+    let u = c .before .before .before .before .loop in
+    Comes (seenBy (now (a .program))) (a .limit) (length (u .log) / 4)
+    (nodeAt (now (a .program)) (a .k) (u .state) (u .values) (u .log) (u .at)) (node-then t c)
+
 -- one of its own parts takes its place ..
 inside :
     (t : ℕ) (c : advance-lts.After-r (R t) (advance-at t) advance.Post advance-Inv-loop advance-μ-loop) →
-    let a = c .before .before .before .before .before .before .before .before .before .before .before .before .before .before .args in
-    let u = c .before .before .before .before .before .before .before .before .before .before .before .loop in
-    let r = c .before .before .before .before .before .before .before .turn in
-    StandsAlone (now (a .program)) (u .node) (midOf (u .start) (u .end - u .start) (u .state)) (u .values) (u .log)
-    (r .last .1 .1 .0) (r .last .1 .0) (r .last .1 .1 .1 .0) (c .r .given .0 .0)
-inside t c =
-    let a = c .before .before .before .before .before .before .before .before .before .before .before .before .before .before .args in
-    let u = c .before .before .before .before .before .before .before .before .before .before .before .loop in
-    let r = c .before .before .before .before .before .before .before .turn in
-    subst
-    (TurnMade (now (a .program)) (a .limit) (u .node) (midOf (u .start) (u .end - u .start) (u .state)) (u .values) (u .log) (u .at)
-    (r .last .1 .1 .0) (r .last .1 .0) (r .last .1 .1 .1 .0))
-    (c .r .given .1)
-    (r .ensures)
+    turn-is t (c .before .before .before .before .before .before .before) (turned.Inside (c .r .given .0 .0))
+inside t c = subst (turn-is t (c .before .before .before .before .before .before .before)) (c .r .given .1) (c .before .before .before .before .before .before .before .turn .ensures)
 
 inside-placed :
     (t : ℕ) (c : advance-lts.After-r (R t) (advance-at t) advance.Post advance-Inv-loop advance-μ-loop) →
@@ -126,46 +144,18 @@ few-bytes t c =
 -- .. or this has become of the node
 made :
     (t : ℕ) (c : advance-lts.After-r2 (R t) (advance-at t) advance.Post advance-Inv-loop advance-μ-loop) →
-    let a = c .before .before .before .before .before .before .before .before .before .before .before .before .before .before .args in
-    let u = c .before .before .before .before .before .before .before .before .before .before .before .loop in
-    let r = c .before .before .before .before .before .before .before .turn in
-    Comes (seenBy (now (a .program))) (a .limit) (length (u .log) / 4)
-    (nodeAt (now (a .program)) (a .k) (u .state) (u .values) (u .log) (u .at))
-    (nodeAt (now (a .program)) (a .k) (putMid (u .start) (u .end - u .start) (u .state) (r .last .1 .1 .0)) (r .last .1 .0) (r .last .1 .1 .1 .0))
-    (c .r2 .given .0 .0)
+    node-made t (c .before .before .before .before .before .before .before) (c .r2 .given .0 .0)
 made t c =
-    let a = c .before .before .before .before .before .before .before .before .before .before .before .before .before .before .args in
     let u = c .before .before .before .before .before .before .before .before .before .before .before .loop in
     let r = c .before .before .before .before .before .before .before .turn in
-    comes-there (u .inv .placed) (r .last .1 .1 .0) (turn-long t (c .before .before .before .before .before .before .before))
-    (seenBy (now (a .program))) (a .limit) (length (u .log) / 4) (u .values) (u .log) (u .at) (r .last .1 .0) (r .last .1 .1 .1 .0) (c .r2 .given .0 .0)
-    (subst
-    (TurnMade (now (a .program)) (a .limit) (u .node) (midOf (u .start) (u .end - u .start) (u .state)) (u .values) (u .log) (u .at)
-    (r .last .1 .1 .0) (r .last .1 .0) (r .last .1 .1 .1 .0))
-    (c .r2 .given .1)
-    (r .ensures))
+    comes-there (u .inv .placed) (r .last .1 .1 .0) (turn-long t (c .before .before .before .before .before .before .before)) _ _ _ (u .values) (u .log) (u .at) (r .last .1 .0)
+    (r .last .1 .1 .1 .0) (c .r2 .given .0 .0) (subst (turn-is t (c .before .before .before .before .before .before .before)) (c .r2 .given .1) (r .ensures))
 
 -- it may go on
 goes :
     (t : ℕ) (c : advance-lts.After-m (R t) (advance-at t) advance.Post advance-Inv-loop advance-μ-loop) →
-    let a = c .before .before .before .before .before .before .before .before .before .before .before .before .before .before .before .before .before .args in
-    let u = c .before .before .before .before .before .before .before .before .before .before .before .before .before .before .loop in
-    let r = c .before .before .before .before .before .before .before .before .before .before .turn in
-    Goes (seenBy (now (a .program))) (a .limit) (length (u .log) / 4)
-    (nodeAt (now (a .program)) (a .k) (u .state) (u .values) (u .log) (u .at))
-    (nodeAt (now (a .program)) (a .k) (putMid (u .start) (u .end - u .start) (u .state) (r .last .1 .1 .0)) (r .last .1 .0)
-    (r .last .1 .1 .1 .0) (c .m .given .0 .0))
-goes t c =
-    let a = c .before .before .before .before .before .before .before .before .before .before .before .before .before .before .before .before .before .args in
-    let u = c .before .before .before .before .before .before .before .before .before .before .before .before .before .before .loop in
-    let r = c .before .before .before .before .before .before .before .before .before .before .turn in
-    subst
-    (Comes (seenBy (now (a .program))) (a .limit) (length (u .log) / 4)
-    (nodeAt (now (a .program)) (a .k) (u .state) (u .values) (u .log) (u .at))
-    (nodeAt (now (a .program)) (a .k) (putMid (u .start) (u .end - u .start) (u .state) (r .last .1 .1 .0)) (r .last .1 .0)
-    (r .last .1 .1 .1 .0)))
-    (c .m .given .1)
-    (made t (c .before .before .before))
+    node-made t (c .before .before .before .before .before .before .before .before .before .before) (moved.Again (c .m .given .0 .0))
+goes t c = subst (node-made t (c .before .before .before .before .before .before .before .before .before .before)) (c .m .given .1) (made t (c .before .before .before))
 
 advance-loop-holds : (t : ℕ) → advance-lts.Need-loop-holds (R t) (advance-at t) advance.Post advance-Inv-loop advance-μ-loop
 advance-loop-holds t c = record { come = begins; placed = itself-placed _ _ _ (c .before .before .pre .1 .node) }
@@ -246,15 +236,12 @@ advance-same-length-3 t c = c .before .before .before .before .before .before .b
 advance-returns : (t : ℕ) → advance-lts.Need-returns (R t) (advance-at t) advance.Post advance-Inv-loop advance-μ-loop
 advance-returns t c =
     let a = c .before .before .before .before .before .before .before .before .before .before .before .before .before .before .before .before .before .before .args in
-    let u = c .before .before .before .before .before .before .before .before .before .before .before .before .before .before .before .loop in
-    let r = c .before .before .before .before .before .before .before .before .before .before .before .turn in
-    let to = nodeAt (now (a .program)) (a .k) (putMid (u .start) (u .end - u .start) (u .state) (r .last .1 .1 .0)) (r .last .1 .0) (r .last .1 .1 .1 .0) in
+    let come = c .before .before .before .before .before .before .before .before .before .before .before .before .before .before .before .loop .inv .come in
     subst
-    (λ m.
-    Comes (seenBy (now (a .program))) (a .limit) (length (now (a .log)) / 4)
-    (nodeAt (now (a .program)) (a .k) (now (a .state)) (now (a .values)) (now (a .log)) (a .from)) to m)
+    (Comes (seenBy (now (a .program))) (a .limit) (length (now (a .log)) / 4)
+    (nodeAt (now (a .program)) (a .k) (now (a .state)) (now (a .values)) (now (a .log)) (a .from)) (node-then t (c .before .before .before .before .before .before .before .before .before .before .before)))
     (c .before .m2 .given .1)
-    (comes-on to (c .before .before .before .before .r2 .given .0 .0) (u .inv .come .path) (in-room (u .inv .come) to (c .before .before .before .before .r2 .given .0 .0) (made t (c .before .before .before .before))))
+    (comes-on (node-then t (c .before .before .before .before .before .before .before .before .before .before .before)) (c .before .before .before .before .r2 .given .0 .0) (come .path) (in-room come (node-then t (c .before .before .before .before .before .before .before .before .before .before .before)) (c .before .before .before .before .r2 .given .0 .0) (made t (c .before .before .before .before))))
 
 advance-part-move-own-requires : (t : ℕ) → advance-part-lts.Need-move-own-requires (Q t) (advance-part-at t) advance-part.Post
 advance-part-move-own-requires t c κs =
