@@ -95,7 +95,7 @@ fn part_is_right(s: &[u8], c: Script, q: usize) -> bool
     requires { ⌜ Laid (now s) c × (q < c .expressions + c .nodes) ⌝ }
     ensures { λ r. ⌜ r ≡ partIsRight (now (s .entry)) q ⌝ }
 {
-    let p = part_at(s, c, q);
+    let p = part_at(s, c.offset, q);
     if kinds_for(c, q) <= p.kind {
         return false;
     }

@@ -7,11 +7,10 @@ use Prim.Native.Nat.{ℕ, _<_}
 use native.Mathlib.Omega.{arith}
 use Rattle.book.specs.LevelBook.{mostLevels, atOrBelow}
 use Rattle.table.specs.Table.{kept}
-use Rattle.layout.specs.declared.Script.{Script}
 use Rattle.layout.specs.declared.entries.Part.{Part}
 use Rattle.layout.specs.Entries.{partOf, node}
 use Rattle.fields.specs.Fields.{firstChild, secondChild}
-use Rattle.layout.proofs.Layouts.{nodes-are}
+use Rattle.layout.specs.Layout.{layoutOf}
 use Rattle.levels.specs.declared.Flow.{Flow}
 use Rattle.levels.specs.declared.Own.{Own}
 use Rattle.levels.specs.Kinds.{childCount}
@@ -23,17 +22,17 @@ use Rattle.flow.proofs.NodeFlows.{PartsAt, first-view, second-view, par
 
 -- what is known where node k has been read: its part, what it brings itself, and how many children it has
 pub record Read
-    (s : List ℕ) (c : Script) (rows : List ℕ) (top bottom : ℕ) (join meet : List (List ℕ)) (l : Levels) (k : ℕ) (p : Part)
-    (own : Own) (m : ℕ) : Type 0 where
-  pub walks : Walks s c rows top bottom join meet l
+    (s : List ℕ) (offset expressions nodes : ℕ) (rows : List ℕ) (top bottom : ℕ) (join meet : List (List ℕ)) (l : Levels)
+    (k : ℕ) (p : Part) (own : Own) (m : ℕ) : Type 0 where
+  pub walks : Walks s offset expressions nodes rows top bottom join meet l
   pub at : IsNodeAt s p k
   pub brings : OwnOf l s p own
   pub count : m ≡ childCount (p .kind)
 
 module _
-    {s : List ℕ} {c : Script} {rows : List ℕ} {top bottom : ℕ} {join meet : List (List ℕ)} {l : Levels} {k : ℕ} {p : Part}
-    {own : Own} {m : ℕ} (read : Read s c rows top bottom join meet l k p own m) where
-  ready : Ready s c l
+    {s : List ℕ} {offset expressions nodes : ℕ} {rows : List ℕ} {top bottom : ℕ} {join meet : List (List ℕ)} {l : Levels} {k : ℕ} {p : Part}
+    {own : Own} {m : ℕ} (read : Read s offset expressions nodes rows top bottom join meet l k p own m) where
+  ready : Ready s (layoutOf s) l
   ready = read .walks .reads .ready
 
   shape : Children s k
@@ -44,17 +43,18 @@ module _
 
   -- what the walk asks of a node below k
   abbrev Asks : ℕ → Type 0
-  Asks j = (j < k) × (j < c .nodes)
+  Asks j = (j < k) × (j < nodes)
 
   asks : (j : ℕ) → j < k → Asks j
-  asks j h = (h, omega (arith, h, read .at .known, nodes-are (ready .laid)))
+  asks j h = (h, omega (arith, h, read .at .known, read .walks .nodes))
 
-  pub none-parts : m ≡ 0 → PartsAt l s k (record { write = top; test = bottom; failing = c .nodes }) true
+  pub none-parts : m ≡ 0 → PartsAt l s k (record { write = top; test = bottom; failing = nodes }) true
   none-parts z =
-      subst (λ w. PartsAt l s k (record { write = w; test = bottom; failing = c .nodes }) true) (sym (read .walks .top))
-      (subst (λ d. PartsAt l s k (record { write = l .top; test = d; failing = c .nodes }) true)
+      subst (λ w. PartsAt l s k (record { write = w; test = bottom; failing = nodes }) true) (sym (read .walks .top))
+      (subst (λ d. PartsAt l s k (record { write = l .top; test = d; failing = nodes }) true)
       (sym (read .walks .reads .bottom))
-      (parts-none ready k (read .at .known) shape (sym count-is ∙ z)))
+      (subst (λ n. PartsAt l s k (record { write = l .top; test = l .bottom; failing = n }) true) (sym (read .walks .nodes))
+      (parts-none ready k (read .at .known) shape (sym count-is ∙ z))))
 
   module _ {i : ℕ} (first-child : i ≡ firstChild p) where
     first-same : i ≡ firstChild (partOf s (node s k))

@@ -13,7 +13,7 @@ use Rattle.lattice.specs.Lattice.{Lattice, latticeOf}
 use Rattle.language.specs.Levels.{expLevel, writeLevel, testLevel, need}
 use Rattle.layout.specs.declared.Script.{Script}
 use Rattle.layout.specs.declared.entries.Part.{Part}
-use Rattle.layout.specs.Layout.{nodeCount, Laid}
+use Rattle.layout.specs.Layout.{expressionsAt, expressionCount, nodeCount, layoutOf, Laid}
 use Rattle.layout.specs.Entries.{partOf, node}
 use Rattle.fields.specs.Fields.{firstChild, secondChild}
 use Rattle.tree.specs.Tree.{namesOf, expressionOf, processOf, tree}
@@ -84,16 +84,20 @@ Joins l t = Keeps t (l .book .count) (leastUpper (orderOf (l .book)) (l .book .c
 abbrev pub Meets : Levels → List (List ℕ) → Type 0
 Meets l t = Keeps t (l .book .count) (greatestLower (orderOf (l .book)) (l .book .count))
 
--- What the readers of expressions are handed of some levels l: a checked script, the bottom and the table of joins.
-pub record Reads (s : List ℕ) (c : Script) (least : ℕ) (join : List (List ℕ)) (l : Levels) : Type 0 where
-  pub ready : Ready s c l
+-- What the readers of expressions are handed of some levels l: a checked script, where its parts begin, the
+-- bottom and the table of joins.
+pub record Reads (s : List ℕ) (offset least : ℕ) (join : List (List ℕ)) (l : Levels) : Type 0 where
+  pub ready : Ready s (layoutOf s) l
+  pub start : offset ≡ expressionsAt s
   pub joins : Joins l join
   pub bottom : least ≡ l .bottom
 
--- What the walk is handed: also the rows, the top and the table of meets.
+-- What the walk is handed: also how many expressions and nodes there are, the rows, the top and the table of meets.
 pub record Walks
-    (s : List ℕ) (c : Script) (sets : List ℕ) (greatest least : ℕ) (join meet : List (List ℕ)) (l : Levels) : Type 0 where
-  pub reads : Reads s c least join l
+    (s : List ℕ) (offset e n : ℕ) (sets : List ℕ) (greatest least : ℕ) (join meet : List (List ℕ)) (l : Levels) : Type 0 where
+  pub reads : Reads s offset least join l
+  pub expressions : e ≡ expressionCount s
+  pub nodes : n ≡ nodeCount s
   pub meets : Meets l meet
   pub rows : sets ≡ l .book .rows
   pub top : greatest ≡ l .top

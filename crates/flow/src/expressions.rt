@@ -1,19 +1,19 @@
 // The level of an expression.
 use crate::kinds;
-use layout::Script;
 use layout::entries::name_at;
 use layout::entries::part_at;
 use table::PairTable;
 use table::level_at;
 ghost use Prim.Native.Nat.{_<_};
+ghost use Rattle.layout.specs.Layout.{expressionCount};
 ghost use Rattle.flow.specs.Flow.{Levels, Reads, LevelAt};
 
 // The join of the levels of the registers of expression e, bottom if it has none.
-pub fn level_of(s: &[u8], c: Script, bottom: usize, join: &PairTable, e: usize) -> usize
-    requires { ⌜ ((l : Levels) × Reads (now s) c bottom (now join) l) × (e < c .expressions) ⌝ }
-    ensures { λ r. ⌜ ((l : Levels) → Reads (now (s .entry)) c bottom (now (join .entry)) l → LevelAt l (now (s .entry)) e r) ⌝ }
+pub fn level_of(s: &[u8], offset: usize, bottom: usize, join: &PairTable, e: usize) -> usize
+    requires { ⌜ ((l : Levels) × Reads (now s) offset bottom (now join) l) × (e < expressionCount (now s)) ⌝ }
+    ensures { λ r. ⌜ ((l : Levels) → Reads (now (s .entry)) offset bottom (now (join .entry)) l → LevelAt l (now (s .entry)) e r) ⌝ }
 {
-    let part = part_at(s, c, e);
+    let part = part_at(s, offset, e);
     if part.kind == kinds::CONSTANT {
         return bottom;
     }
@@ -21,10 +21,10 @@ pub fn level_of(s: &[u8], c: Script, bottom: usize, join: &PairTable, e: usize) 
         let name = name_at(s, part.a);
         return name.level;
     }
-    let left = level_of(s, c, bottom, join, part.a);
+    let left = level_of(s, offset, bottom, join, part.a);
     if part.kind == kinds::NOT {
         return left;
     }
-    let right = level_of(s, c, bottom, join, part.b);
+    let right = level_of(s, offset, bottom, join, part.b);
     level_at(join, left, right)
 }

@@ -18,5 +18,16 @@ pub fn find_flow(s: &[u8], c: Script, b: Book, join: &PairTable, meet: &PairTabl
 {
     let top = lattice::top_of(b);
     let bottom = lattice::bottom_of(b);
-    walk::flow_at(s, c, &b.rows, top, bottom, join, meet, c.nodes - 1)
+    walk::flow_at(
+        s,
+        c.offset,
+        c.expressions,
+        c.nodes,
+        &b.rows,
+        top,
+        bottom,
+        join,
+        meet,
+        c.nodes - 1,
+    )
 }

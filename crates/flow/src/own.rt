@@ -1,6 +1,5 @@
 // What a node brings itself.
 use crate::expressions::level_of;
-use layout::Script;
 use layout::entries::Part;
 use layout::entries::name_at;
 use levels::Own;
@@ -10,20 +9,20 @@ use table::PairTable;
 ghost use Rattle.flow.specs.Flow.{Levels, Reads, IsNode, OwnOf};
 
 // What the node of part p brings itself.
-pub fn own_levels(s: &[u8], c: Script, bottom: usize, join: &PairTable, p: Part) -> Own
-    requires { ⌜ ((l : Levels) × Reads (now s) c bottom (now join) l) × IsNode (now s) p ⌝ }
-    ensures { λ r. ⌜ ((l : Levels) → Reads (now (s .entry)) c bottom (now (join .entry)) l → OwnOf l (now (s .entry)) p r) ⌝ }
+pub fn own_levels(s: &[u8], offset: usize, bottom: usize, join: &PairTable, p: Part) -> Own
+    requires { ⌜ ((l : Levels) × Reads (now s) offset bottom (now join) l) × IsNode (now s) p ⌝ }
+    ensures { λ r. ⌜ ((l : Levels) → Reads (now (s .entry)) offset bottom (now (join .entry)) l → OwnOf l (now (s .entry)) p r) ⌝ }
 {
     if is_either(p.kind, kinds::ASSIGN, kinds::LET) {
         let name = name_at(s, p.a);
         return Own {
-            level: level_of(s, c, bottom, join, p.b),
+            level: level_of(s, offset, bottom, join, p.b),
             name: name.level,
         };
     }
     if is_either(p.kind, kinds::IF, kinds::WHILE) {
         return Own {
-            level: level_of(s, c, bottom, join, p.a),
+            level: level_of(s, offset, bottom, join, p.a),
             name: bottom,
         };
     }

@@ -1,6 +1,6 @@
 -- What the tests of the tail and of the counts tell: a file that passes both is laid out as its counts say.
 -- Assumes nothing.
-use mathlib.Core.Path.{_≡_, refl, ap}
+use mathlib.Core.Path.{_≡_, refl, ap, _∙_}
 use mathlib.Core.Bool.{true}
 use mathlib.Core.List.{List}
 use Prim.Native.Nat.{ℕ, _+_, _-_, _*_, _%_, _≤_, _<_}
@@ -11,6 +11,7 @@ use borrow.Author.Tests.{leb-true, eqb-true}
 use Rattle.prelude.proofs.Bools.{and-left, and-right}
 use Rattle.layout.specs.declared.Script.{Script}
 use Rattle.layout.specs.Layout.{mostNames, mostExpressions, mostNodes, mostParts, mark, pointedTail, tailAt, expressionsAt, nodesAt, nameCount, partCount, tailIsRight, countsAreRight, layoutOf, Laid, expressionCount, nodeCount}
+use Rattle.layout.specs.Entries.{PartWithin}
 
 pub few-bounds :
     (c : Script) → countsAreRight c ≡ true →
@@ -59,6 +60,12 @@ laid s h few =
 -- the bytes of a name lie in the file
 pub name-within : {s : List ℕ} {c : Script} {x : ℕ} → Laid s c → x < c .names → 4 * x + 4 ≤ length s
 name-within l h = omega (arith, h, l .touching, l .whole)
+
+-- and those of a part
+pub part-within :
+    {s : List ℕ} {c : Script} {offset q : ℕ} → Laid s c → offset ≡ c .offset → q < c .expressions + c .nodes →
+    PartWithin s offset q
+part-within l e h = record { start = e ∙ ap (λ z. z .offset) (l .same); whole = omega (arith, h, e, l .whole) }
 
 -- the counts of a file that is laid out
 module _ {s : List ℕ} {c : Script} (laid : Laid s c) where

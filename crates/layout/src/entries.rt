@@ -1,10 +1,9 @@
 // Names, and the parts, which are the expressions and then the nodes.
-use crate::Script;
 ghost use mathlib.Core.Path.{_≡_};
-ghost use Prim.Native.Nat.{_+_, _*_, _<_, _≤_};
+ghost use Prim.Native.Nat.{_+_, _*_, _≤_};
 ghost use lib.ListN.{length};
-ghost use Rattle.layout.specs.Layout.{wordAt, Laid};
-ghost use Rattle.layout.specs.Entries.{nameOf, partOf};
+ghost use Rattle.layout.specs.Layout.{wordAt};
+ghost use Rattle.layout.specs.Entries.{nameOf, partOf, PartWithin};
 
 pub struct Name {
     pub kind: usize,
@@ -49,11 +48,12 @@ pub fn name_at(s: &[u8], x: usize) -> Name
     }
 }
 
-pub fn part_at(s: &[u8], c: Script, q: usize) -> Part
-    requires { ⌜ Laid (now s) c × (q < c .expressions + c .nodes) ⌝ }
+// Part q, where the parts begin at this offset.
+pub fn part_at(s: &[u8], offset: usize, q: usize) -> Part
+    requires { ⌜ PartWithin (now s) offset q ⌝ }
     ensures { λ r. ⌜ r ≡ partOf (now (s .entry)) q ⌝ }
 {
-    let at = c.offset + 8 * q;
+    let at = offset + 8 * q;
     Part {
         kind: prelude::wide(s[at]),
         zero: prelude::wide(s[at + 1]),

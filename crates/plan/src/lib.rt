@@ -64,7 +64,7 @@ fn node_word(
     requires { ⌜ CanPack (now s) c (now sizes) (now words) k ⌝ }
     ensures { λ r. ⌜ NodePacked (now (s .entry)) k r ⌝ }
 {
-    let p = layout::entries::part_at(s, c, c.expressions + k);
+    let p = layout::entries::part_at(s, c.offset, c.expressions + k);
     let parts = fields::children::children_of(p);
     let first = parts.first % Script::MAX_NODES;
     let b = field_b(p.kind, p.b, parts.second);
@@ -78,7 +78,7 @@ fn expression_word(s: &[u8], c: Script, e: usize) -> usize
     requires { ⌜ Laid (now s) c × (e < c .expressions) ⌝ }
     ensures { λ r. ⌜ ExpressionPacked (now (s .entry)) e r ⌝ }
 {
-    let p = layout::entries::part_at(s, c, e);
+    let p = layout::entries::part_at(s, c.offset, e);
     if p.kind == kinds::CONSTANT {
         return packing::pack_expression(kinds::CONSTANT, p.b, p.c);
     }

@@ -7,7 +7,7 @@ use Rattle.layout.specs.Layout.{nodeCount}
 use Rattle.reach.specs.Checked.{Checked}
 use Rattle.layout.proofs.Layouts.{few-bounds, nodes-are}
 use Rattle.levels.specs.declared.Flow.{Flow}
-use Rattle.flow.specs.Flow.{Levels, lattice, levelsOf, Walks, FlowAt, FlowOf}
+use Rattle.flow.specs.Flow.{Levels, lattice, levelsOf, Ready, Walks, FlowAt, FlowOf}
 use Rattle.flow.proofs.Everywhere.{failing-first}
 use Rattle.flow.proofs.find_flow.Statement.{statement}
 use Rattle.flow.proofs.find_flow.Tie as tie
@@ -31,11 +31,16 @@ bottom-of-requires c κs = c .before .before .pre .0 .ordered .few
 walks :
     (c : tie.After-bottom-of) →
     let a = c .before .before .before .args in
-    Walks (a .s .now) (a .c) (a .t3 .rows) (c .before .top-of .result) (c .bottom-of .result) (a .join .now) (a .meet .now)
+    Walks (a .s .now) (a .c .offset) (a .c .expressions) (a .c .nodes) (a .t3 .rows) (c .before .top-of .result) (c .bottom-of .result) (a .join .now) (a .meet .now)
     (levelsOf (a .t3))
 walks c =
+    let a = c .before .before .before .args in
+    let ready = c .before .before .before .pre .0 in
+    let same = ready .laid .same in
     record {
-      reads = record { ready = c .before .before .before .pre .0; joins = c .before .before .before .pre .1 .0; bottom = c .bottom-of .ensures };
+      reads = record { ready = subst (λ z. Ready (a .s .now) z (levelsOf (a .t3))) same ready; start = ap (λ z. z .offset) same; joins = c .before .before .before .pre .1 .0; bottom = c .bottom-of .ensures };
+      expressions = ap (λ z. z .expressions) same;
+      nodes = ap (λ z. z .nodes) same;
       meets = c .before .before .before .pre .1 .1;
       rows = refl;
       top = c .before .top-of .ensures;

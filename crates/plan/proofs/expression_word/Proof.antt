@@ -1,16 +1,16 @@
 -- `expression_word`: the entry, packed by its kind.
-use mathlib.Core.Path.{ap}
+use mathlib.Core.Path.{refl, ap}
 use Prim.Native.Nat.{_+_, _<_}
 use native.Mathlib.Omega.{arith}
 use Rattle.layout.specs.Entries.{partAt}
+use Rattle.layout.proofs.Layouts.{part-within}
 use Rattle.layout.proofs.Values.{word-fits}
 use Rattle.plan.proofs.Plans.{constant-packed, operands-packed}
-use borrow.Author.Needs.{needs}
 use Rattle.plan.proofs.expression_word.Statement.{statement}
 use Rattle.plan.proofs.expression_word.Tie as tie
 
 part-at-requires : tie.Need-part-at-requires
-part-at-requires c κs = search needs
+part-at-requires c κs = part-within (c .before .pre .0) refl (omega (arith, c .before .pre .1))
 
 -- fields have two bytes
 field-a : (c : tie.After-part-at) → c .part-at .result .a < 65536

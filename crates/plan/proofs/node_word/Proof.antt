@@ -1,5 +1,5 @@
 -- `node_word`: the entry, its children, the size of the first and the mark, packed.
-use mathlib.Core.Path.{_≡_, sym, ap, _∙_, subst}
+use mathlib.Core.Path.{_≡_, refl, sym, ap, _∙_, subst}
 use mathlib.Core.Bool.{cond}
 use Prim.Native.Nat.{_<_}
 use native.Mathlib.Omega.{arith}
@@ -10,7 +10,7 @@ use Rattle.layout.specs.Entries.{partOf, node}
 use Rattle.fields.specs.Fields.{firstChild, secondChild}
 use Rattle.language.specs.Shapes.{size, watches}
 use Rattle.tree.specs.Tree.{processOf}
-use Rattle.layout.proofs.Layouts.{few-bounds, nodes-are}
+use Rattle.layout.proofs.Layouts.{few-bounds, nodes-are, part-within}
 use Rattle.tree.proofs.NodeSizes.{size-within}
 use Rattle.plan.proofs.Reading.{node-read, kind-known}
 use Rattle.plan.proofs.Watching.{watches-told}
@@ -24,7 +24,8 @@ add-part-at : tie.Need-add-part-at
 add-part-at c = search needs
 
 part-at-requires : tie.Need-part-at-requires
-part-at-requires c κs = search needs
+part-at-requires c κs =
+    let start = c .before .before in part-within (start .pre .laid) refl (omega (arith, start .pre .known))
 
 children-of-requires : tie.Need-children-of-requires
 children-of-requires c κs = search needs

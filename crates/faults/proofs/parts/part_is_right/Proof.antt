@@ -1,18 +1,18 @@
 -- `part_is_right`: each way out decides one test of the definition.
-use mathlib.Core.Path.{_≡_, sym, ap, _∙_}
+use mathlib.Core.Path.{_≡_, refl, sym, ap, _∙_}
 use mathlib.Core.Bool.{true}
 use lib.Dec.{ltb}
 use borrow.Author.Tests.{lt-ltb, le-ltb, eq-eqb, ne-eqb}
 use Rattle.layout.specs.Layout.{expressionCount}
 use Rattle.layout.specs.Entries.{partOf}
-use Rattle.layout.proofs.Layouts.{expressions-are}
+use Rattle.layout.proofs.Layouts.{expressions-are, part-within}
 use Rattle.faults.specs.Faults.{kindsFor}
 use borrow.Author.Needs.{needs}
 use Rattle.faults.proofs.parts.part_is_right.Statement.{statement}
 use Rattle.faults.proofs.parts.part_is_right.Tie as tie
 
 part-at-requires : tie.Need-part-at-requires
-part-at-requires c κs = search needs
+part-at-requires c κs = part-within (c .before .pre .0) refl (c .before .pre .1)
 
 kinds-for-requires : tie.Need-kinds-for-requires
 kinds-for-requires c κs = search needs

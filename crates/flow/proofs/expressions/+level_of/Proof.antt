@@ -1,6 +1,7 @@
 -- `level_of`: the operands have smaller numbers; then kind by kind.
 use mathlib.Core.Path.{sym, subst}
 use native.Mathlib.Omega.{arith}
+use Rattle.layout.specs.Layout.{layoutOf}
 use Rattle.flow.specs.Flow.{Levels, Reads, LevelAt}
 use Rattle.flow.proofs.ExpressionLevels.{ReadExpression, at-constant, register-known, at-register, first-operand, at-negated, second-operand, at-binary}
 use Prim.Native.Nat.{ℕ, _<_}
@@ -10,7 +11,7 @@ use Rattle.flow.proofs.expressions.level_of.Reads as level-of
 use Rattle.flow.proofs.expressions.level_of.Kinds as level-of-kinds
 use Rattle.flow.proofs.expressions.+level_of.Lts-level_of as level-of-lts
 use Rattle.table.proofs.level_at.Reads as level-at-reads
-use Rattle.layout.proofs.Layouts.{name-within}
+use Rattle.layout.proofs.Layouts.{name-within, part-within}
 use Rattle.layout.proofs.entries.name_at.Reads as name-at-reads
 use Rattle.layout.proofs.entries.part_at.Reads as part-at-reads
 use Rattle.flow.proofs.expressions.+level_of.{statement}
@@ -41,19 +42,21 @@ R t = (
 read :
     (t : ℕ) (c : level-of-lts.After-part-at (R t) (level-of-at t) level-of.Post) →
     let a = c .before .before .args in
-    (l : Levels) → Reads (a .s .now) (a .c) (a .bottom) (a .join .now) l →
-    ReadExpression (a .s .now) (a .c) l (a .e) (c .part-at .result)
+    (l : Levels) → Reads (a .s .now) (a .offset) (a .bottom) (a .join .now) l →
+    ReadExpression (a .s .now) (layoutOf (a .s .now)) l (a .e) (c .part-at .result)
 read t c l h = record { ready = h .ready; known = c .before .before .pre .1 .1; same = c .part-at .ensures }
 
 -- under the levels that there are
 some-read :
     (t : ℕ) (c : level-of-lts.After-part-at (R t) (level-of-at t) level-of.Post) →
     let a = c .before .before .args in
-    ReadExpression (a .s .now) (a .c) (c .before .before .pre .1 .0 .0) (a .e) (c .part-at .result)
+    ReadExpression (a .s .now) (layoutOf (a .s .now)) (c .before .before .pre .1 .0 .0) (a .e) (c .part-at .result)
 some-read t c = read t c (c .before .before .pre .1 .0 .0) (c .before .before .pre .1 .0 .1)
 
 level-of-part-at-requires : (t : ℕ) → level-of-lts.Need-part-at-requires (R t) (level-of-at t) level-of.Post
-level-of-part-at-requires t c κs = (c .before .pre .1 .0 .1 .ready .laid, omega (arith, c .before .pre .1 .1))
+level-of-part-at-requires t c κs =
+    let h = c .before .pre .1 .0 .1 in
+    part-within (h .ready .laid) (h .start) (omega (arith, c .before .pre .1 .1))
 
 level-of-returns : (t : ℕ) → level-of-lts.Need-returns (R t) (level-of-at t) level-of.Post
 level-of-returns t c l h =

@@ -5,9 +5,9 @@ use borrow.Author.Needs.{fits-under}
 use Rattle.book.specs.LevelBook.{atOrBelow}
 use Rattle.table.specs.Table.{kept}
 use Rattle.fields.specs.Roles.{nodeKinds}
-use Rattle.layout.specs.Layout.{Laid}
+use Rattle.layout.specs.Layout.{Laid, layoutOf}
 use Rattle.layout.specs.Entries.{partOf}
-use Rattle.layout.proofs.Layouts.{few-bounds, expressions-are, nodes-are}
+use Rattle.layout.proofs.Layouts.{few-bounds, part-within}
 use Rattle.levels.specs.Nodes.{bothFrom, pairNeed}
 use Rattle.flow.specs.Flow.{Levels, Walks, IsNodeAt}
 use Rattle.flow.proofs.BookLevels.{flow-index}
@@ -30,7 +30,7 @@ use Rattle.flow.proofs.walk.+flow_at.{statement}
 use Rattle.flow.proofs.walk.+flow_at.Tie.{close}
 
 abbrev μ-flow-at : Measures 4 flow-at-kinds.ps ℕ
-μ-flow-at κs a = a .1 .1 .1 .1 .1 .1 .1 .0
+μ-flow-at κs a = a .1 .1 .1 .1 .1 .1 .1 .1 .1 .0
 
 abbrev flow-at-at : ℕ → In 4 flow-at-kinds.ps
 flow-at-at t = and 4 flow-at-kinds.ps (is 4 flow-at-kinds.ps μ-flow-at t) flow-at.Pre
@@ -57,27 +57,27 @@ R t = (
 )
 
 -- the script is laid out and checked
-laid : (t : ℕ) (c : flow-at-lts.Start (R t) (flow-at-at t) flow-at.Post) → Laid (c .args .s .now) (c .args .c)
+laid : (t : ℕ) (c : flow-at-lts.Start (R t) (flow-at-at t) flow-at.Post) → Laid (c .args .s .now) (layoutOf (c .args .s .now))
 laid t c = c .pre .1 .0 .1 .reads .ready .laid
 
 -- the part that was read is that of node k
 at :
     (t : ℕ) (c : flow-at-lts.After-part-at (R t) (flow-at-at t) flow-at.Post) →
-    IsNodeAt (c .before .before .before .args .s .now) (c .part-at .result) (c .before .before .before .args .k)
+    IsNodeAt (c .before .before .args .s .now) (c .part-at .result) (c .before .before .args .k)
 at t c =
-    let start = (c .before .before .before) in
+    let start = (c .before .before) in
     record {
-      known = omega (arith, start .pre .1 .1, nodes-are (laid t start));
+      known = omega (arith, start .pre .1 .1, start .pre .1 .0 .1 .nodes);
       same =
           c .part-at .ensures
-          ∙ ap (λ e. partOf (start .args .s .now) (e + start .args .k)) (expressions-are (laid t start));
+          ∙ ap (λ e. partOf (start .args .s .now) (e + start .args .k)) (start .pre .1 .0 .1 .expressions);
     }
 
 read :
     (t : ℕ) (c : flow-at-lts.After-child-count (R t) (flow-at-at t) flow-at.Post) →
-    let a = c .before .before .before .before .before .args in
-    (l : Levels) → Walks (a .s .now) (a .c) (a .rows .now) (a .top) (a .bottom) (a .join .now) (a .meet .now) l →
-    Read (a .s .now) (a .c) (a .rows .now) (a .top) (a .bottom) (a .join .now) (a .meet .now) l (a .k)
+    let a = c .before .before .before .before .args in
+    (l : Levels) → Walks (a .s .now) (a .at) (a .expressions) (a .nodes) (a .rows .now) (a .top) (a .bottom) (a .join .now) (a .meet .now) l →
+    Read (a .s .now) (a .at) (a .expressions) (a .nodes) (a .rows .now) (a .top) (a .bottom) (a .join .now) (a .meet .now) l (a .k)
     (c .before .before .part-at .result)
     (c .before .own-levels .result)
     (c .child-count .result)
@@ -92,28 +92,33 @@ read t c l h =
 -- under the levels that there are
 some-read :
     (t : ℕ) (c : flow-at-lts.After-child-count (R t) (flow-at-at t) flow-at.Post) →
-    let a = c .before .before .before .before .before .args in
-    Read (a .s .now) (a .c) (a .rows .now) (a .top) (a .bottom) (a .join .now) (a .meet .now) (c .before .before .before .before .before .pre .1 .0 .0) (a .k)
+    let a = c .before .before .before .before .args in
+    Read (a .s .now) (a .at) (a .expressions) (a .nodes) (a .rows .now) (a .top) (a .bottom) (a .join .now) (a .meet .now) (c .before .before .before .before .pre .1 .0 .0) (a .k)
     (c .before .before .part-at .result)
     (c .before .own-levels .result)
     (c .child-count .result)
-some-read t c = read t c (c .before .before .before .before .before .pre .1 .0 .0) (c .before .before .before .before .before .pre .1 .0 .1)
+some-read t c = read t c (c .before .before .before .before .pre .1 .0 .0) (c .before .before .before .before .pre .1 .0 .1)
 
 flow-at-add-part-at : (t : ℕ) → flow-at-lts.Need-add-part-at (R t) (flow-at-at t) flow-at.Post
 flow-at-add-part-at t c =
-    fits-under _ _ 512 (omega (arith, c .before .before .pre .1 .1, few-bounds (c .before .before .args .c) (laid t ((c .before .before)) .few))) tt
+    let start = c .before in
+    let h = start .pre .1 .0 .1 in
+    fits-under _ _ 512 (omega (arith, start .pre .1 .1, h .expressions, h .nodes, few-bounds (layoutOf (start .args .s .now)) (laid t start .few))) tt
 
 flow-at-part-at-requires : (t : ℕ) → flow-at-lts.Need-part-at-requires (R t) (flow-at-at t) flow-at.Post
-flow-at-part-at-requires t c κs = (laid t ((c .before .before)), omega (arith, c .before .before .pre .1 .1))
+flow-at-part-at-requires t c κs =
+    let start = c .before in
+    let h = start .pre .1 .0 .1 in
+    part-within (laid t start) (h .reads .start) (omega (arith, start .pre .1 .1, h .expressions, h .nodes))
 
 flow-at-own-levels-requires : (t : ℕ) → flow-at-lts.Need-own-levels-requires (R t) (flow-at-at t) flow-at.Post
-flow-at-own-levels-requires t c κs = ((c .before .before .before .pre .1 .0 .0, c .before .before .before .pre .1 .0 .1 .reads), (c .before .before .before .args .k, at t (c)))
+flow-at-own-levels-requires t c κs = ((c .before .before .pre .1 .0 .0, c .before .before .pre .1 .0 .1 .reads), (c .before .before .args .k, at t (c)))
 
 flow-at-child-count-requires : (t : ℕ) → flow-at-lts.Need-child-count-requires (R t) (flow-at-at t) flow-at.Post
 flow-at-child-count-requires t c κs =
     let here = at t ((c .before)) in
     subst (λ p. p .kind < nodeKinds) (sym (here .same))
-    (kind-below (c .before .before .before .before .args .s .now) (c .before .before .before .before .pre .1 .0 .1 .reads .ready .checked) (c .before .before .before .before .args .k) (here .known))
+    (kind-below (c .before .before .before .args .s .now) (c .before .before .before .pre .1 .0 .1 .reads .ready .checked) (c .before .before .before .args .k) (here .known))
 
 flow-at-node-flow-requires : (t : ℕ) → flow-at-lts.Need-node-flow-requires (R t) (flow-at-at t) flow-at.Post
 flow-at-node-flow-requires t c κs =
@@ -129,11 +134,11 @@ flow-at-children-of-requires t c κs = tt
 flow-at-flow-at-requires : (t : ℕ) → flow-at-lts.Need-flow-at-requires (R t) (flow-at-at t) flow-at.Post
 flow-at-flow-at-requires t c κs =
     let b = first-asks (some-read t ((c .before .before))) (c .children-of .ensures .0) (c .before .if1 .left) in
-    (omega (arith, b .0, c .before .before .before .before .before .before .before .pre .0), (c .before .before .before .before .before .before .before .pre .1 .0, b .1))
+    (omega (arith, b .0, c .before .before .before .before .before .before .pre .0), (c .before .before .before .before .before .before .pre .1 .0, b .1))
 
 flow-at-node-flow-requires-2 : (t : ℕ) → flow-at-lts.Need-node-flow-requires-2 (R t) (flow-at-at t) flow-at.Post
 flow-at-node-flow-requires-2 t c κs =
-    node-asks (some-read t ((c .before .before .before .before))) (c .before .flow-at .ensures (c .before .before .before .before .before .before .before .before .before .pre .1 .0 .0) (c .before .before .before .before .before .before .before .before .before .pre .1 .0 .1) .inside)
+    node-asks (some-read t ((c .before .before .before .before))) (c .before .flow-at .ensures (c .before .before .before .before .before .before .before .before .pre .1 .0 .0) (c .before .before .before .before .before .before .before .before .pre .1 .0 .1) .inside)
 
 flow-at-returns-2 : (t : ℕ) → flow-at-lts.Need-returns-2 (R t) (flow-at-at t) flow-at.Post
 flow-at-returns-2 t c l h =
@@ -146,13 +151,13 @@ flow-at-flow-at-requires-2 t c κs =
     let b =
     second-asks (some-read t ((c .before .before .before .before))) (c .before .before .children-of .ensures .0) (c .before .before .children-of .ensures .1) (c .before .before .before .if1 .left)
     (c .if2 .left) in
-    (omega (arith, b .0, c .before .before .before .before .before .before .before .before .before .pre .0), (c .before .before .before .before .before .before .before .before .before .pre .1 .0, b .1))
+    (omega (arith, b .0, c .before .before .before .before .before .before .before .before .pre .0), (c .before .before .before .before .before .before .before .before .pre .1 .0, b .1))
 
 -- two children together
 parts :
     (t : ℕ) (c : flow-at-lts.After-flow-at2 (R t) (flow-at-at t) flow-at.Post) →
-    let a = c .before .before .before .before .before .before .before .before .before .before .args in
-    (l : Levels) → Walks (a .s .now) (a .c) (a .rows .now) (a .top) (a .bottom) (a .join .now) (a .meet .now) l →
+    let a = c .before .before .before .before .before .before .before .before .before .args in
+    (l : Levels) → Walks (a .s .now) (a .at) (a .expressions) (a .nodes) (a .rows .now) (a .top) (a .bottom) (a .join .now) (a .meet .now) l →
     PartsAt l (a .s .now) (a .k) (bothFrom (kept (a .join .now)) (kept (a .meet .now)) (c .before .before .flow-at .result) (c .flow-at2 .result))
     (pairNeed (atOrBelow (a .rows .now)) (c .before .before .before .before .before .before .before .part-at .result .kind) (c .before .before .flow-at .result) (c .flow-at2 .result))
 parts t c l h =
@@ -161,8 +166,8 @@ parts t c l h =
 
 flow-at-pair-flow-requires : (t : ℕ) → flow-at-lts.Need-pair-flow-requires (R t) (flow-at-at t) flow-at.Post
 flow-at-pair-flow-requires t c κs =
-    let l = c .before .before .before .before .before .before .before .before .before .before .pre .1 .0 .0 in
-    let h = c .before .before .before .before .before .before .before .before .before .before .pre .1 .0 .1 in
+    let l = c .before .before .before .before .before .before .before .before .before .pre .1 .0 .0 in
+    let h = c .before .before .before .before .before .before .before .before .before .pre .1 .0 .1 in
     let ordered = h .reads .ready .ordered in
     let asked = node-asks (some-read t ((c .before .before .before .before .before))) (parts t c l h .inside) in (
       asked .0,

@@ -1,5 +1,4 @@
 -- `part_at`: the bytes of the part lie in the file.
-use mathlib.Core.Path.{ap}
 use borrow.Author.Needs.{needs}
 use Rattle.layout.proofs.entries.part_at.Statement.{statement}
 use Rattle.layout.proofs.entries.part_at.Tie as tie
@@ -51,7 +50,7 @@ returns c =
       c .before .before .word-at .ensures,
       c .before .word-at2 .ensures,
       c .word-at3 .ensures,
-      ap (λ z. z .offset) (c .before .before .before .before .before .before .before .before .before .pre .0 .same),
+      c .before .before .before .before .before .before .before .before .pre .start,
     )
 
 pub part-at-spec : {M : Type 1} → statement M
