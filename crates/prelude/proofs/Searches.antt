@@ -2,7 +2,7 @@
 -- Assumes nothing.
 use mathlib.Core.Path.{_≡_, refl, sym, ap, _∙_, subst}
 use mathlib.Core.Bool.{Bool, true, false, cond, not, _&&_, _||_, true≢false}
-use Prim.Native.Nat.{ℕ, zero, suc, _+_, _≤_, _<_}
+use Prim.Native.Nat.{ℕ, zero, suc, _+_, _-_, _≤_, _<_}
 use native.Mathlib.Omega.{arith}
 use native.Mathlib.Decide.{decLt}
 use lib.Dec.{ltb, leb}
@@ -51,6 +51,35 @@ found f i (suc m) = go (f i) refl (firstFrom f (suc i) m) (found f (suc i) m)
                 | no l ↦ subst (λ z. f z ≡ false) (omega arith) e
               ];
         }
+
+-- a search that goes down from n: r is the smallest number from q on at which the test holds, or n
+abbrev pub SmallestFrom : (ℕ → Bool) → ℕ → ℕ → ℕ → Type 0
+SmallestFrom f n q r = r ≡ firstFrom f q (n - q)
+
+module _ (f : ℕ → Bool) (n : ℕ) where
+  pub down-none : SmallestFrom f n n n
+  unfolding firstFrom
+  down-none = let none : n - n ≡ 0 = omega arith in sym (ap (firstFrom f n) none)
+
+  module _ (q : ℕ) (some : 0 < q) (within : q ≤ n) where
+    longer : n - (q - 1) ≡ suc (n - q)
+    longer = omega arith
+
+    pub down-hit : f (q - 1) ≡ true → SmallestFrom f n (q - 1) (q - 1)
+    unfolding firstFrom
+    down-hit e = rw (longer, e) refl
+
+    pub down-miss : {r : ℕ} → f (q - 1) ≡ false → SmallestFrom f n q r → SmallestFrom f n (q - 1) r
+    unfolding firstFrom
+    down-miss e found =
+        let next : q ≡ suc (q - 1) = omega arith in
+        rw (longer, e) (found ∙ ap (λ i. firstFrom f i (n - q)) next)
+
+  pub down-all : {q r : ℕ} → q ≡ 0 → SmallestFrom f n q r → r ≡ first f n
+  unfolding first
+  down-all e found =
+      let whole : n - 0 ≡ n = omega arith in
+      found ∙ ap (λ i. firstFrom f i (n - i)) e ∙ ap (firstFrom f 0) whole
 
 module _ (f : ℕ → Bool) (n : ℕ) where
   pub first-within : first f n ≤ n

@@ -10,7 +10,7 @@ use Rattle.prelude.specs.declared.Refusal.{Refusal}
 use Rattle.prelude.specs.Search.{any}
 use Rattle.prelude.specs.Course.{entry}
 use Rattle.prelude.specs.Sets.{IsSet}
-use Rattle.layout.specs.Layout.{mostParts, nameCount, nodeCount, partCount}
+use Rattle.layout.specs.Layout.{mostParts, nameCount, partCount}
 use Rattle.refusals.specs.Places.{atFirstPart}
 use Rattle.layout.specs.Entries.{nameOf, isSession, node}
 use Rattle.fields.specs.Roles.{child, isUse, isNew}
@@ -45,18 +45,18 @@ opens s i x =
     eqb (fieldAt s i .role) child
     && (isNew (fieldOf s (i / fieldCount) 0 .role) && eqb (fieldOf s (i / fieldCount) 0 .value) x)
 
+-- a set of the names in reach in part q
+abbrev pub IsReach : List ℕ → ℕ → ℕ → Type 0
+IsReach s q = IsSet (nameCount s) (λ x. inReach s x q)
+
 -- a table that keeps the names in reach in the last part, and in the parts that the fields from i on use, as a set each
 pub record KeepsReachFrom (s : List ℕ) (i : ℕ) (sets : List ℕ) : Type 0 where
   pub long : length sets ≡ mostParts
   pub last : (q : ℕ) → suc q ≡ partCount s → IsSet (nameCount s) (isSession s) (getD sets q 0)
   pub passed :
       (k : ℕ) → i ≤ k → k < allFields s → used s k < mostParts →
-      IsSet (nameCount s) (λ x. inReach s x (used s k)) (getD sets (used s k) 0)
-
--- a table that keeps for each part the names in reach
-abbrev pub KeepsReach : List ℕ → List ℕ → Type 0
-KeepsReach s sets = (q : ℕ) → q < partCount s → IsSet (nameCount s) (λ x. inReach s x q) (getD sets q 0)
+      IsReach s (used s k) (getD sets (used s k) 0)
 
 -- row 10: 'owned name outside its body'
 unfoldable pub reachRefusal : List ℕ → Refusal
-reachRefusal s = atFirstPart s 10 (isOutOfReach s) (nodeCount s)
+reachRefusal s = atFirstPart s 10 (isOutOfReach s) (partCount s)

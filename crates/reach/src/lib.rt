@@ -6,19 +6,19 @@ use layout::entries::Part;
 use layout::entries::SESSION;
 use layout::entries::name_at;
 use prelude::Refusal;
-use refusals::places::in_order;
+use refusals::places::at_part;
 use uses::used_at;
 ghost use mathlib.Core.Path.{_≡_};
 ghost use mathlib.Core.Bool.{_||_};
 ghost use lib.Dec.{eqb};
-ghost use Prim.Native.Nat.{_+_, _*_, _<_, _≤_};
+ghost use Prim.Native.Nat.{_+_, _*_, _<_};
 ghost use Rattle.prelude.specs.Search.{first};
 ghost use Rattle.prelude.specs.Sets.{has, IsSet};
 ghost use Rattle.layout.specs.Layout.{Laid, mostNames};
 ghost use Rattle.layout.specs.Entries.{isSession};
 ghost use Rattle.fields.specs.Fields.{fieldCount};
 ghost use Rattle.faults.specs.Faults.{Sound};
-ghost use Rattle.reach.specs.Reach.{missesName, isOutOfReach, opens, KeepsReachFrom, KeepsReach, reachRefusal};
+ghost use Rattle.reach.specs.Reach.{missesName, isOutOfReach, opens, IsReach, KeepsReachFrom, reachRefusal};
 ghost use Rattle.reach.specs.Checked.{Joined};
 
 // Name x is in the set: bit x.
@@ -87,41 +87,25 @@ fn enter_fields(s: &[u8], c: Script, q: usize, sets: &mut [u64; Script::MAX_PART
     }
 }
 
-// For each part the names in reach. A part is used by a later one, so this goes from the last part to the first.
-fn find_reach(s: &[u8], c: Script) -> [u64; Script::MAX_PARTS]
-    requires { ⌜ Laid (now s) c × Joined (now s) ⌝ }
-    ensures { λ r. ⌜ KeepsReach (now (s .entry)) r ⌝ }
-{
-    let mut sets = [0u64; Script::MAX_PARTS];
-    let n = c.expressions + c.nodes;
-    sets[n - 1] = session_names(s, c);
-    let mut q = n;
-    while 0 < q {
-        q -= 1;
-        enter_fields(s, c, q, &mut sets);
-    }
-    sets
-}
-
-// Field f of part q uses a name that is not in reach.
-fn misses_name(s: &[u8], c: Script, sets: &[u64; Script::MAX_PARTS], q: usize, f: usize) -> bool
-    requires { ⌜ Laid (now s) c × (Sound (now s) × (KeepsReach (now s) (now sets) × ((q < c .expressions + c .nodes) × (f < fieldCount)))) ⌝ }
+// Field f of part q uses a name that is not in reach, where `set` is in reach.
+fn misses_name(s: &[u8], c: Script, set: u64, q: usize, f: usize) -> bool
+    requires { ⌜ Laid (now s) c × (Sound (now s) × (IsReach (now s) q set × ((q < c .expressions + c .nodes) × (f < fieldCount)))) ⌝ }
     ensures { λ r. ⌜ r ≡ missesName (now (s .entry)) q f ⌝ }
 {
     let field = field_at(s, c, q, f);
     if !roles::is_use(field.role) {
         return false;
     }
-    !has(sets[q], field.value)
+    !has(set, field.value)
 }
 
-fn is_out_of_reach(s: &[u8], c: Script, sets: &[u64; Script::MAX_PARTS], q: usize) -> bool
-    requires { ⌜ Laid (now s) c × (Sound (now s) × (KeepsReach (now s) (now sets) × (q < c .expressions + c .nodes))) ⌝ }
+fn is_out_of_reach(s: &[u8], c: Script, set: u64, q: usize) -> bool
+    requires { ⌜ Laid (now s) c × (Sound (now s) × (IsReach (now s) q set × (q < c .expressions + c .nodes))) ⌝ }
     ensures { λ r. ⌜ r ≡ isOutOfReach (now (s .entry)) q ⌝ }
 {
     let mut f: usize = 0;
     while f < Part::FIELDS {
-        if misses_name(s, c, sets, q, f) {
+        if misses_name(s, c, set, q, f) {
             return true;
         }
         f += 1;
@@ -129,25 +113,25 @@ fn is_out_of_reach(s: &[u8], c: Script, sets: &[u64; Script::MAX_PARTS], q: usiz
     false
 }
 
-// Of the n parts from part `from` on, the smallest that uses a name out of reach by its number among them, or n.
-fn first_out_of_reach(
-    s: &[u8],
-    c: Script,
-    sets: &[u64; Script::MAX_PARTS],
-    from: usize,
-    n: usize,
-) -> usize
-    requires { ⌜ Laid (now s) c × (Sound (now s) × (KeepsReach (now s) (now sets) × (from + n ≤ c .expressions + c .nodes))) ⌝ }
-    ensures { λ r. ⌜ r ≡ first (λ k. isOutOfReach (now (s .entry)) (from + k)) n ⌝ }
+// The smallest part that uses a name out of reach, or the number of parts. A part is used by a later one, so this goes
+// from the last part to the first, and finds for each part the names in reach.
+fn first_out_of_reach(s: &[u8], c: Script) -> usize
+    requires { ⌜ Laid (now s) c × Joined (now s) ⌝ }
+    ensures { λ r. ⌜ r ≡ first (isOutOfReach (now (s .entry))) (c .expressions + c .nodes) ⌝ }
 {
-    let mut k: usize = 0;
-    while k < n {
-        if is_out_of_reach(s, c, sets, from + k) {
-            return k;
+    let mut sets = [0u64; Script::MAX_PARTS];
+    let n = c.expressions + c.nodes;
+    sets[n - 1] = session_names(s, c);
+    let mut outside = n;
+    let mut q = n;
+    while 0 < q {
+        q -= 1;
+        enter_fields(s, c, q, &mut sets);
+        if is_out_of_reach(s, c, sets[q], q) {
+            outside = q;
         }
-        k += 1;
     }
-    k
+    outside
 }
 
 // Row 10.
@@ -156,9 +140,6 @@ pub fn refusal(s: &[u8], c: Script) -> Refusal
     ensures { λ r. ⌜ r ≡ reachRefusal (now (s .entry)) ⌝ }
 {
     let e = c.expressions;
-    let n = c.nodes;
-    let sets = find_reach(s, c);
-    let outside = first_out_of_reach(s, c, &sets, 0, e);
-    let outside_node = first_out_of_reach(s, c, &sets, e, n);
-    in_order(10, outside, e, outside_node, n)
+    let n = e + c.nodes;
+    at_part(10, e, n, first_out_of_reach(s, c))
 }

@@ -2,10 +2,10 @@
 use layout::Script;
 use prelude::Refusal;
 ghost use mathlib.Core.Path.{_≡_};
-ghost use Prim.Native.Nat.{_≤_};
+ghost use Prim.Native.Nat.{_+_, _≤_};
 ghost use Rattle.prelude.specs.Refusals.{refusedBy};
 ghost use Rattle.layout.specs.Layout.{mostExpressions, mostNodes, mostParts};
-ghost use Rattle.refusals.specs.Places.{inOrder};
+ghost use Rattle.refusals.specs.Places.{atPart};
 
 pub fn refused(number: u32, place: usize) -> Refusal
     requires { ⌜ place ≤ mostParts ⌝ }
@@ -17,16 +17,16 @@ pub fn refused(number: u32, place: usize) -> Refusal
     }
 }
 
-// What was found among e expressions and n nodes: expressions come first.
-pub fn in_order(number: u32, expression: usize, e: usize, node: usize, n: usize) -> Refusal
-    requires { ⌜ (e ≤ mostExpressions) × (n ≤ mostNodes) ⌝ }
-    ensures { λ r. ⌜ r ≡ inOrder number expression e node n ⌝ }
+// The refusal at part q, the smallest at fault among the first n, of which e are expressions: n if none is at fault.
+pub fn at_part(number: u32, e: usize, n: usize, q: usize) -> Refusal
+    requires { ⌜ (e ≤ mostExpressions) × (n ≤ e + mostNodes) ⌝ }
+    ensures { λ r. ⌜ r ≡ atPart number e n q ⌝ }
 {
-    if expression < e {
-        return refused(number, expression);
+    if n <= q {
+        return refused(0, 0);
     }
-    if node < n {
-        return refused(number, Script::MAX_EXPRESSIONS + node);
+    if q < e {
+        return refused(number, q);
     }
-    refused(0, 0)
+    refused(number, Script::MAX_EXPRESSIONS + (q - e))
 }

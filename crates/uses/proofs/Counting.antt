@@ -15,9 +15,9 @@ module _ (s : List ℕ) (some : 1 ≤ nodeCount s) where
   pub each-once : passes (useRefusal s) ≡ true → (q : ℕ) → suc q < partCount s → timesUsed s q ≡ 1
   unfolding useRefusal
   each-once h q l =
-      eqb-true _ _ (not-false _ (passes-parts s 9 (isLoose s) (nodeCount s - 1) refl h q (omega arith)))
+      eqb-true _ _ (not-false _ (passes-parts s 9 (isLoose s) (partCount s - 1) refl h q (omega arith)))
 
   pub none-loose : ((q : ℕ) → suc q < partCount s → timesUsed s q ≡ 1) → useRefusal s ≡ notRefused
   unfolding useRefusal
   none-loose once =
-      past-parts s 9 (isLoose s) (nodeCount s - 1) (λ q h. ap not (eq-eqb _ _ (once q (omega arith))))
+      past-parts s 9 (isLoose s) (partCount s - 1) (λ q h. ap not (eq-eqb _ _ (once q (omega arith))))

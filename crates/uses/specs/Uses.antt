@@ -7,7 +7,7 @@ use lib.Dec.{eqb}
 use lib.ListN.{getD, length}
 use Rattle.prelude.specs.declared.Refusal.{Refusal}
 use Rattle.prelude.specs.Search.{count}
-use Rattle.layout.specs.Layout.{mostParts, expressionCount, nodeCount, partCount}
+use Rattle.layout.specs.Layout.{mostParts, expressionCount, partCount}
 use Rattle.refusals.specs.Places.{atFirstPart}
 use Rattle.fields.specs.declared.Field.{Field}
 use Rattle.fields.specs.Roles.{expression, child}
@@ -44,6 +44,6 @@ abbrev pub KeepsTimesTo : List ℕ → ℕ → List ℕ → Type 0
 KeepsTimesTo s i times =
     (length times ≡ mostParts) × ((q : ℕ) → q < mostParts → getD times q 0 ≡ count (λ k. eqb (used s k) q) i)
 
--- row 9: 'used not exactly once'; the last node is not used
+-- row 9: 'used not exactly once', of all parts but the last, which is the last node
 unfoldable pub useRefusal : List ℕ → Refusal
-useRefusal s = atFirstPart s 9 (isLoose s) (nodeCount s - 1)
+useRefusal s = atFirstPart s 9 (isLoose s) (partCount s - 1)

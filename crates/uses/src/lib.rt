@@ -5,7 +5,7 @@ use fields::roles;
 use layout::Script;
 use layout::entries::Part;
 use prelude::Refusal;
-use refusals::places::in_order;
+use refusals::places::at_part;
 ghost use mathlib.Core.Path.{_≡_};
 ghost use mathlib.Core.Bool.{not};
 ghost use lib.Dec.{eqb};
@@ -68,34 +68,28 @@ fn count_uses(s: &[u8], c: Script) -> [u16; Script::MAX_PARTS]
     times
 }
 
-// Of the n parts from part `from` on, the smallest that is not used exactly once by its number among them, or n.
-fn first_loose(times: &[u16; Script::MAX_PARTS], from: usize, n: usize) -> usize
-    requires { ⌜ from + n ≤ mostParts ⌝ }
-    ensures { λ r. ⌜ r ≡ first (λ k. not (eqb (getD (now (times .entry)) (from + k) 0) 1)) n ⌝ }
+// The smallest of the first n parts that is not used exactly once, or n.
+fn first_loose(times: &[u16; Script::MAX_PARTS], n: usize) -> usize
+    requires { ⌜ n ≤ mostParts ⌝ }
+    ensures { λ r. ⌜ r ≡ first (λ q. not (eqb (getD (now (times .entry)) q 0) 1)) n ⌝ }
 {
-    let mut k: usize = 0;
-    while k < n {
-        if times[from + k] != 1 {
-            return k;
+    let mut q: usize = 0;
+    while q < n {
+        if times[q] != 1 {
+            return q;
         }
-        k += 1;
+        q += 1;
     }
-    k
+    q
 }
 
-// Row 9. The last node is used by nothing.
+// Row 9. The last part, which is the last node, is used by nothing.
 pub fn refusal(s: &[u8], c: Script) -> Refusal
     requires { ⌜ Laid (now s) c ⌝ }
     ensures { λ r. ⌜ r ≡ useRefusal (now (s .entry)) ⌝ }
 {
     let e = c.expressions;
-    let n = c.nodes - 1;
+    let n = e + c.nodes - 1;
     let times = count_uses(s, c);
-    in_order(
-        9,
-        first_loose(&times, 0, e),
-        e,
-        first_loose(&times, e, n),
-        n,
-    )
+    at_part(9, e, n, first_loose(&times, n))
 }

@@ -73,7 +73,7 @@ wrong-node :
 wrong-node c =
     let b = start3 c in
     c .first-wrong-part2 .ensures
-    ∙ over-nodes (file b) (b .args .c) (b .pre .same) (λ e. not (partIsRight (file b) e)) (λ n. n)
+    ∙ over-nodes (file b) (b .args .c) (b .pre .same) (λ e. not (partIsRight (file b) e))
 
 right-nodes :
     (c : tie.Else3) →

@@ -1,56 +1,131 @@
--- `first_out_of_reach`: the parts passed use only names in reach.
-use mathlib.Core.Path.{sym, _∙_}
-use Prim.Native.Nat.{_+_, _-_, _≤_}
-use native.Mathlib.Nat.{le-antisymm}
+-- `first_out_of_reach`: the sets of the last part and of the parts that the fields of the parts from q on use are right,
+-- and what is found among the parts from q on.
+use mathlib.Core.Path.{_≡_, refl, sym, _∙_, subst}
+use Prim.Native.Nat.{_+_, _*_, _-_, _≤_, _<_}
 use native.Mathlib.Omega.{arith}
-use borrow.Author.Count.{below-none, below-more}
-use Rattle.prelude.proofs.Searches.{NoneBelow, past, first-is, first-none}
-use Rattle.reach.specs.Reach.{isOutOfReach}
+use lib.ListN.{replicate}
+use Rattle.prelude.specs.Sets.{IsSet}
+use Rattle.prelude.proofs.Searches.{SmallestFrom, down-none, down-hit, down-miss, down-all}
+use Rattle.layout.specs.Layout.{mostParts}
+use Rattle.layout.specs.Entries.{isSession}
+use Rattle.layout.proofs.Layouts.{few-bounds, names-are, parts-are, few-parts}
+use Rattle.fields.specs.Fields.{fieldCount}
+use Rattle.reach.specs.Reach.{isOutOfReach, KeepsReachFrom}
+use Rattle.reach.proofs.ReachTables.{right-from, fill-last}
 use borrow.Author.Needs.{needs}
 use Rattle.reach.proofs.first_out_of_reach.Statement.{statement}
 use Rattle.reach.proofs.first_out_of_reach.Tie as tie
 
 abbrev Inv-loop : tie.InvT-loop
-Inv-loop s c sets from n k₀ k = (k ≤ n) × NoneBelow (λ j. isOutOfReach s (from + j)) k
+Inv-loop s c sets₀ n outside₀ q₀ sets outside q =
+    (q ≤ n) × (KeepsReachFrom s (fieldCount * q) sets × SmallestFrom (isOutOfReach s) n q outside)
 
 abbrev μ-loop : tie.MeasureT-loop
-μ-loop s c sets from n k₀ k = n - k
+μ-loop s c sets₀ n outside₀ q₀ sets outside q = q
+
+add-n : tie.Need-add-n Inv-loop μ-loop
+add-n c = let start = c .before .before in omega (arith, few-bounds (start .args .c) (start .pre .0 .few))
+
+session-names-requires : tie.Need-session-names-requires Inv-loop μ-loop
+session-names-requires c κs = search needs
+
+sub-sets : tie.Need-sub-sets Inv-loop μ-loop
+sub-sets c = let start = c .before .before .before in omega (arith, few-bounds (start .args .c) (start .pre .0 .few))
+
+mul-sets : tie.Need-mul-sets Inv-loop μ-loop
+mul-sets c = let start = c .before .before .before in omega (arith, few-bounds (start .args .c) (start .pre .0 .few))
+
+array-write-sets : tie.Need-array-write-sets Inv-loop μ-loop
+array-write-sets c = let start = c .before .before .before in omega (arith, few-bounds (start .args .c) (start .pre .0 .few))
 
 loop-holds : tie.Need-loop-holds Inv-loop μ-loop
-loop-holds c = (search needs, below-none _)
+loop-holds c =
+    let start = c .before .before .before in
+    let laid = start .pre .0 in
+    let n = start .args .c .expressions + start .args .c .nodes in
+    let names = c .session-names in (
+      search needs,
+      (
+        fill-last _ (start .pre .1) (few-parts laid) _ (n - 1) _ (replicate mostParts 0) refl
+            (omega (arith, parts-are laid))
+            (omega (arith, parts-are laid, few-bounds (start .args .c) (laid .few)))
+            (subst (λ n. IsSet n (isSession (start .args .s .now)) (names .result)) (names-are laid) (names .ensures)),
+        down-none _ n,
+      ),
+    )
 
-add-is-out-of-reach : tie.Need-add-is-out-of-reach Inv-loop μ-loop
-add-is-out-of-reach c = search needs
+sub-q : tie.Need-sub-q Inv-loop μ-loop
+sub-q c = search needs
+
+enter-fields-requires : tie.Need-enter-fields-requires Inv-loop μ-loop
+enter-fields-requires c κs =
+    let start = c .before .before .before .before .before .before in
+    let loop = c .before .before .loop in
+    let here : fieldCount * loop .q ≡ fieldCount * (loop .q - 1 + 1) = omega (arith, c .before .loop-test .taken) in (
+      start .pre .0,
+      (
+        start .pre .1,
+        (
+          omega (arith, loop .inv .0, c .before .loop-test .taken),
+          subst (λ i. KeepsReachFrom (start .args .s .now) i (loop .sets)) here (loop .inv .1 .0),
+        ),
+      ),
+    )
+
+mul-is-out-of-reach : tie.Need-mul-is-out-of-reach Inv-loop μ-loop
+mul-is-out-of-reach c =
+    let start = c .before .before .before .before .before .before .before in
+    omega (arith, c .before .before .before .loop .inv .0, few-bounds (start .args .c) (start .pre .0 .few))
+
+array-read-is-out-of-reach : tie.Need-array-read-is-out-of-reach Inv-loop μ-loop
+array-read-is-out-of-reach c =
+    let start = c .before .before .before .before .before .before .before in
+    omega
+    (arith, c .before .before .before .loop .inv .0, c .before .before .loop-test .taken, few-bounds (start .args .c) (start .pre .0 .few))
 
 is-out-of-reach-requires : tie.Need-is-out-of-reach-requires Inv-loop μ-loop
 is-out-of-reach-requires c κs =
-    let pre = c .before .before .before .pre in
-    (pre .0, (pre .1 .0, (pre .1 .1 .0, omega arith)))
-
-returns : tie.Need-returns Inv-loop μ-loop
-returns c =
-    sym
-    (first-is _ _ _ (c .before .before .loop-test .taken)
-    (sym (c .before .is-out-of-reach .ensures) ∙ c .if1 .taken)
-    (c .before .before .before .loop .inv .1))
-
-add-k : tie.Need-add-k Inv-loop μ-loop
-add-k c = search needs
+    let start = c .before .before .before .before .before .before .before in
+    let laid = start .pre .0 in
+    let loop = c .before .before .before .loop in
+    let within : loop .q - 1 < start .args .c .expressions + start .args .c .nodes =
+    omega (arith, loop .inv .0, c .before .before .loop-test .taken) in (
+      laid,
+      (
+        start .pre .1 .sound,
+        (
+          right-from _ (start .pre .1) (few-parts laid) _ _ (c .enter-fields .ensures) _
+              (omega (arith, within, parts-are laid))
+              (omega arith),
+          within,
+        ),
+      ),
+    )
 
 loop-less : tie.Need-loop-less Inv-loop μ-loop
 loop-less c = search needs
 
 loop-again : tie.Need-loop-again Inv-loop μ-loop
-loop-again c = (
-  search needs,
-  below-more _ _ (c .before .before .before .loop .inv .1) (sym (c .before .is-out-of-reach .ensures) ∙ c .if1 .left),
-)
+loop-again c =
+    let e = c .before .before in
+    let loop = e .before .before .before .loop in
+    let test = sym (c .before .is-out-of-reach .ensures) ∙ c .if1 .taken in
+    (search needs, (e .enter-fields .ensures, down-hit _ _ _ (e .before .before .loop-test .taken) (loop .inv .0) test))
 
-returns-2 : tie.Need-returns-2 Inv-loop μ-loop
-returns-2 c =
-    sym
-    (first-none _ _ (past (c .loop-test .left) (c .before .loop .inv .1))
-    ∙ le-antisymm (c .loop-test .left) (c .before .loop .inv .0))
+loop-less-2 : tie.Need-loop-less-2 Inv-loop μ-loop
+loop-less-2 c = search needs
+
+loop-again-2 : tie.Need-loop-again-2 Inv-loop μ-loop
+loop-again-2 c =
+    let e = c .before .before in
+    let loop = e .before .before .before .loop in
+    let test = sym (c .before .is-out-of-reach .ensures) ∙ c .if1 .left in
+    let found = down-miss _ _ _ (e .before .before .loop-test .taken) (loop .inv .0) test (loop .inv .1 .1) in
+    (search needs, (e .enter-fields .ensures, found))
+
+returns : tie.Need-returns Inv-loop μ-loop
+returns c =
+    down-all _ _ (omega arith) (c .before .loop .inv .1 .1)
 
 pub first-out-of-reach-spec : {M : Type 1} → statement M
 first-out-of-reach-spec =
@@ -58,11 +133,19 @@ first-out-of-reach-spec =
     (tie.spec
     Inv-loop
     μ-loop
+    add-n
+    session-names-requires
+    sub-sets
+    mul-sets
+    array-write-sets
     loop-holds
-    add-is-out-of-reach
+    sub-q
+    enter-fields-requires
+    mul-is-out-of-reach
+    array-read-is-out-of-reach
     is-out-of-reach-requires
-    returns
-    add-k
     loop-less
     loop-again
-    returns-2)
+    loop-less-2
+    loop-again-2
+    returns)

@@ -1,7 +1,7 @@
 -- `first_loose`: the parts passed are used once.
 use mathlib.Core.Path.{sym, ap, _∙_}
 use mathlib.Core.Bool.{not}
-use Prim.Native.Nat.{_+_, _-_, _≤_}
+use Prim.Native.Nat.{_-_, _≤_}
 use native.Mathlib.Nat.{le-antisymm}
 use borrow.Author.Count.{below-none, below-more}
 use borrow.Author.Tests.{eq-eqb, ne-eqb}
@@ -13,16 +13,13 @@ use Rattle.uses.proofs.first_loose.Statement.{statement}
 use Rattle.uses.proofs.first_loose.Tie as tie
 
 abbrev Inv-loop : tie.InvT-loop
-Inv-loop times from n k₀ k = (k ≤ n) × NoneBelow (λ j. not (eqb (getD times (from + j) 0) 1)) k
+Inv-loop times n q₀ q = (q ≤ n) × NoneBelow (λ j. not (eqb (getD times j 0) 1)) q
 
 abbrev μ-loop : tie.MeasureT-loop
-μ-loop times from n k₀ k = n - k
+μ-loop times n q₀ q = n - q
 
 loop-holds : tie.Need-loop-holds Inv-loop μ-loop
 loop-holds c = (search needs, below-none _)
-
-add-if1 : tie.Need-add-if1 Inv-loop μ-loop
-add-if1 c = search needs
 
 mul-if1 : tie.Need-mul-if1 Inv-loop μ-loop
 mul-if1 c = search needs
@@ -36,8 +33,8 @@ returns c =
     (first-is _ _ _ (c .before .before .loop-test .taken) (ap not (ne-eqb _ _ (c .if1 .taken)))
     (c .before .before .before .loop .inv .1))
 
-add-k : tie.Need-add-k Inv-loop μ-loop
-add-k c = search needs
+add-q : tie.Need-add-q Inv-loop μ-loop
+add-q c = search needs
 
 loop-less : tie.Need-loop-less Inv-loop μ-loop
 loop-less c = search needs
@@ -61,11 +58,10 @@ first-loose-spec =
     Inv-loop
     μ-loop
     loop-holds
-    add-if1
     mul-if1
     element-copy-out-if1
     returns
-    add-k
+    add-q
     loop-less
     loop-again
     returns-2)
