@@ -8,7 +8,7 @@ use lib.Dec.{ltb}
 use lib.ListN.{getD}
 use borrow.Author.Tests.{ltb-true}
 use Rattle.prelude.proofs.Bools.{and-left, and-right}
-use Rattle.fields.specs.Roles.{Row, packed, roleIn}
+use Rattle.fields.specs.Roles.{Row, childrenIn, packed, roleIn}
 
 -- the roles of a row are below 16
 abbrev small : Row → Bool
@@ -38,6 +38,19 @@ unpacked row h f l =
     go (suc zero) l a b c = omega arith
     go (suc (suc zero)) l a b c = omega arith
     go (suc (suc (suc f))) l a b c = absurd (omega arith)
+
+-- the bits above them
+counted : (row : Row) → small row ≡ true → packed row / 4096 ≡ childrenIn row
+counted row h =
+    let rest = and-right (ltb (getD row 0 0) 16) _ h in
+    let a = ltb-true (getD row 0 0) 16 (and-left _ (ltb (getD row 1 0) 16 && ltb (getD row 2 0) 16) h) in
+    let b = ltb-true (getD row 1 0) 16 (and-left _ (ltb (getD row 2 0) 16) rest) in
+    let c = ltb-true (getD row 2 0) 16 (and-right (ltb (getD row 1 0) 16) _ rest) in
+    omega (arith, a, b, c)
+
+pub children-of-row :
+    (rows : List Row) → allSmall rows ≡ true → (k : ℕ) → packed (getD rows k []) / 4096 ≡ childrenIn (getD rows k [])
+children-of-row rows h k = counted (getD rows k []) (small-at rows h k)
 
 pub role-of-row :
     (rows : List Row) → allSmall rows ≡ true → (k f : ℕ) → f < 3 → packed (getD rows k []) / 2 ^ (4 * f) % 16 ≡ roleIn rows k f

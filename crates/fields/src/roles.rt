@@ -3,7 +3,7 @@ ghost use mathlib.Core.Path.{_≡_};
 ghost use Prim.Native.Nat.{_<_};
 ghost use mathlib.Core.List.{[]};
 ghost use lib.ListN.{getD};
-ghost use Rattle.fields.specs.Roles.{expressionRows, nodeRows, roleIn, packed, isUse, isNew};
+ghost use Rattle.fields.specs.Roles.{expressionRows, nodeRows, roleIn, childCount, packed, isUse, isNew};
 
 // Nothing: the field is 0.
 pub const UNUSED: u16 = 0;
@@ -26,10 +26,12 @@ pub const EXPRESSION_KINDS: usize = 9;
 
 pub const NODE_KINDS: usize = 11;
 
-// A row says what fields a, b and c hold: a in the lowest four bits, then b, then c.
+// A row says what fields a, b and c hold: a in the lowest four bits, then b, then c, then how many hold a child.
 const B: u16 = 16;
 
 const C: u16 = 256;
+
+const CHILDREN: u16 = 4096;
 
 const EXPRESSION_ROWS: [u16; EXPRESSION_KINDS] = [
     UNUSED + B * HALF + C * HALF,
@@ -46,15 +48,15 @@ const EXPRESSION_ROWS: [u16; EXPRESSION_KINDS] = [
 const NODE_ROWS: [u16; NODE_KINDS] = [
     UNUSED + B * UNUSED + C * UNUSED,
     REGISTER + B * EXPRESSION + C * UNUSED,
-    NEW_REGISTER + B * EXPRESSION + C * CHILD,
-    EXPRESSION + B * CHILD + C * CHILD,
-    EXPRESSION + B * CHILD + C * UNUSED,
-    CHILD + B * CHILD + C * UNUSED,
+    NEW_REGISTER + B * EXPRESSION + C * CHILD + CHILDREN * 1,
+    EXPRESSION + B * CHILD + C * CHILD + CHILDREN * 2,
+    EXPRESSION + B * CHILD + C * UNUSED + CHILDREN * 1,
+    CHILD + B * CHILD + C * UNUSED + CHILDREN * 2,
     SIGNAL + B * UNUSED + C * UNUSED,
-    NEW_SIGNAL + B * CHILD + C * UNUSED,
-    SIGNAL + B * CHILD + C * UNUSED,
-    SIGNAL + B * CHILD + C * UNUSED,
-    CHILD + B * CHILD + C * UNUSED,
+    NEW_SIGNAL + B * CHILD + C * UNUSED + CHILDREN * 1,
+    SIGNAL + B * CHILD + C * UNUSED + CHILDREN * 1,
+    SIGNAL + B * CHILD + C * UNUSED + CHILDREN * 1,
+    CHILD + B * CHILD + C * UNUSED + CHILDREN * 2,
 ];
 
 // Each row by a constant: a table that is looked up by a variable would be built at each call.
@@ -150,6 +152,13 @@ pub fn node_role(kind: usize, f: usize) -> u16
     ensures { λ r. ⌜ r ≡ roleIn nodeRows kind f ⌝ }
 {
     (node_row(kind) >> (4 * f)) % 16
+}
+
+// How many children a node of this kind has.
+pub fn child_count(kind: usize) -> usize
+    ensures { λ r. ⌜ r ≡ childCount kind ⌝ }
+{
+    (node_row(kind) >> 12) as usize
 }
 
 // A field of this role uses a name.

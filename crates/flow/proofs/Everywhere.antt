@@ -19,7 +19,8 @@ use Rattle.fields.specs.Fields.{firstChild, secondChild}
 use Rattle.tree.specs.Tree.{namesOf, processOf, tree}
 use Rattle.reach.specs.Checked.{Checked}
 use Rattle.layout.proofs.Layouts.{few-bounds}
-use Rattle.levels.specs.Kinds.{childCount, childrenOf}
+use Rattle.fields.specs.Roles.{childCount}
+use Rattle.levels.specs.Kinds.{childrenOf}
 use Rattle.flow.specs.Flow.{needAt, firstFailing, Under, itself, inFirst, inSecond, Smallest, FailsUnder}
 use Rattle.levels.proofs.ByKind.{needsOf, needs-by-kind}
 use Rattle.flow.proofs.Shapes.{Children, none, one, two, children}

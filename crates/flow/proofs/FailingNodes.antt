@@ -11,7 +11,7 @@ use Rattle.layout.specs.declared.entries.Part.{Part}
 use Rattle.layout.specs.Layout.{nodeCount}
 use Rattle.layout.specs.Entries.{partOf, node}
 use Rattle.fields.specs.Fields.{firstChild, secondChild}
-use Rattle.levels.specs.Kinds.{childCount}
+use Rattle.fields.specs.Roles.{childCount}
 use Rattle.flow.specs.Flow.{Levels, needAt, Under, itself, inFirst, inSecond, Smallest, FailsUnder, lattice}
 use Rattle.flow.proofs.Least.{smallest-same, smallest-either}
 

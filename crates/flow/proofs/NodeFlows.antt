@@ -22,7 +22,8 @@ use Rattle.layout.proofs.Layouts.{nodes-are}
 use Rattle.levels.specs.declared.Flow.{Flow}
 use Rattle.levels.specs.declared.Own.{Own}
 use Rattle.levels.specs.Kinds as kind
-use Rattle.levels.specs.Kinds.{kindOf, hasWrite, hasTest, childCount, childrenOf}
+use Rattle.fields.specs.Roles.{childCount}
+use Rattle.levels.specs.Kinds.{kindOf, hasWrite, hasTest, childrenOf}
 use Rattle.levels.specs.Nodes.{ownOf, writeFrom, testFrom, ownNeed, pairNeed, bothFrom, flowFrom, OwnWithin, FlowWithin}
 use Rattle.flow.specs.Flow.{Levels, needAt, Smallest, FailsUnder, lattice, Ready, Joins, Meets, FlowAt}
 use Rattle.flow.proofs.BookLevels.{top-is, bottom-is, top-inside, bottom-inside, order-said, join-kept, meet-kept, join-inside, meet-inside, write-inside, test-inside}

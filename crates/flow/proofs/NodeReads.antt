@@ -13,7 +13,7 @@ use Rattle.fields.specs.Fields.{firstChild, secondChild}
 use Rattle.layout.specs.Layout.{layoutOf}
 use Rattle.levels.specs.declared.Flow.{Flow}
 use Rattle.levels.specs.declared.Own.{Own}
-use Rattle.levels.specs.Kinds.{childCount}
+use Rattle.fields.specs.Roles.{childCount}
 use Rattle.levels.specs.Nodes.{pairNeed, testFrom, bothFrom, flowFrom, OwnWithin, FlowWithin}
 use Rattle.flow.specs.Flow.{Levels, lattice, Ready, Walks, IsNodeAt, OwnOf, FlowAt}
 use Rattle.flow.proofs.BookLevels.{own-index, flow-index, test-index, flow-same}

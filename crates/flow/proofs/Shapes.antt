@@ -4,19 +4,16 @@ use mathlib.Core.Path.{_≡_, refl, sym, ap, ap₂, _∙_, subst}
 use mathlib.Core.Bool.{cond}
 use mathlib.Core.List.{List, [], _∷_}
 use Prim.Native.Nat.{ℕ, _<_}
-use native.Mathlib.Omega.{arith}
 use lib.Dec.{eqb}
-use borrow.Author.Tests.{le-ltb}
 use Rattle.layout.specs.declared.entries.Part.{Part}
-use Rattle.layout.specs.Layout.{expressionCount, nodeCount}
-use Rattle.fields.specs.Roles.{nodeRows, roleIn, child, expressionKinds, nodeKinds}
+use Rattle.layout.specs.Layout.{nodeCount}
+use Rattle.fields.specs.Roles.{nodeRows, roleIn, child, childCount}
 use Rattle.layout.specs.Entries.{partOf, node}
 use Rattle.fields.specs.Fields.{firstChild, secondChild}
 use Rattle.tree.specs.Tree.{processOf}
 use Rattle.reach.specs.Checked.{Checked}
-use Rattle.faults.proofs.Holding.{right-kind}
 use Rattle.tree.proofs.Views.{NodeView, aNil, anAssign, aLet, anIf, aWhile, aSequence, anEmit, aLocal, aWatching, aWhen, aParallel, node-view}
-use Rattle.levels.specs.Kinds.{kindOf, childCount, childrenOf}
+use Rattle.levels.specs.Kinds.{kindOf, childrenOf}
 
 module _ (s : List ℕ) (k : ℕ) where
   abbrev part : Part
@@ -98,9 +95,3 @@ module _ (s : List ℕ) (ok : Checked s) (k : ℕ) (h : k < nodeCount s) where
 
   pub kind-is : partOf s (node s k) .kind ≡ kindOf (processOf s k)
   kind-is = kind-view s k (node-view s ok k h)
-
-  pub kind-below : partOf s (node s k) .kind < nodeKinds
-  kind-below =
-      subst (λ n. partOf s (node s k) .kind < n)
-      (ap (λ b. cond b expressionKinds nodeKinds) (le-ltb (node s k) (expressionCount s) (omega arith)))
-      (right-kind s (ok .joined .sound) (node s k) (omega arith))

@@ -12,7 +12,7 @@ use borrow.Author.Tests.{eqb-true, ltb-true}
 use Rattle.prelude.proofs.Bools.{and-left, by-cases}
 use Rattle.prelude.proofs.Each.{each}
 use Rattle.layout.specs.Layout.{expressionCount, nodeCount, partCount}
-use Rattle.fields.specs.Roles.{nodeRows, roleIn, expression, child}
+use Rattle.fields.specs.Roles.{nodeRows, roleIn, expression, child, childCount}
 use Rattle.layout.specs.Entries.{partOf, node}
 use Rattle.fields.specs.Fields.{fieldCount, fieldOf, valueOf}
 use Rattle.uses.specs.Uses.{usedBy, used}
@@ -22,7 +22,6 @@ use Rattle.faults.proofs.Holding.{holds-expression, right-field}
 use Rattle.uses.proofs.Used.{used-of}
 use Rattle.reach.proofs.Joining.{used-earlier, user}
 use Rattle.tree.proofs.Views.{NodeView, aNil, anAssign, aLet, anIf, aWhile, aSequence, anEmit, aLocal, aWatching, aWhen, aParallel, node-view, role}
-use Rattle.levels.specs.Kinds.{childCount}
 use Rattle.flow.specs.Flow.{Under, itself, inFirst, inSecond}
 use Rattle.flow.proofs.Shapes.{firstIn, secondIn, first-is, second-is}
 

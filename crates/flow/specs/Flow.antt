@@ -20,7 +20,7 @@ use Rattle.tree.specs.Tree.{namesOf, expressionOf, processOf, tree}
 use Rattle.reach.specs.Checked.{Checked, Levelled}
 use Rattle.levels.specs.declared.Flow.{Flow}
 use Rattle.levels.specs.declared.Own.{Own}
-use Rattle.levels.specs.Kinds.{childCount}
+use Rattle.fields.specs.Roles.{childCount}
 use Rattle.levels.specs.Nodes.{ownOf, OwnWithin, FlowWithin}
 
 -- row 11: 'a need above fails', at 'first node': node k has its need

@@ -1,5 +1,5 @@
 // Write level, test level and refusal 11: one walk over the tree of a checked script.
-mod kinds; // kinds.rt: the kinds of expressions, and the number of children of a node
+mod kinds; // kinds.rt: the kinds of expressions
 mod expressions; // expressions.rt: the level of an expression
 mod own; // own.rt: what a node brings itself
 mod walk; // walk.rt: the walk over the nodes

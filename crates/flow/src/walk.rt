@@ -1,8 +1,8 @@
 // The walk over the nodes.
-use crate::kinds;
 use crate::own;
 use book::Book;
 use fields::children::children_of;
+use fields::roles::child_count;
 use layout::entries::part_at;
 use levels::Flow;
 use table::PairTable;
@@ -28,7 +28,7 @@ pub fn flow_at(
 {
     let p = part_at(s, at, expressions + k);
     let own = own::own_levels(s, at, bottom, join, p);
-    let count = kinds::child_count(p.kind);
+    let count = child_count(p.kind);
     if count == 0 {
         let none = Flow {
             write: top,

@@ -3,7 +3,6 @@ use mathlib.Core.Bool.{Bool, _||_}
 use mathlib.Core.List.{List, [], _∷_}
 use Prim.Native.Nat.{ℕ}
 use lib.Dec.{eqb}
-use lib.ListN.{getD}
 use Rattle.language.specs.Syntax as syntax
 use Rattle.language.specs.Syntax.{Proc}
 
@@ -74,10 +73,6 @@ hasSignal kind = (eqb kind emit || eqb kind local) || hasWait kind
 -- a name is written: assign, emit
 abbrev pub hasWrite : ℕ → Bool
 hasWrite kind = eqb kind assign || eqb kind emit
-
--- how many children a node of this kind has
-abbrev pub childCount : ℕ → ℕ
-childCount kind = getD (0 ∷ 0 ∷ 1 ∷ 2 ∷ 1 ∷ 2 ∷ 0 ∷ 1 ∷ 1 ∷ 1 ∷ 2 ∷ []) kind 0
 
 -- the children of a process
 unfoldable pub childrenOf : {L : Type 0} → Proc L → List (Proc L)

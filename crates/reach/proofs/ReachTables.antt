@@ -14,7 +14,7 @@ use Rattle.layout.specs.Layout.{mostParts, nameCount, partCount}
 use Rattle.layout.specs.Entries.{isSession}
 use Rattle.fields.specs.Fields.{fieldCount}
 use Rattle.uses.specs.Uses.{used, allFields}
-use Rattle.reach.specs.Reach.{inReach, opens, IsReach, KeepsReachFrom}
+use Rattle.reach.specs.Reach.{inReach, opens, KeepsReachAt, KeepsReachFrom}
 use Rattle.reach.specs.Checked.{Joined}
 use Rattle.reach.proofs.Joining.{used-earlier, user, used-once}
 use Rattle.reach.proofs.Reaching.{reach-used, reach-last}
@@ -24,14 +24,14 @@ module _ (s : List ℕ) (j : Joined s) (few : partCount s ≤ mostParts) where
   pub right-from :
       (i : ℕ) (sets : List ℕ) → KeepsReachFrom s i sets →
       (q : ℕ) → q < partCount s → i ≤ fieldCount * q + fieldCount →
-      IsReach s q (getD sets q 0)
+      KeepsReachAt s q sets
   right-from i sets h q l u =
       elim (decLt (suc q) (partCount s)) [
         | yes more ↦
             let w = user s j q more in
             let e : used s (w .0) ≡ q = w .2 in
             let small : used s (w .0) < mostParts = omega arith in
-            subst (λ p. IsReach s p (getD sets p 0)) e
+            subst (λ p. KeepsReachAt s p sets) e
             (h .passed (w .0) (omega (arith, used-earlier s j (w .0) (w .1) small)) (w .1) small)
         | no end ↦
             let e : suc q ≡ partCount s = omega arith in
@@ -81,7 +81,7 @@ module _ (s : List ℕ) (j : Joined s) (few : partCount s ≤ mostParts) where
             λ m low high part.
             elim (ℕ-discrete k m) [
               | yes same ↦
-                  subst (λ p. IsReach s p (getD (set sets v more) p 0)) (e ∙ ap (used s) same)
+                  subst (λ p. KeepsReachAt s p (set sets v more)) (e ∙ ap (used s) same)
                   (λ x named.
                   ap (λ n. has n x) (getD-set-same sets v more 0 (omega (arith, h .long)))
                   ∙ new x named

@@ -45,17 +45,17 @@ opens s i x =
     eqb (fieldAt s i .role) child
     && (isNew (fieldOf s (i / fieldCount) 0 .role) && eqb (fieldOf s (i / fieldCount) 0 .value) x)
 
--- a set of the names in reach in part q
-abbrev pub IsReach : List ℕ → ℕ → ℕ → Type 0
-IsReach s q = IsSet (nameCount s) (λ x. inReach s x q)
+-- a table that keeps the names in reach in part q as a set
+abbrev pub KeepsReachAt : List ℕ → ℕ → List ℕ → Type 0
+KeepsReachAt s q sets = IsSet (nameCount s) (λ x. inReach s x q) (getD sets q 0)
 
--- a table that keeps the names in reach in the last part, and in the parts that the fields from i on use, as a set each
+-- one that keeps them in the last part, and in the parts that the fields from i on use
 pub record KeepsReachFrom (s : List ℕ) (i : ℕ) (sets : List ℕ) : Type 0 where
   pub long : length sets ≡ mostParts
   pub last : (q : ℕ) → suc q ≡ partCount s → IsSet (nameCount s) (isSession s) (getD sets q 0)
   pub passed :
       (k : ℕ) → i ≤ k → k < allFields s → used s k < mostParts →
-      IsReach s (used s k) (getD sets (used s k) 0)
+      KeepsReachAt s (used s k) sets
 
 -- row 10: 'owned name outside its body'
 unfoldable pub reachRefusal : List ℕ → Refusal

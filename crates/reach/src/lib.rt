@@ -18,7 +18,7 @@ ghost use Rattle.layout.specs.Layout.{Laid, mostNames};
 ghost use Rattle.layout.specs.Entries.{isSession};
 ghost use Rattle.fields.specs.Fields.{fieldCount};
 ghost use Rattle.faults.specs.Faults.{Sound};
-ghost use Rattle.reach.specs.Reach.{missesName, isOutOfReach, opens, IsReach, KeepsReachFrom, reachRefusal};
+ghost use Rattle.reach.specs.Reach.{missesName, isOutOfReach, opens, KeepsReachAt, KeepsReachFrom, reachRefusal};
 ghost use Rattle.reach.specs.Checked.{Joined};
 
 // Name x is in the set: bit x.
@@ -87,25 +87,25 @@ fn enter_fields(s: &[u8], c: Script, q: usize, sets: &mut [u64; Script::MAX_PART
     }
 }
 
-// Field f of part q uses a name that is not in reach, where `set` is in reach.
-fn misses_name(s: &[u8], c: Script, set: u64, q: usize, f: usize) -> bool
-    requires { ⌜ Laid (now s) c × (Sound (now s) × (IsReach (now s) q set × ((q < c .expressions + c .nodes) × (f < fieldCount)))) ⌝ }
+// Field f of part q uses a name that is not in reach.
+fn misses_name(s: &[u8], c: Script, sets: &[u64; Script::MAX_PARTS], q: usize, f: usize) -> bool
+    requires { ⌜ Laid (now s) c × (Sound (now s) × (KeepsReachAt (now s) q (now sets) × ((q < c .expressions + c .nodes) × (f < fieldCount)))) ⌝ }
     ensures { λ r. ⌜ r ≡ missesName (now (s .entry)) q f ⌝ }
 {
     let field = field_at(s, c, q, f);
     if !roles::is_use(field.role) {
         return false;
     }
-    !has(set, field.value)
+    !has(sets[q], field.value)
 }
 
-fn is_out_of_reach(s: &[u8], c: Script, set: u64, q: usize) -> bool
-    requires { ⌜ Laid (now s) c × (Sound (now s) × (IsReach (now s) q set × (q < c .expressions + c .nodes))) ⌝ }
+fn is_out_of_reach(s: &[u8], c: Script, sets: &[u64; Script::MAX_PARTS], q: usize) -> bool
+    requires { ⌜ Laid (now s) c × (Sound (now s) × (KeepsReachAt (now s) q (now sets) × (q < c .expressions + c .nodes))) ⌝ }
     ensures { λ r. ⌜ r ≡ isOutOfReach (now (s .entry)) q ⌝ }
 {
     let mut f: usize = 0;
     while f < Part::FIELDS {
-        if misses_name(s, c, set, q, f) {
+        if misses_name(s, c, sets, q, f) {
             return true;
         }
         f += 1;
@@ -127,7 +127,7 @@ fn first_out_of_reach(s: &[u8], c: Script) -> usize
     while 0 < q {
         q -= 1;
         enter_fields(s, c, q, &mut sets);
-        if is_out_of_reach(s, c, sets[q], q) {
+        if is_out_of_reach(s, c, &sets, q) {
             outside = q;
         }
     }

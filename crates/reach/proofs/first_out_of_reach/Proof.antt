@@ -72,29 +72,19 @@ enter-fields-requires c κs =
       ),
     )
 
-mul-is-out-of-reach : tie.Need-mul-is-out-of-reach Inv-loop μ-loop
-mul-is-out-of-reach c =
-    let start = c .before .before .before .before .before .before .before in
-    omega (arith, c .before .before .before .loop .inv .0, few-bounds (start .args .c) (start .pre .0 .few))
-
-array-read-is-out-of-reach : tie.Need-array-read-is-out-of-reach Inv-loop μ-loop
-array-read-is-out-of-reach c =
-    let start = c .before .before .before .before .before .before .before in
-    omega
-    (arith, c .before .before .before .loop .inv .0, c .before .before .loop-test .taken, few-bounds (start .args .c) (start .pre .0 .few))
-
 is-out-of-reach-requires : tie.Need-is-out-of-reach-requires Inv-loop μ-loop
 is-out-of-reach-requires c κs =
-    let start = c .before .before .before .before .before .before .before in
+    let e = c .before in
+    let start = e .before .before .before .before .before .before .before in
     let laid = start .pre .0 in
-    let loop = c .before .before .before .loop in
+    let loop = e .before .before .before .loop in
     let within : loop .q - 1 < start .args .c .expressions + start .args .c .nodes =
-    omega (arith, loop .inv .0, c .before .before .loop-test .taken) in (
+    omega (arith, loop .inv .0, e .before .before .loop-test .taken) in (
       laid,
       (
         start .pre .1 .sound,
         (
-          right-from _ (start .pre .1) (few-parts laid) _ _ (c .enter-fields .ensures) _
+          right-from _ (start .pre .1) (few-parts laid) _ _ (e .enter-fields .ensures) _
               (omega (arith, within, parts-are laid))
               (omega arith),
           within,
@@ -107,7 +97,7 @@ loop-less c = search needs
 
 loop-again : tie.Need-loop-again Inv-loop μ-loop
 loop-again c =
-    let e = c .before .before in
+    let e = c .before .before .before in
     let loop = e .before .before .before .loop in
     let test = sym (c .before .is-out-of-reach .ensures) ∙ c .if1 .taken in
     (search needs, (e .enter-fields .ensures, down-hit _ _ _ (e .before .before .loop-test .taken) (loop .inv .0) test))
@@ -117,7 +107,7 @@ loop-less-2 c = search needs
 
 loop-again-2 : tie.Need-loop-again-2 Inv-loop μ-loop
 loop-again-2 c =
-    let e = c .before .before in
+    let e = c .before .before .before in
     let loop = e .before .before .before .loop in
     let test = sym (c .before .is-out-of-reach .ensures) ∙ c .if1 .left in
     let found = down-miss _ _ _ (e .before .before .loop-test .taken) (loop .inv .0) test (loop .inv .1 .1) in
@@ -141,8 +131,6 @@ first-out-of-reach-spec =
     loop-holds
     sub-q
     enter-fields-requires
-    mul-is-out-of-reach
-    array-read-is-out-of-reach
     is-out-of-reach-requires
     loop-less
     loop-again

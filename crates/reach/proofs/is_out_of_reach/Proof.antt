@@ -10,10 +10,10 @@ use Rattle.reach.proofs.is_out_of_reach.Statement.{statement}
 use Rattle.reach.proofs.is_out_of_reach.Tie as tie
 
 abbrev Inv-loop : tie.InvT-loop
-Inv-loop s c set q f₀ f = (f ≤ fieldCount) × NoneBelow (missesName s q) f
+Inv-loop s c sets q f₀ f = (f ≤ fieldCount) × NoneBelow (missesName s q) f
 
 abbrev μ-loop : tie.MeasureT-loop
-μ-loop s c set q f₀ f = fieldCount - f
+μ-loop s c sets q f₀ f = fieldCount - f
 
 loop-holds : tie.Need-loop-holds Inv-loop μ-loop
 loop-holds c = (search needs, below-none _)

@@ -26,6 +26,13 @@ returns c =
     (misses-none (start .args .s .now) (start .args .q) (start .args .f) _ (c .before .before .field-at .ensures)
     (sym (c .before .is-use .ensures) ∙ not-true _ (c .if1 .taken)))
 
+mul-has : tie.Need-mul-has
+mul-has c = search needs
+
+element-copy-out-has : tie.Need-element-copy-out-has
+element-copy-out-has c =
+    let start = c .before .before .before .before in omega (arith, few-bounds (start .args .c) (start .pre .0 .few))
+
 -- past the test the field uses a name
 uses : (c : tie.Else1) → isUse (c .before .before .field-at .result .role) ≡ true
 uses c = sym (c .before .is-use .ensures) ∙ not-false _ (c .if1 .left)
@@ -45,13 +52,13 @@ known c =
 
 has-requires : tie.Need-has-requires
 has-requires c κs =
-    let start = c .before .before .before .before in
-    omega (arith, known c, names-are (start .pre .0), few-bounds (start .args .c) (start .pre .0 .few))
+    let start = c .before .before .before .before .before in
+    omega (arith, known (c .before), names-are (start .pre .0), few-bounds (start .args .c) (start .pre .0 .few))
 
 returns-2 : tie.Need-returns-2
 returns-2 c =
-    let start = c .before .before .before .before .before in
-    let else = c .before in
+    let start = c .before .before .before .before .before .before in
+    let else = c .before .before in
     ap not (c .has .ensures ∙ start .pre .1 .1 .0 _ (known else))
     ∙ sym
     (misses-name (start .args .s .now) (start .args .q) (start .args .f) _
@@ -65,5 +72,7 @@ misses-name-spec =
     field-at-requires
     is-use-requires
     returns
+    mul-has
+    element-copy-out-has
     has-requires
     returns-2)

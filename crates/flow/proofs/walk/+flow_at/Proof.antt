@@ -1,17 +1,15 @@
 -- `flow_at`: the children have smaller numbers; then by how many there are.
-use mathlib.Core.Path.{sym, ap, _∙_, subst}
+use mathlib.Core.Path.{ap, _∙_}
 use native.Mathlib.Omega.{arith}
 use borrow.Author.Needs.{fits-under}
 use Rattle.book.specs.LevelBook.{atOrBelow}
 use Rattle.table.specs.Table.{kept}
-use Rattle.fields.specs.Roles.{nodeKinds}
 use Rattle.layout.specs.Layout.{Laid, layoutOf}
 use Rattle.layout.specs.Entries.{partOf}
 use Rattle.layout.proofs.Layouts.{few-bounds, part-within}
 use Rattle.levels.specs.Nodes.{bothFrom, pairNeed}
 use Rattle.flow.specs.Flow.{Levels, Walks, IsNodeAt}
 use Rattle.flow.proofs.BookLevels.{flow-index}
-use Rattle.flow.proofs.Shapes.{kind-below}
 use Rattle.flow.proofs.NodeFlows.{PartsAt}
 use Rattle.flow.proofs.NodeReads.{Read, none-parts, first-asks, one-parts, second-asks, two-parts, node-asks, node-at}
 use Prim.Native.Nat.{ℕ, _+_, _<_}
@@ -20,7 +18,7 @@ use borrow.Fn.PlainCycle.{Measures, is, falls, and}
 use Rattle.flow.proofs.walk.flow_at.Reads as flow-at
 use Rattle.flow.proofs.walk.flow_at.Kinds as flow-at-kinds
 use Rattle.flow.proofs.walk.+flow_at.Lts-flow_at as flow-at-lts
-use Rattle.flow.proofs.kinds.child_count.Reads as child-count-reads
+use Rattle.fields.proofs.roles.child_count.Reads as child-count-reads
 use Rattle.levels.proofs.node_flow.Reads as node-flow-reads
 use Rattle.flow.proofs.own.own_levels.Reads as own-levels-reads
 use Rattle.levels.proofs.pair_flow.Reads as pair-flow-reads
@@ -115,10 +113,7 @@ flow-at-own-levels-requires : (t : ℕ) → flow-at-lts.Need-own-levels-requires
 flow-at-own-levels-requires t c κs = ((c .before .before .pre .1 .0 .0, c .before .before .pre .1 .0 .1 .reads), (c .before .before .args .k, at t (c)))
 
 flow-at-child-count-requires : (t : ℕ) → flow-at-lts.Need-child-count-requires (R t) (flow-at-at t) flow-at.Post
-flow-at-child-count-requires t c κs =
-    let here = at t ((c .before)) in
-    subst (λ p. p .kind < nodeKinds) (sym (here .same))
-    (kind-below (c .before .before .before .args .s .now) (c .before .before .before .pre .1 .0 .1 .reads .ready .checked) (c .before .before .before .args .k) (here .known))
+flow-at-child-count-requires t c κs = tt
 
 flow-at-node-flow-requires : (t : ℕ) → flow-at-lts.Need-node-flow-requires (R t) (flow-at-at t) flow-at.Post
 flow-at-node-flow-requires t c κs =
