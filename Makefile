@@ -7,12 +7,13 @@ test:
 
 # Proves and builds the program, and runs it on the example of 01.
 run:
-	@mkdir -p target && rt check station >target/run.log 2>&1 || { cat target/run.log; exit 1; }
+	@tests/prove.sh station
 	@cd crates/station/data && ../../../target/bin/station
 
 # Proves and builds the static library for C and Rust.
 library:
-	@mkdir -p target && { rt check engine && rt staticlib engine; } >target/run.log 2>&1 || { cat target/run.log; exit 1; }
+	@tests/prove.sh engine
+	@[ target/staticlib/libengine.a -nt target/rlib/engine.rlib ] || rt staticlib engine >target/staticlib.log 2>&1 || { cat target/staticlib.log; exit 1; }
 
 # Millions of cases against the second interpreter: make compare CASES=5000000 SEED=7
 CASES ?= 1000000
