@@ -2,7 +2,7 @@
 use mathlib.Core.Path.{_≡_, refl, sym, ap, _∙_, subst}
 use mathlib.Core.Bool.{true, false, false≢true}
 use mathlib.Core.List.{List}
-use Prim.Native.Nat.{ℕ, _+_, _-_, _/_, _<_}
+use Prim.Native.Nat.{ℕ, _+_, _-_, _/_, _≤_, _<_}
 use native.Mathlib.Omega.{arith}
 use lib.IntN.{ℤ}
 use lib.ListN.{length}
@@ -109,15 +109,12 @@ module _ (words : List ℕ) (limit : ℕ) (begun : Running ℕ) where
         someSignalPresent (namesOf words) values ≡ false → Comes st values log (afterChanges at (limit - at .steps))
     comes-idle w none =
         let c = u .can in
-        let s : limit ≡ at .steps + (limit - at .steps) = omega (arith, c .counted .time) in
+        let s : at .steps + (limit - at .steps) ≤ limit = omega (arith, c .counted .time) in
         record {
           same =
-              ap (λ n. outcomeOf words limit room (scriptAt words st values log (record { steps = n; instants = at .instants + (limit - at .steps); lines = at .lines }))) (sym s)
-              ∙ sym
-              (outcome-idle (namesOf words) (seenBy words) limit room (limit - at .steps) (scriptAt words st values log at)
-              (at .instants + (limit - at .steps)) w
+              outcome-idle (namesOf words) (seenBy words) limit room log at w
               (idle-stays (namesOf words) values none words (c .valued .runnable) (λ x. refl) (root words) (c .node .known) st)
-              (values-stay (namesOf words) values none) (sym s) refl)
+              (values-stay (namesOf words) values none) (limit - at .steps) s
               ∙ u .same;
           can =
               record {
@@ -125,7 +122,7 @@ module _ (words : List ℕ) (limit : ℕ) (begun : Running ℕ) where
                 node = c .node;
                 counted =
                     record {
-                      time = omega (arith, s);
+                      time = s;
                       most = c .counted .most;
                       instants = omega (arith, c .counted .instants);
                       space = c .counted .space;
