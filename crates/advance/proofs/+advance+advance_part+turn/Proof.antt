@@ -14,7 +14,8 @@ use Rattle.residual.proofs.Sights.{part-length}
 use Rattle.moves.specs.declared.counts.Moved.the-variants as moved
 use Rattle.moves.specs.Moves.{stays}
 use Rattle.moves.specs.Contracts.{nodeAt}
-use Rattle.moves.proofs.Advancing.{path-time, comes-on}
+use Rattle.moves.proofs.Framing.{joined}
+use Rattle.moves.proofs.Advancing.{path-time}
 use Rattle.moves.specs.declared.counts.Moved.{Moved}
 use Rattle.advance.specs.declared.Turned.{Turned}
 use Rattle.advance.specs.declared.Turned.the-variants as turned
@@ -134,7 +135,7 @@ made :
 made t c =
     let d = c .before .before .before .before .before .before .before in
     let r = d .turn in
-    becomes (d .before .before .before .before .loop .inv) (r .last .1 .1 .0) (r .last .1 .0) (r .last .1 .1 .1 .0) (turn-long t d) _
+    becomes (d .before .before .before .before .loop .inv) (r .last .1 .1 .0) (r .last .1 .0) (r .last .1 .1 .1 .0) (turn-long t d) (c .r2 .given .0 .0)
     (subst (turn-is t d) (c .r2 .given .1) (r .ensures))
 
 -- it may go on
@@ -228,8 +229,8 @@ advance-same-length-3 t c =
 advance-returns : (t : ℕ) → advance-lts.Need-returns (R t) (advance-at t) advance.Post advance-Inv-loop advance-μ-loop
 advance-returns t c =
     let d = c .before .before .before .before .before .before .before .before .before .before .before in
-    comes-on _ (moved.Rests _ _) (d .before .before .before .before .loop .inv .path)
-    (subst (node-made t d) (c .before .m2 .given .1) (made t (c .before .before .before .before)))
+    let r = subst (node-made t d) (c .before .m2 .given .1) (made t (c .before .before .before .before)) in
+    record { path = joined (d .before .before .before .before .loop .inv .path) (r .path); ends = r .ends }
 
 advance-part-move-own-requires : (t : ℕ) → advance-part-lts.Need-move-own-requires (Q t) (advance-part-at t) advance-part.Post
 advance-part-move-own-requires t c κs =
