@@ -1,6 +1,5 @@
 -- A part that stands alone takes the place of its node: what is left of the node is what is left of that part.
 use mathlib.Core.Path.{_≡_, sym, ap, ap₂, _∙_, subst}
-use mathlib.Core.Logic.{inl, inr}
 use mathlib.Core.List.{List, _++_, append-nil, append-assoc}
 use Prim.Native.Nat.{ℕ, _+_, _-_, _/_, _≤_, _<_}
 use native.Mathlib.Nat.{le-refl, sub-zero}
@@ -13,7 +12,7 @@ use Rattle.program.specs.Program.{seenBy}
 use Rattle.program.specs.declared.forms.Front.{Front}
 use Rattle.residual.specs.Frames.{alone}
 use Rattle.residual.specs.Nodes.{Valued, At, left}
-use Rattle.residual.proofs.Sights.{Inside, Sight, sees-nothing, sees-itself, sees-alone, sees-before, sees-watched, sees-guarded, sees-beside, length-put, part-put}
+use Rattle.residual.proofs.Sights.{Inside, beside-above, Sight, sees-nothing, sees-itself, sees-alone, sees-before, sees-watched, sees-guarded, sees-beside, length-put, part-put}
 use Rattle.instants.proofs.Deciding.{Found, sees, front-part}
 use Rattle.moves.specs.declared.counts.Counts.{Counts}
 use Rattle.moves.specs.declared.counts.Moved.{Moved}
@@ -84,8 +83,7 @@ stays-alone o (sees-alone e i) = i
 stays-alone o (sees-before e z q i r) = absurd (omega (arith, e, o .alone))
 stays-alone o (sees-watched e x i r) = absurd (omega (arith, e, o .alone))
 stays-alone o (sees-guarded e x z i r) = absurd (omega (arith, e, o .alone))
-stays-alone o (sees-beside (inl e) z g q i c r) = absurd (omega (arith, e, o .alone))
-stays-alone o (sees-beside (inr e) z g q i c r) = absurd (omega (arith, e, o .alone))
+stays-alone o (sees-beside e z g q i c r) = absurd (omega (arith, beside-above e, o .alone))
 
 -- Node j stands in the place of node k, which has the bytes st: its own are those from a up to b.
 pub record Placed (words : List ℕ) (k : ℕ) (st : List ℕ) (j a b : ℕ) : Type 0 where

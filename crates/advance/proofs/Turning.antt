@@ -1,7 +1,6 @@
 -- A node's turn: its part in front is run, and it is left.
 use mathlib.Core.Path.{_≡_}
 use mathlib.Core.Bool.{Bool, true}
-use mathlib.Core.Logic.{inl, inr}
 use mathlib.Core.List.{List}
 use Prim.Native.Nat.{ℕ, _-_, _<_}
 use native.Mathlib.Omega.{arith}
@@ -15,7 +14,7 @@ use Rattle.program.specs.Forms.{itself, guarded, partIn}
 use Rattle.residual.specs.Residual.{own}
 use Rattle.residual.specs.Frames.{Frame, alone, beforeThe, watchedBy, guardedBy, besideThe, Open}
 use Rattle.residual.specs.Nodes.{left, inFront}
-use Rattle.residual.proofs.Sights.{signalAt, Inside, Sight, sees-nothing, sees-itself, sees-alone, sees-before, sees-watched, sees-guarded, sees-beside, own-put, length-put, part-put}
+use Rattle.residual.proofs.Sights.{signalAt, Inside, alone-within, beside-above, Sight, sees-nothing, sees-itself, sees-alone, sees-before, sees-watched, sees-guarded, sees-beside, own-put, length-put, part-put}
 use Rattle.moves.specs.declared.counts.Counts.{Counts}
 use Rattle.moves.specs.declared.counts.Reason.{Reason}
 use Rattle.moves.specs.declared.counts.Reason.the-variants.{Nil, Suspended, Spent, Full}
@@ -44,10 +43,8 @@ module _ (words : List ℕ) (k : ℕ) (st : List ℕ) (f : Front) (vs : List ℤ
       Sight words k st f → itself < f .form → (f .form ≡ guarded → present vs (signalAt words k) ≡ true) → Going
   going (sees-nothing e r) h p = absurd (omega (arith, e))
   going (sees-itself e o m) h p = absurd (omega (arith, e))
-  going (sees-alone (inl e) i) h p =
-      record { frame = alone; inside = i; opened = tt; shown = λ ys ws o q. absurd (omega (arith, e, q)) }
-  going (sees-alone (inr e) i) h p =
-      record { frame = alone; inside = i; opened = tt; shown = λ ys ws o q. absurd (omega (arith, e, q)) }
+  going (sees-alone e i) h p =
+      record { frame = alone; inside = i; opened = tt; shown = λ ys ws o q. absurd (omega (arith, alone-within e, q)) }
   going (sees-before e o q i r) h p =
       record { frame = beforeThe q; inside = i; opened = tt; shown = λ ys ws o q. absurd (omega (arith, e, q)) }
   going (sees-watched e x i r) h p =
@@ -64,19 +61,12 @@ module _ (words : List ℕ) (k : ℕ) (st : List ℕ) (f : Front) (vs : List ℤ
         opened = (p e, a (partIn f st));
         shown = λ ys ws o q. o .0;
       }
-  going (sees-beside (inl e) o g q i j r) h p =
+  going (sees-beside e o g q i j r) h p =
       record {
         frame = besideThe (left words (g .child) (partIn g st));
         inside = i;
         opened = tt;
-        shown = λ ys ws o q. absurd (omega (arith, e, q));
-      }
-  going (sees-beside (inr e) o g q i j r) h p =
-      record {
-        frame = besideThe (left words (g .child) (partIn g st));
-        inside = i;
-        opened = tt;
-        shown = λ ys ws o q. absurd (omega (arith, e, q));
+        shown = λ ys ws o q. absurd (omega (arith, beside-above e, q));
       }
 
 -- the part's moves are the node's

@@ -26,7 +26,7 @@ use Rattle.moves.specs.Moves.{Live, Silent}
 use Rattle.residual.specs.Nodes.{Valued, At, left}
 use Rattle.moves.specs.Contracts.{Unmoved, IsSilent, isWriter, IsWriter, WriterAt, Written}
 use Rattle.residual.proofs.Residuals.{zeros, own-set-at, some-bytes}
-use Rattle.residual.proofs.Sights.{MovesItself, not-itself, Sight, sees-nothing, sees-itself, sees-alone, sees-before, sees-watched, sees-guarded, sees-beside, own-put, length-put, first-put}
+use Rattle.residual.proofs.Sights.{MovesItself, not-itself, alone-within, beside-above, Sight, sees-nothing, sees-itself, sees-alone, sees-before, sees-watched, sees-guarded, sees-beside, own-put, length-put, first-put}
 
 module _ (words : List ℕ) (k : ℕ) where
   abbrev kind : ℕ
@@ -86,13 +86,11 @@ pub is-itself :
     (own st ≡ 0) × MovesItself (kind words k)
 is-itself (sees-nothing e r) q = absurd (omega (arith, e, q))
 is-itself (sees-itself e o m) q = (o, m)
-is-itself (sees-alone (inl e) i) q = absurd (omega (arith, e, q))
-is-itself (sees-alone (inr e) i) q = absurd (omega (arith, e, q))
+is-itself (sees-alone e i) q = absurd (omega (arith, alone-within e, q))
 is-itself (sees-before e o p i r) q = absurd (omega (arith, e, q))
 is-itself (sees-watched e x i r) q = absurd (omega (arith, e, q))
 is-itself (sees-guarded e x a i r) q = absurd (omega (arith, e, q))
-is-itself (sees-beside (inl e) o g p i j r) q = absurd (omega (arith, e, q))
-is-itself (sees-beside (inr e) o g p i j r) q = absurd (omega (arith, e, q))
+is-itself (sees-beside e o g p i j r) q = absurd (omega (arith, beside-above e, q))
 
 -- assignments and emissions
 pub writer-is : (kind : ℕ) → isWriter kind ≡ true → IsWriter kind

@@ -5,12 +5,13 @@ use mathlib.Core.List.{List}
 use Prim.Native.Nat.{ℕ, zero, suc, _+_, _≤_, _<_}
 use native.Mathlib.Decide.{decLt}
 use native.Mathlib.Nat.{add-zero, add-suc}
-use native.Mathlib.Numerals.{add-one}
 use native.Mathlib.Omega.{arith}
 use lib.IntN.{ℤ, pos, negsuc}
 use lib.ListN.{length, List·getD-eq-default}
+use lib.Seq.{ext-getD}
 use Rattle.prelude.proofs.Bools.{and-second, by-cases}
 use Rattle.prelude.proofs.Searches.{none-of-any}
+use Rattle.prelude.proofs.Tables.{length-table, table-at}
 use Rattle.arithmetic.specs.Values.{holds}
 use Rattle.language.specs.Syntax.{Names, Proc}
 use Rattle.language.specs.Steps.{held, present, suspended, change, instantStart}
@@ -24,7 +25,6 @@ use Rattle.moves.specs.Moves.{Running}
 use Rattle.moves.specs.Contracts.{afterChanges, runningWith}
 use Rattle.runner.specs.Outcome.{outcome}
 use Rattle.instants.specs.Contracts.{isPresentSignal, someSignalPresent}
-use Rattle.instants.proofs.Clearing.{Renewed, renewed-none, renewed-kept, renewed-all}
 use Rattle.runner.proofs.Outcomes.{outcome-changes}
 
 zero-of : (z : ℤ) → holds z ≡ false → z ≡ pos 0
@@ -75,15 +75,11 @@ module _ (names : Names ℕ) (values : List ℤ) (none : someSignalPresent names
   same-at x =
       by-cases (λ z. held values x ≡ z) (names .isSignal x) (λ h. zero-of (held values x) (absent x h)) (λ h. refl)
 
-  same-below : (n : ℕ) → n ≤ length values → Renewed starts values n values
-  same-below zero h = renewed-none starts values
-  same-below (suc n) h =
-      rw (← add-one n) (renewed-kept starts values n values (omega arith) (same-below n (omega arith)) (same-at n))
-
   pub values-stay : instantStart names values ≡ values
   unfolding instantStart
   values-stay =
-      sym (renewed-all starts values (length values) values (omega arith) (same-below (length values) (omega arith)))
+      ext-getD (pos 0) _ _ (length-table starts (length values))
+      (λ x h. table-at starts (length values) x (pos 0) (rw (length-table starts (length values)) at h) ∙ sym (same-at x))
 
 -- however many instant changes are made
 pub outcome-idle :
