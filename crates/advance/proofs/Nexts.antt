@@ -65,14 +65,11 @@ module _ (words : List ℕ) (k : ℕ) (st : List ℕ) (vs : List ℤ) (f : Front
     within (byPart g n p a) = (p .order, p .within)
 
     pub at-part : Way → At words (f .child) (partIn f st)
-    at-part (byItself e m q) =
-        subst (λ (h : Front). At words (h .child) (partIn h st)) (sym e) (subst (At words k) (sym (mid-whole st)) at)
+    at-part (byItself e m q) = rw (e, mid-whole st) at
     at-part (byPart g n p a) = p .at
 
     pub moves-next : Way → moving ≡ true → inFront words (f .child) (partIn f st) .form ≡ itself
-    moves-next (byItself e m q) t =
-        subst (λ (h : Front). inFront words (h .child) (partIn h st) .form ≡ itself) (sym e)
-        (subst (λ (z : List ℕ). inFront words k z .form ≡ itself) (sym (mid-whole st)) q)
+    moves-next (byItself e m q) t = rw (e, mid-whole st) q
     moves-next (byPart g n p a) t =
         writer-itself words (f .child) (length (partIn f st)) (partIn f st) (a .writer t) (a .written t)
 
