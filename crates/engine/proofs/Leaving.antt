@@ -1,6 +1,6 @@
 -- What each way out of `run` has to show.
 use mathlib.Core.Path.{_≡_, refl, sym, ap, _∙_, subst}
-use mathlib.Core.Bool.{true, false}
+use mathlib.Core.Bool.{Bool, true, false}
 use mathlib.Core.List.{List}
 use Prim.Native.Nat.{ℕ, _/_, _≤_, _<_}
 use native.Mathlib.Omega.{arith}
@@ -79,6 +79,9 @@ module _ (b s : List ℕ) (reader : ℕ) (values : List ℤ) (limit : ℕ) where
     bounds : (reader < count b) × (limit ≤ mostSteps)
     bounds = run-bounds b s reader values limit p
 
+    abbrev sees : ℕ → Bool
+    sees = readable (bookLattice b) (namesOf s) reader
+
     module _ {bk : Book} (e : bk ≡ bookOf b) where
       -- it can be run
       pub can-start : {c : Script} → c ≡ layoutOf s → CanStart s c bk reader values limit
@@ -99,7 +102,7 @@ module _ (b s : List ℕ) (reader : ℕ) (values : List ℤ) (limit : ℕ) where
       -- what the runner leaves
       module _ {log : List ℕ} {r : Ran} {values′ : List ℤ} {log′ : List ℕ}
           (g : Returns (runFor bk s reader values limit log) log r values′ log′) where
-        agrees : (x : ℕ) → x < nameCount s → seesIn bk s reader x ≡ readable (bookLattice b) (namesOf s) reader x
+        agrees : (x : ℕ) → x < nameCount s → seesIn bk s reader x ≡ sees x
         agrees x h = rw e (order-at b (nameOf s x .level) reader (file .1 x h) (bounds .0))
 
         given : Returns (runOf b s reader values limit log) log r values′ log′
@@ -109,8 +112,8 @@ module _ (b s : List ℕ) (reader : ℕ) (values : List ℤ) (limit : ℕ) where
             (length log / 4) (starts (tree s) values) named (tree-writes s (file .0)))
             g
 
-        path : IsRun (namesOf s) (readable (bookLattice b) (namesOf s) reader) limit (length log / 4) (starts (tree s) values) (runOf b s reader values limit log)
-        path = runs-agree (namesOf s) (readable (bookLattice b) (namesOf s) reader) limit (length log / 4) (starts (tree s) values) .path
+        path : IsRun (namesOf s) sees limit (length log / 4) (starts (tree s) values) (runOf b s reader values limit log)
+        path = runs-agree (namesOf s) sees limit (length log / 4) (starts (tree s) values) .path
 
         is : leftBy (runOf b s reader values limit log) log ≡ left b s reader values limit log
         unfolding left
@@ -124,7 +127,7 @@ module _ (b s : List ℕ) (reader : ℕ) (values : List ℤ) (limit : ℕ) where
               instants = omega (arith, given .within, steps);
               lines =
                   omega
-                  (arith, given .lines, run-few (namesOf s) (readable (bookLattice b) (namesOf s) reader) limit (length log / 4) (starts (tree s) values), bounds .1);
+                  (arith, given .lines, run-few (namesOf s) sees limit (length log / 4) (starts (tree s) values), bounds .1);
               report =
                   (λ i.
                   record {

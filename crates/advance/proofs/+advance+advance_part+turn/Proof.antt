@@ -103,7 +103,8 @@ abbrev node-made :
     (t : ℕ) (c : advance-lts.After-turn (R t) (advance-at t) advance.Post advance-Inv-loop advance-μ-loop) → Moved → Type 0
 node-made t c =
     let r = c .turn in
-    Becomes (c .before .before .before .before .loop .inv) (r .last .1 .1 .0) (r .last .1 .0) (r .last .1 .1 .1 .0) (turn-long t c)
+    Becomes (c .before .before .before .before .loop .inv) (r .last .1 .1 .0) (r .last .1 .0) (r .last .1 .1 .1 .0)
+    (turn-long t c)
 
 -- one of its own parts takes its place ..
 inside :
@@ -118,7 +119,8 @@ inside-placed :
     let f = c .r .given .0 .0 in
     Placed (now (a .program)) (a .k) (u .state) (f .child) (u .start + f .from) (u .start + f .to)
 inside-placed t c =
-    let u = c .before .before .before .before .before .before .before .before .before .before .before .loop .inv in part-placed (u .placed) (u .can .valued) (inside t c .alone)
+    let u = c .before .before .before .before .before .before .before .before .before .before .before .loop .inv in
+    part-placed (u .placed) (u .can .valued) (inside t c .alone)
 
 few-bytes :
     (t : ℕ) (c : advance-lts.After-r (R t) (advance-at t) advance.Post advance-Inv-loop advance-μ-loop) →
@@ -135,8 +137,8 @@ made :
 made t c =
     let d = c .before .before .before .before .before .before .before in
     let r = d .turn in
-    becomes (d .before .before .before .before .loop .inv) (r .last .1 .1 .0) (r .last .1 .0) (r .last .1 .1 .1 .0) (turn-long t d) (c .r2 .given .0 .0)
-    (subst (turn-is t d) (c .r2 .given .1) (r .ensures))
+    becomes (d .before .before .before .before .loop .inv) (r .last .1 .1 .0) (r .last .1 .0) (r .last .1 .1 .1 .0)
+    (turn-long t d) (c .r2 .given .0 .0) (subst (turn-is t d) (c .r2 .given .1) (r .ensures))
 
 -- it may go on
 goes :
@@ -145,7 +147,9 @@ goes :
 goes t c = subst (node-made t (c .before .before .before .before .before .before .before .before .before .before)) (c .m .given .1) (made t (c .before .before .before))
 
 advance-loop-holds : (t : ℕ) → advance-lts.Need-loop-holds (R t) (advance-at t) advance.Post advance-Inv-loop advance-μ-loop
-advance-loop-holds t c = let can = c .before .before .pre .1 in record { path = stays; can = can; logged = refl; placed = itself-placed _ _ _ (can .node) }
+advance-loop-holds t c =
+    let can = c .before .before .pre .1 in
+    record { path = stays; can = can; logged = refl; placed = itself-placed _ _ _ (can .node) }
 
 advance-sub-part : (t : ℕ) → advance-lts.Need-sub-part (R t) (advance-at t) advance.Post advance-Inv-loop advance-μ-loop
 advance-sub-part t c = c .loop .inv .placed .order
@@ -199,13 +203,15 @@ advance-enum-known-m t c = search needs
 advance-loop-less-2 : (t : ℕ) → advance-lts.Need-loop-less-2 (R t) (advance-at t) advance.Post advance-Inv-loop advance-μ-loop
 advance-loop-less-2 t c =
     let g = goes t (c .before) in
-    omega (arith, g .some, path-time (g .path) (c .before .before .before .before .before .before .before .before .before .before .before .before .before .before .before .loop .inv .can .counted .time))
+    let d = c .before .before .before .before .before .before .before .before .before .before .before in
+    omega (arith, g .some, path-time (g .path) (d .before .before .before .before .loop .inv .can .counted .time))
 
 advance-loop-again-2 : (t : ℕ) → advance-lts.Need-loop-again-2 (R t) (advance-at t) advance.Post advance-Inv-loop advance-μ-loop
 advance-loop-again-2 t c =
     let d = c .before .before .before .before .before .before .before .before .before .before .before in
     let r = d .turn in
-    here-on (d .before .before .before .before .loop .inv) (r .last .1 .1 .0) (r .last .1 .0) (r .last .1 .1 .1 .0) (turn-long t d) (goes t (c .before)) (r .kept .1 .0) (r .kept .1 .1 .1 .0)
+    here-on (d .before .before .before .before .loop .inv) (r .last .1 .1 .0) (r .last .1 .0) (r .last .1 .1 .1 .0)
+    (turn-long t d) (goes t (c .before)) (r .kept .1 .0) (r .kept .1 .1 .1 .0)
 
 advance-enum-known-m-2 : (t : ℕ) → advance-lts.Need-enum-known-m-2 (R t) (advance-at t) advance.Post advance-Inv-loop advance-μ-loop
 advance-enum-known-m-2 t c = search needs
@@ -213,13 +219,17 @@ advance-enum-known-m-2 t c = search needs
 advance-same-length : (t : ℕ) → advance-lts.Need-same-length (R t) (advance-at t) advance.Post advance-Inv-loop advance-μ-loop
 advance-same-length t c =
     let d = c .before .before .before .before .before .before .before .before .before .before .before in
-    d .turn .kept .1 .0 ∙ d .before .before .before .before .loop .inv .can .valued .named ∙ sym (d .before .before .before .before .before .before .before .pre .1 .valued .named)
+    d .turn .kept .1 .0
+    ∙ d .before .before .before .before .loop .inv .can .valued .named
+    ∙ sym (d .before .before .before .before .before .before .before .pre .1 .valued .named)
 
 advance-same-length-2 : (t : ℕ) → advance-lts.Need-same-length-2 (R t) (advance-at t) advance.Post advance-Inv-loop advance-μ-loop
 advance-same-length-2 t c =
     let d = c .before .before .before .before .before .before .before .before .before .before .before in
     let u = d .before .before .before .before .loop .inv in
-    bytes-kept (u .placed) (d .turn .last .1 .1 .0) (turn-long t d) ∙ u .can .node .whole ∙ sym (d .before .before .before .before .before .before .before .pre .1 .node .whole)
+    bytes-kept (u .placed) (d .turn .last .1 .1 .0) (turn-long t d)
+    ∙ u .can .node .whole
+    ∙ sym (d .before .before .before .before .before .before .before .pre .1 .node .whole)
 
 advance-same-length-3 : (t : ℕ) → advance-lts.Need-same-length-3 (R t) (advance-at t) advance.Post advance-Inv-loop advance-μ-loop
 advance-same-length-3 t c =

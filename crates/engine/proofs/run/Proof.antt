@@ -22,7 +22,9 @@ use Rattle.engine.proofs.run.Tie as tie
 prepared : (c : tie.Else1) → let a = c .before .before .before .before .before .before .args in passes (checkRefusal (now (a .book)) (now (a .script))) ≡ true
 prepared c = ap passes (sym (c .before .before .prepare .ensures .refusal)) ∙ eq-eqb _ 0 (c .if1 .left)
 
-laid : (c : tie.Else1) → c .before .before .prepare .result .script ≡ layoutOf (now (c .before .before .before .before .before .before .args .script))
+laid :
+    (c : tie.Else1) →
+    c .before .before .prepare .result .script ≡ layoutOf (now (c .before .before .before .before .before .before .args .script))
 laid c = c .before .before .prepare .ensures .layout (prepared c)
 
 book-is : (c : tie.Else1) → c .before .before .prepare .result .book ≡ bookOf (now (c .before .before .before .before .before .before .args .book))
@@ -49,9 +51,12 @@ passed c = ap passes (sym (call-is (c .before .before))) ∙ eq-eqb _ 0 (c .if2 
 left-so :
     (c : tie.After-run-checked) →
     let a = c .before .before .before .before .before .before .before .before .before .before .before .before .before .args in
-    Leaves (now (a .book)) (now (a .script)) (a .reader) (now (a .values)) (a .limit) (now (a .log)) (c .run-checked .result) (c .run-checked .last .1 .1 .1 .1 .0) (c .run-checked .last .1 .1 .1 .1 .1 .1 .0)
+    let r = c .run-checked in
+    Leaves (now (a .book)) (now (a .script)) (a .reader) (now (a .values)) (a .limit) (now (a .log)) (r .result)
+    (r .last .1 .1 .1 .1 .0) (r .last .1 .1 .1 .1 .1 .1 .0)
 left-so c =
-    leaves _ _ _ _ _ (passed (c .before .before .before)) (book-is (c .before .before .before .before .before .before .before)) (c .run-checked .ensures)
+    leaves _ _ _ _ _ (passed (c .before .before .before))
+    (book-is (c .before .before .before .before .before .before .before)) (c .run-checked .ensures)
 
 prepare-requires : tie.Need-prepare-requires
 prepare-requires c κs = search needs
@@ -91,13 +96,15 @@ returns-2 c =
 
 run-checked-requires : tie.Need-run-checked-requires
 run-checked-requires c κs =
-    can-start _ _ _ _ _ (passed (c .before .before)) (book-is (c .before .before .before .before .before .before)) (laid (c .before .before .before .before .before .before))
+    let d = c .before .before .before .before .before .before in
+    can-start _ _ _ _ _ (passed (c .before .before)) (book-is d) (laid d)
 
 cast-report-of : tie.Need-cast-report-of
 cast-report-of c = fits-under _ _ 4000000 (omega (arith, left-so (c .before .before .before .before .before) .steps)) tt
 
 cast-report-of-2 : tie.Need-cast-report-of-2
-cast-report-of-2 c = fits-under _ _ 4000000 (omega (arith, left-so (c .before .before .before .before .before .before) .instants)) tt
+cast-report-of-2 c =
+    fits-under _ _ 4000000 (omega (arith, left-so (c .before .before .before .before .before .before) .instants)) tt
 
 report-of-requires : tie.Need-report-of-requires
 report-of-requires c κs = omega (arith, left-so (c .before .before .before .before .before .before) .lines)

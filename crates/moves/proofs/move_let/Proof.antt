@@ -26,7 +26,8 @@ value-of-requires c κs =
 mul-v : tie.Need-mul-v
 mul-v c =
     let start = c .before .before .before .before .before in
-    fits-under _ _ 512 (omega (arith, c .before .before .before .a-at .ensures, fields (start .pre) .1 .0, start .pre .valued .runnable .fewNames)) tt
+    let few = start .pre .valued .runnable .fewNames in
+    fits-under _ _ 512 (omega (arith, c .before .before .before .a-at .ensures, fields (start .pre) .1 .0, few)) tt
 
 slice-set-from-v : tie.Need-slice-set-from-v
 slice-set-from-v c =

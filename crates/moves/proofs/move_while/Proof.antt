@@ -50,8 +50,9 @@ same-length c =
 returns : tie.Need-returns
 returns c =
     let start = c .before .before .before .before .before .before .before .before in
+    let d = c .before .before .before .before in
     round-moves (start .pre) (c .before .before .clear-body .last .0) (c .before .before .clear-body .ensures)
-    (rw (c .before .before .before .before .before .before .a-at .ensures) at (sym (c .before .before .before .before .before .test-holds .ensures) ∙ c .before .before .before .before .if1 .taken))
+    (rw (d .before .before .a-at .ensures) at (sym (d .before .test-holds .ensures) ∙ d .if1 .taken))
 
 same-length-2 : tie.Need-same-length-2
 same-length-2 c = search needs

@@ -21,7 +21,8 @@ same-length-3 c = search needs
 
 returns : tie.Need-returns
 returns c =
-    rw (c .before .before .before .before .before .before .before .before .before .root-of .ensures) at (c .before .before .before .before .before .advance .ensures)
+    let d = c .before .before .before .before .before in
+    rw (d .before .before .before .before .root-of .ensures) at (d .advance .ensures)
 
 pub run-instant-spec : {M : Type 1} → statement M
 run-instant-spec =

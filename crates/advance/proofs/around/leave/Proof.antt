@@ -84,7 +84,8 @@ byte-dropped-requires c κs =
     let start = c .before .before .before .before .before .before .before .before in
     let a = start .args in
     let d = (c .before .before .before .before) in
-    rw (rested d .form-is) (byte-bound (now (a .program)) (a .k) (now (a .state)) _ (now (a .values)) (sees (found start)) (framed d))
+    rw (rested d .form-is)
+    (byte-bound (now (a .program)) (a .k) (now (a .state)) _ (now (a .values)) (sees (found start)) (framed d))
 
 move-around-requires : tie.Need-move-around-requires
 move-around-requires c κs = record { some = some-bytes (c .before .before .before .before .before .before .before .before .before .before .pre .node .node); most = c .before .before .before .before .before .before .before .before .before .before .pre .most }
