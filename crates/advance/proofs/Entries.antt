@@ -19,7 +19,7 @@ use Rattle.program.specs.Forms.{nothing, itself, frontOf, partIn}
 use Rattle.program.proofs.Fronts.{front-form}
 use Rattle.residual.specs.Residual.{own}
 use Rattle.residual.specs.Nodes.{left, inFront}
-use Rattle.residual.proofs.Sights.{Sight, sees-nothing, sees-itself, sees-alone, sees-before, sees-watched, sees-guarded, sees-beside}
+use Rattle.residual.proofs.Sights.{alone-within, beside-above, Sight, sees-nothing, sees-itself, sees-alone, sees-before, sees-watched, sees-guarded, sees-beside}
 use Rattle.moves.specs.Contracts.{isWriter, IsWriter}
 use Rattle.moves.proofs.OwnMoves.{writer-is}
 use Rattle.advance.specs.Contracts.{ownNext, Leads, ownMove, Follows}
@@ -30,13 +30,11 @@ nil-seen :
 unfolding isNil
 nil-seen (sees-nothing e r) q = ap isNil r
 nil-seen (sees-itself e o m) q = absurd (omega (arith, e, q))
-nil-seen (sees-alone (inl e) i) q = absurd (omega (arith, e, q))
-nil-seen (sees-alone (inr e) i) q = absurd (omega (arith, e, q))
+nil-seen (sees-alone e i) q = absurd (omega (arith, alone-within e, q))
 nil-seen (sees-before e o p i r) q = absurd (omega (arith, e, q))
 nil-seen (sees-watched e x i r) q = absurd (omega (arith, e, q))
 nil-seen (sees-guarded e x a i r) q = absurd (omega (arith, e, q))
-nil-seen (sees-beside (inl e) o g p i j r) q = absurd (omega (arith, e, q))
-nil-seen (sees-beside (inr e) o g p i j r) q = absurd (omega (arith, e, q))
+nil-seen (sees-beside e o g p i j r) q = absurd (omega (arith, beside-above e, q))
 
 -- a node with no part in front
 pub own-follows :

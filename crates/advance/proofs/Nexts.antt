@@ -13,6 +13,8 @@ use Rattle.program.specs.Program.{seenBy}
 use Rattle.program.specs.declared.forms.Front.{Front}
 use Rattle.program.specs.Forms.{itself, before, partIn}
 use Rattle.residual.specs.Nodes.{At, NodeIn, left, inFront}
+use Rattle.residual.specs.Frames.{alone}
+use Rattle.residual.proofs.Sights.{Inside}
 use Rattle.instants.proofs.Deciding.{Found, Part, sees, front-part}
 use Rattle.moves.specs.declared.counts.Counts.{Counts}
 use Rattle.moves.specs.declared.counts.Reason.{Reason}
@@ -20,7 +22,7 @@ use Rattle.moves.specs.declared.counts.Reason.the-variants.{Nil, Suspended, Spe
 use Rattle.moves.specs.declared.counts.Moved.{Moved}
 use Rattle.moves.specs.declared.counts.Moved.the-variants.{Again, Rests}
 use Rattle.moves.specs.Moves.{Running, Ends, Comes}
-use Rattle.moves.specs.Contracts.{Counted, nodeAt, runningWith}
+use Rattle.moves.specs.Contracts.{Counted, nodeAt}
 use Rattle.moves.proofs.Advancing.{path-time}
 use Rattle.advance.specs.Contracts.{itselfOf, Stands, Ahead, Leads, ownMove, partAhead, PartEnds, PartCame, LeftBy, Leaves}
 use Rattle.advance.proofs.Entries.{writer-itself}
@@ -63,14 +65,11 @@ module _ (words : List ℕ) (k : ℕ) (st : List ℕ) (vs : List ℤ) (f : Front
     within (byPart g n p a) = (p .order, p .within)
 
     pub at-part : Way → At words (f .child) (partIn f st)
-    at-part (byItself e m q) =
-        subst (λ (h : Front). At words (h .child) (partIn h st)) (sym e) (subst (At words k) (sym (mid-whole st)) at)
+    at-part (byItself e m q) = rw (e, mid-whole st) at
     at-part (byPart g n p a) = p .at
 
     pub moves-next : Way → moving ≡ true → inFront words (f .child) (partIn f st) .form ≡ itself
-    moves-next (byItself e m q) t =
-        subst (λ (h : Front). inFront words (h .child) (partIn h st) .form ≡ itself) (sym e)
-        (subst (λ (z : List ℕ). inFront words k z .form ≡ itself) (sym (mid-whole st)) q)
+    moves-next (byItself e m q) t = rw (e, mid-whole st) q
     moves-next (byPart g n p a) t =
         writer-itself words (f .child) (length (partIn f st)) (partIn f st) (a .writer t) (a .written t)
 
@@ -127,25 +126,13 @@ module _ (words : List ℕ) (k : ℕ) (st : List ℕ) (vs : List ℤ) (f : Front
           Node z m = Comes (seenBy words) limit (length log / 4) (nodeAt words k st vs log c) (nodeAt words k z ws log′) m
 
           itself-came : f ≡ itselfOf k (length st) → (x : Moved) → Came x → Node (reached f st ys) x
-          itself-came e x r =
-              subst (λ (z : List ℕ). Node z x) (sym (rw e (put-whole st ys)))
-              (subst
-              (λ (z : List ℕ).
-              Comes (seenBy words) limit (length log / 4) (nodeAt words k z vs log c) (nodeAt words k ys ws log′) x)
-              (mid-whole st)
-              (subst
-              (λ (h : Front).
-              Comes (seenBy words) limit (length log / 4) (nodeAt words (h .child) (partIn h st) vs log c)
-              (nodeAt words (h .child) ys ws log′) x)
-              e
-              r))
+          itself-came e (Again d) r = rw (e, put-whole st ys) (rw (e, mid-whole st) at r)
+          itself-came e (Rests why d) r = rw (e, put-whole st ys) (rw (e, mid-whole st) at r)
 
           -- it stands alone: what is left of the node is what is left of it
-          alone-came : Going words k st f vs → Found words vs k st f → Ahead words k st vs f moving → f .form < before → (x : Moved) → Came x → Node (reached f st ys) x
-          alone-came g n a h x r =
-              let i = stays-alone (record { front = a .front; part = a .part; alone = h }) (sees n) in
-              subst (λ p. Comes (seenBy words) limit (length log / 4) (runningWith p vs log c) (nodeAt words k (reached f st ys) ws log′) x) (sym (i .whole))
-              (subst (λ p. Comes (seenBy words) limit (length log / 4) (nodeAt words (f .child) (partIn f st) vs log c) (runningWith p ws log′) x) (sym (i .after ys l)) r)
+          alone-came : Inside words k st f alone → (x : Moved) → Came x → Node (reached f st ys) x
+          alone-came i (Again d) r = rw (i .whole, i .after ys l) r
+          alone-came i (Rests why d) r = rw (i .whole, i .after ys l) r
 
           framed-came : Going words k st f vs → (x : Moved) → Came x → LeftBy words k (reached f st ys) ws limit st′ m x → Node st′ m
           framed-came g (Again d) r s =
@@ -168,6 +155,8 @@ module _ (words : List ℕ) (k : ℕ) (st : List ℕ) (vs : List ℤ) (f : Front
               rw (s .same h, s .still h) (itself-came e x r)
           came (byPart g n p a) x r s =
               elim (decLt (f .form) before) [
-                | yes h ↦ rw (s .same h, s .still h) (alone-came g n a h x r)
+                | yes h ↦
+                    let i = stays-alone (record { front = a .front; part = a .part; alone = h }) (sees n) in
+                    rw (s .same h, s .still h) (alone-came i x r)
                 | no h ↦ framed-came g x r (s .framed (omega arith))
               ]

@@ -1,7 +1,5 @@
 -- A part that stands alone takes the place of its node: what is left of the node is what is left of that part.
 use mathlib.Core.Path.{_≡_, sym, ap, ap₂, _∙_, subst}
-use mathlib.Core.Bool.{Bool}
-use mathlib.Core.Logic.{inl, inr}
 use mathlib.Core.List.{List, _++_, append-nil, append-assoc}
 use Prim.Native.Nat.{ℕ, _+_, _-_, _/_, _≤_, _<_}
 use native.Mathlib.Nat.{le-refl, sub-zero}
@@ -10,17 +8,20 @@ use borrow.Rule.Slice.PartMut.{midOf, postOf, putMid, mid-len, put-same, take-pu
 use lib.IntN.{ℤ}
 use lib.ListN.{length, take, drop, length-drop, take-append-drop}
 use lib.Seq.{length-take-le, take-length, drop-length, take-append-le, drop-append-le, take-add, drop-drop}
+use Rattle.program.specs.Program.{seenBy}
 use Rattle.program.specs.declared.forms.Front.{Front}
 use Rattle.residual.specs.Frames.{alone}
 use Rattle.residual.specs.Nodes.{Valued, At, left}
-use Rattle.residual.proofs.Sights.{Inside, Sight, sees-nothing, sees-itself, sees-alone, sees-before, sees-watched, sees-guarded, sees-beside, length-put, part-put}
+use Rattle.residual.proofs.Sights.{Inside, beside-above, Sight, sees-nothing, sees-itself, sees-alone, sees-before, sees-watched, sees-guarded, sees-beside, length-put, part-put}
 use Rattle.instants.proofs.Deciding.{Found, sees, front-part}
 use Rattle.moves.specs.declared.counts.Counts.{Counts}
 use Rattle.moves.specs.declared.counts.Moved.{Moved}
+use Rattle.moves.specs.declared.counts.Moved.the-variants.{Again, Rests}
 use Rattle.moves.specs.Moves.{Running, Path, Comes}
-use Rattle.moves.specs.Contracts.{runningWith, nodeAt}
+use Rattle.moves.specs.Contracts.{CanMove, nodeAt, Makes}
+use Rattle.moves.proofs.Framing.{joined}
+use Rattle.moves.proofs.Advancing.{counted-on, can-on}
 use Rattle.advance.specs.Contracts.{Alone}
-use Rattle.advance.proofs.Turning.{Reached, reaches}
 
 -- a part of a part: m elements from f on, among the n from a on
 module _ (a n f m : ℕ) (st : List ℕ) (h : f + m ≤ n) (l : a + n ≤ length st) where
@@ -82,8 +83,7 @@ stays-alone o (sees-alone e i) = i
 stays-alone o (sees-before e z q i r) = absurd (omega (arith, e, o .alone))
 stays-alone o (sees-watched e x i r) = absurd (omega (arith, e, o .alone))
 stays-alone o (sees-guarded e x z i r) = absurd (omega (arith, e, o .alone))
-stays-alone o (sees-beside (inl e) z g q i c r) = absurd (omega (arith, e, o .alone))
-stays-alone o (sees-beside (inr e) z g q i c r) = absurd (omega (arith, e, o .alone))
+stays-alone o (sees-beside e z g q i c r) = absurd (omega (arith, beside-above e, o .alone))
 
 -- Node j stands in the place of node k, which has the bytes st: its own are those from a up to b.
 pub record Placed (words : List ℕ) (k : ℕ) (st : List ℕ) (j a b : ℕ) : Type 0 where
@@ -130,21 +130,6 @@ module _ {words : List ℕ} {k : ℕ} {st : List ℕ} {j a b : ℕ} (p : Placed 
           after = λ zs m. ap (left words k) (put-over a b st ys zs (p .order) (p .within) l) ∙ p .after zs m;
         }
 
-    -- and what becomes of it becomes of the node
-    pub comes-there :
-        (seen : ℕ → Bool) (limit room : ℕ) (vs : List ℤ) (log : List ℕ) (c : Counts) (ws : List ℤ) (log′ : List ℕ)
-        (m : Moved) →
-        Comes seen limit room (nodeAt words j (midOf a (b - a) st) vs log c) (nodeAt words j ys ws log′) m →
-        Comes seen limit room (nodeAt words k st vs log c) (nodeAt words k (putMid a (b - a) st ys) ws log′) m
-    comes-there seen limit room vs log c ws log′ m r =
-        subst
-        (λ z. Comes seen limit room (runningWith z vs log c) (nodeAt words k (putMid a (b - a) st ys) ws log′) m)
-        (sym same-left)
-        (subst
-        (λ z. Comes seen limit room (nodeAt words j (midOf a (b - a) st) vs log c) (runningWith z ws log′) m)
-        (sym (p .after ys l))
-        r)
-
   -- its part that stands alone stands there
   module _ {vs : List ℤ} (v : Valued words vs) {f : Front} (o : Alone words j (midOf a (b - a) st) f) where
     found : Found words vs j (midOf a (b - a) st) f
@@ -181,28 +166,44 @@ module _ {words : List ℕ} {k : ℕ} {st : List ℕ} {j a b : ℕ} (p : Placed 
               ∙ inside .after ys l);
         }
 
--- Node k has come from `at`, with the bytes st₀, to here, and node j stands in its place.
+-- Node k has come to here by moves, with as many bytes, values and words of its log, and node j stands in its place.
 pub record Here
-    (seen : ℕ → Bool) (limit : ℕ) (at : Running ℕ) (st₀ words : List ℕ) (k : ℕ) (st : List ℕ) (vs : List ℤ)
-    (log : List ℕ) (c : Counts) (j a b : ℕ) : Type 0 where
-  pub come : Reached seen limit at (nodeAt words k st vs log c) st₀ st
+    (limit : ℕ) (begun : Running ℕ) (words : List ℕ) (k : ℕ) (st : List ℕ) (vs : List ℤ) (log : List ℕ) (c : Counts)
+    (j a b : ℕ) : Type 0 where
+  pub path : Path (seenBy words) limit (length (begun .log) / 4) begun (nodeAt words k st vs log c)
+  pub can : CanMove words k st vs log limit c
+  pub logged : length log ≡ length (begun .log)
   pub placed : Placed words k st j a b
 
--- its next turn: node j has made moves, or its part takes its place
-module _ {seen : ℕ → Bool} {limit : ℕ} {at : Running ℕ} {st₀ : List ℕ} {words : List ℕ} {k : ℕ} {st : List ℕ} {j a b : ℕ}
-    {vs : List ℤ} {log : List ℕ} {c : Counts} (u : Here seen limit at st₀ words k st vs log c j a b) where
-  pub here-on :
-      (ys : List ℕ) {ws : List ℤ} {log′ : List ℕ} {d : Counts} → length ys ≡ b - a →
-      Path seen limit (length log / 4) (nodeAt words k st vs log c) (nodeAt words k (putMid a (b - a) st ys) ws log′ d) →
-      length ws ≡ length vs → length log′ ≡ length log →
-      Here seen limit at st₀ words k (putMid a (b - a) st ys) ws log′ d j a b
-  here-on ys l p named logged =
-      record {
-        come = reaches (u .come) p named logged (bytes-kept (u .placed) ys l);
-        placed = placed-still (u .placed) ys l;
-      }
+module _ {limit : ℕ} {begun : Running ℕ} {words : List ℕ} {k : ℕ} {st : List ℕ} {vs : List ℤ} {log : List ℕ} {c : Counts}
+    {j a b : ℕ} (u : Here limit begun words k st vs log c j a b) where
+  -- its next turn: what becomes of node j becomes of the node
+  module _ (ys : List ℕ) (ws : List ℤ) (log′ : List ℕ) (l : length ys ≡ b - a) where
+    abbrev pub Becomes : Moved → Type 0
+    Becomes m =
+        Comes (seenBy words) limit (length (begun .log) / 4) (nodeAt words k st vs log c)
+        (nodeAt words k (putMid a (b - a) st ys) ws log′) m
 
+    pub becomes : (m : Moved) → Makes words limit j (midOf a (b - a) st) vs log c ys ws log′ m → Becomes m
+    becomes (Again d) r = rw (same-left (u .placed), u .placed .after ys l, ← u .logged) r
+    becomes (Rests why d) r = rw (same-left (u .placed), u .placed .after ys l, ← u .logged) r
+
+    pub here-on :
+        {d : Counts} → Becomes (Again d) → length ws ≡ length vs → length log′ ≡ length log →
+        Here limit begun words k (putMid a (b - a) st ys) ws log′ d j a b
+    here-on g named logged =
+        record {
+          path = joined (u .path) (g .path);
+          can =
+              can-on (u .can) (bytes-kept (u .placed) ys l) named
+              (counted-on (g .path) (u .can .counted) (u .logged) logged);
+          logged = logged ∙ u .logged;
+          placed = placed-still (u .placed) ys l;
+        }
+
+  -- or its part takes its place
   pub here-inside :
-      {f : Front} → Valued words vs → Alone words j (midOf a (b - a) st) f →
-      Here seen limit at st₀ words k st vs log c (f .child) (a + f .from) (a + f .to)
-  here-inside v o = record { come = u .come; placed = part-placed (u .placed) v o }
+      {f : Front} → Alone words j (midOf a (b - a) st) f →
+      Here limit begun words k st vs log c (f .child) (a + f .from) (a + f .to)
+  here-inside o =
+      record { path = u .path; can = u .can; logged = u .logged; placed = part-placed (u .placed) (u .can .valued) o }

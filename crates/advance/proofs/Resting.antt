@@ -1,7 +1,6 @@
 -- A node whose part in front is nil, or suspended: the move around it.
 use mathlib.Core.Path.{_≡_, sym, ap, _∙_}
 use mathlib.Core.Bool.{Bool, true, false, false≢true}
-use mathlib.Core.Logic.{inl, inr}
 use mathlib.Core.List.{List}
 use Prim.Native.Nat.{ℕ, _-_, _≤_}
 use native.Mathlib.Decide.{decLt}
@@ -9,7 +8,7 @@ use native.Mathlib.Nat.{le-antisymm}
 use native.Mathlib.Omega.{arith}
 use lib.IntN.{ℤ}
 use lib.ListN.{set}
-use borrow.Author.Tests.{le-leb, lt-leb}
+use borrow.Author.Tests.{le-leb, lt-leb, le-ltb, ne-eqb}
 use Rattle.language.specs.Syntax.{Proc, parallel, isNil}
 use Rattle.language.specs.Steps.{present, suspended}
 use Rattle.program.specs.declared.forms.Front.{Front}
@@ -17,7 +16,7 @@ use Rattle.program.specs.Forms.{before, guarded, beside, partIn}
 use Rattle.residual.specs.Residual.{own}
 use Rattle.residual.specs.Frames.{besideThe}
 use Rattle.residual.specs.Nodes.{inRear, left}
-use Rattle.residual.proofs.Sights.{signalAt, Inside, Sight, sees-nothing, sees-itself, sees-alone, sees-before, sees-watched, sees-guarded, sees-beside, part-set}
+use Rattle.residual.proofs.Sights.{signalAt, Inside, alone-within, beside-above, Sight, sees-nothing, sees-itself, sees-alone, sees-before, sees-watched, sees-guarded, sees-beside, part-set}
 use Rattle.instants.specs.Contracts.{RearWaits}
 use Rattle.moves.specs.declared.counts.Counts.{Counts}
 use Rattle.moves.specs.declared.counts.Reason.{Reason}
@@ -53,15 +52,13 @@ module _ (words : List ℕ) (k : ℕ) (st : List ℕ) (f : Front) (vs : List ℤ
       Silent (left words k st) vs (withByte (byteDropped (f .form) (own st))) vs
   drops (sees-nothing e r) h z p = absurd (omega (arith, e))
   drops (sees-itself e o m) h z p = absurd (omega (arith, e))
-  drops (sees-alone (inl e) i) h z p = absurd (omega (arith, e))
-  drops (sees-alone (inr e) i) h z p = absurd (omega (arith, e))
+  drops (sees-alone e i) h z p = absurd (omega (arith, alone-within e))
   drops (sees-before e o q i r) h z p = rw (e, i .whole, r) (drop-before vs z q)
   drops (sees-watched e l i r) h z p = rw (e, i .whole, r) (drop-watched vs z (signalAt words k))
   drops (sees-guarded e l a i r) h z p = rw (e, i .whole, r) (drop-guarded vs z (signalAt words k) (p e))
-  drops (sees-beside (inl e) o g q i j r) h z p =
-      rw (e, i .whole, r) (drop-beside vs z (left words (g .child) (partIn g st)))
-  drops (sees-beside (inr e) o g q i j r) h z p =
-      rw (e, i .whole, r) (drop-beside vs z (left words (g .child) (partIn g st)))
+  drops (sees-beside e o g q i j r) h z p =
+      rw (ne-eqb (f .form) before (λ s. omega (arith, beside-above e, s)), le-ltb (f .form) beside (beside-above e), i .whole, r)
+      (drop-beside vs z (left words (g .child) (partIn g st)))
 
   -- the part in front waits, and the one behind does not: they trade places
   pub trades :
@@ -69,21 +66,17 @@ module _ (words : List ℕ) (k : ℕ) (st : List ℕ) (f : Front) (vs : List ℤ
       Silent (left words k st) vs (withByte (1 - own st)) vs
   trades (sees-nothing e r) h z p = absurd (omega (arith, e))
   trades (sees-itself e o m) h z p = absurd (omega (arith, e))
-  trades (sees-alone (inl e) i) h z p = absurd (omega (arith, e))
-  trades (sees-alone (inr e) i) h z p = absurd (omega (arith, e))
+  trades (sees-alone e i) h z p = absurd (omega (arith, alone-within e))
   trades (sees-before e o q i r) h z p = absurd (false≢true (p .none (omega (arith, e))))
   trades (sees-watched e l i r) h z p = absurd (false≢true (p .none (omega (arith, e))))
   trades (sees-guarded e l a i r) h z p = absurd (false≢true (p .none (omega (arith, e))))
-  trades (sees-beside (inl e) o g q i j r) h z p =
-      rw (i .whole, traded j) (trade ahead (left words (g .child) (partIn g st)) vs z (rear g q (omega (arith, e)) p))
-  trades (sees-beside (inr e) o g q i j r) h z p =
-      rw (i .whole, traded j) (trade ahead (left words (g .child) (partIn g st)) vs z (rear g q (omega (arith, e)) p))
+  trades (sees-beside e o g q i j r) h z p =
+      rw (i .whole, traded j) (trade ahead (left words (g .child) (partIn g st)) vs z (rear g q (beside-above e) p))
 
   pub byte-bound : Sight words k st f → before ≤ f .form → Byte (f .form) (own st)
   byte-bound (sees-nothing e r) h a b = absurd (omega (arith, e))
   byte-bound (sees-itself e o m) h a b = absurd (omega (arith, e))
-  byte-bound (sees-alone (inl e) i) h a b = absurd (omega (arith, e))
-  byte-bound (sees-alone (inr e) i) h a b = absurd (omega (arith, e))
+  byte-bound (sees-alone e i) h a b = absurd (omega (arith, alone-within e))
   byte-bound (sees-before e o q i r) h a b = o
   byte-bound (sees-watched e x i r) h a b = absurd (a e)
   byte-bound (sees-guarded e x l i r) h a b = absurd (b e)

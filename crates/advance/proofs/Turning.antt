@@ -1,9 +1,8 @@
--- A node's turns: its part in front is run, and it is left; what has been reached so far.
-use mathlib.Core.Path.{_≡_, refl, _∙_, subst}
+-- A node's turn: its part in front is run, and it is left.
+use mathlib.Core.Path.{_≡_}
 use mathlib.Core.Bool.{Bool, true}
-use mathlib.Core.Logic.{inl, inr}
 use mathlib.Core.List.{List}
-use Prim.Native.Nat.{ℕ, _-_, _/_, _<_}
+use Prim.Native.Nat.{ℕ, _-_, _<_}
 use native.Mathlib.Omega.{arith}
 use borrow.Rule.Slice.PartMut.{putMid}
 use lib.IntN.{ℤ}
@@ -14,15 +13,15 @@ use Rattle.program.specs.declared.forms.Front.{Front}
 use Rattle.program.specs.Forms.{itself, guarded, partIn}
 use Rattle.residual.specs.Residual.{own}
 use Rattle.residual.specs.Frames.{Frame, alone, beforeThe, watchedBy, guardedBy, besideThe, Open}
-use Rattle.residual.specs.Nodes.{Valued, At, left, inFront}
-use Rattle.residual.proofs.Sights.{signalAt, Inside, Sight, sees-nothing, sees-itself, sees-alone, sees-before, sees-watched, sees-guarded, sees-beside, own-put, length-put, part-put}
+use Rattle.residual.specs.Nodes.{left, inFront}
+use Rattle.residual.proofs.Sights.{signalAt, Inside, alone-within, beside-above, Sight, sees-nothing, sees-itself, sees-alone, sees-before, sees-watched, sees-guarded, sees-beside, own-put, length-put, part-put}
 use Rattle.moves.specs.declared.counts.Counts.{Counts}
 use Rattle.moves.specs.declared.counts.Reason.{Reason}
 use Rattle.moves.specs.declared.counts.Reason.the-variants.{Nil, Suspended, Spent, Full}
 use Rattle.moves.specs.declared.counts.Moved.{Moved}
-use Rattle.moves.specs.Moves.{Running, Path, stays, IsSpent, IsFull, Ends, Comes}
+use Rattle.moves.specs.Moves.{Running, Path, IsSpent, IsFull, Ends, Comes}
 use Rattle.moves.specs.Contracts.{runningWith, nodeAt}
-use Rattle.moves.proofs.Framing.{joined, open-path, lift, spent-around, full-around}
+use Rattle.moves.proofs.Framing.{open-path, lift, spent-around, full-around}
 use Rattle.moves.proofs.Advancing.{goes-silently, comes-on}
 use Rattle.advance.specs.Contracts.{EndsWith, Settles, restsOn, atLimit, makesMove}
 
@@ -44,10 +43,8 @@ module _ (words : List ℕ) (k : ℕ) (st : List ℕ) (f : Front) (vs : List ℤ
       Sight words k st f → itself < f .form → (f .form ≡ guarded → present vs (signalAt words k) ≡ true) → Going
   going (sees-nothing e r) h p = absurd (omega (arith, e))
   going (sees-itself e o m) h p = absurd (omega (arith, e))
-  going (sees-alone (inl e) i) h p =
-      record { frame = alone; inside = i; opened = tt; shown = λ ys ws o q. absurd (omega (arith, e, q)) }
-  going (sees-alone (inr e) i) h p =
-      record { frame = alone; inside = i; opened = tt; shown = λ ys ws o q. absurd (omega (arith, e, q)) }
+  going (sees-alone e i) h p =
+      record { frame = alone; inside = i; opened = tt; shown = λ ys ws o q. absurd (omega (arith, alone-within e, q)) }
   going (sees-before e o q i r) h p =
       record { frame = beforeThe q; inside = i; opened = tt; shown = λ ys ws o q. absurd (omega (arith, e, q)) }
   going (sees-watched e x i r) h p =
@@ -64,19 +61,12 @@ module _ (words : List ℕ) (k : ℕ) (st : List ℕ) (f : Front) (vs : List ℤ
         opened = (p e, a (partIn f st));
         shown = λ ys ws o q. o .0;
       }
-  going (sees-beside (inl e) o g q i j r) h p =
+  going (sees-beside e o g q i j r) h p =
       record {
         frame = besideThe (left words (g .child) (partIn g st));
         inside = i;
         opened = tt;
-        shown = λ ys ws o q. absurd (omega (arith, e, q));
-      }
-  going (sees-beside (inr e) o g q i j r) h p =
-      record {
-        frame = besideThe (left words (g .child) (partIn g st));
-        inside = i;
-        opened = tt;
-        shown = λ ys ws o q. absurd (omega (arith, e, q));
+        shown = λ ys ws o q. absurd (omega (arith, beside-above e, q));
       }
 
 -- the part's moves are the node's
@@ -140,39 +130,3 @@ module _ {seen : ℕ → Bool} {limit room : ℕ} {at : Running ℕ} {p : Proc �
   settled why z (atLimit e q live t) = rw (e, q) (record { path = path; ends = record { live = live; time = t } })
   settled {p′} {m} why z (makesMove e t silent) =
       comes-on (runningWith p′ s log) m path (rw e (goes-silently (runningWith p s log c) t silent))
-
--- node k has come from `at`, with the bytes st₀, to `to`, with the bytes st
-pub record Reached (seen : ℕ → Bool) (limit : ℕ) (at to : Running ℕ) (st₀ st : List ℕ) : Type 0 where
-  pub path : Path seen limit (length (at .log) / 4) at to
-  pub named : length (to .values) ≡ length (at .values)
-  pub logged : length (to .log) ≡ length (at .log)
-  pub bytes : length st ≡ length st₀
-
-pub begins : {seen : ℕ → Bool} {limit : ℕ} {at : Running ℕ} {st : List ℕ} → Reached seen limit at at st st
-begins = record { path = stays; named = refl; logged = refl; bytes = refl }
-
-module _ {seen : ℕ → Bool} {limit : ℕ} {at to : Running ℕ} {st₀ st : List ℕ} (u : Reached seen limit at to st₀ st) where
-  pub valued : {words : List ℕ} → Valued words (at .values) → Valued words (to .values)
-  valued v = record { runnable = v .runnable; named = u .named ∙ v .named }
-
-  pub at-node : {words : List ℕ} {k : ℕ} → At words k st₀ → At words k st
-  at-node a = record { known = a .known; whole = u .bytes ∙ a .whole }
-
-  -- what is known of a log of this length
-  pub in-room :
-      (next : Counts → Running ℕ) (m : Moved) → Comes seen limit (length (to .log) / 4) to next m →
-      Comes seen limit (length (at .log) / 4) to next m
-  in-room next m = subst (λ n. Comes seen limit (n / 4) to next m) (u .logged)
-
-  -- more moves
-  pub reaches :
-      {next : Running ℕ} {st′ : List ℕ} → Path seen limit (length (to .log) / 4) to next →
-      length (next .values) ≡ length (to .values) → length (next .log) ≡ length (to .log) → length st′ ≡ length st →
-      Reached seen limit at next st₀ st′
-  reaches {next} p named logged bytes =
-      record {
-        path = joined (u .path) (subst (λ n. Path seen limit (n / 4) to next) (u .logged) p);
-        named = named ∙ u .named;
-        logged = logged ∙ u .logged;
-        bytes = bytes ∙ u .bytes;
-      }

@@ -1,16 +1,16 @@
 -- What the functions that run a node ask for and promise.
 use mathlib.Core.Path.{_≡_}
-use mathlib.Core.Bool.{Bool, true, cond, _||_}
+use mathlib.Core.Bool.{Bool, true, cond}
 use mathlib.Core.List.{List}
 use Prim.Native.Nat.{ℕ, _-_, _≤_, _<_}
-use lib.Dec.{eqb, leb}
+use lib.Dec.{eqb, leb, ltb}
 use lib.IntN.{ℤ}
 use lib.ListN.{set, length}
 use Rattle.language.specs.Syntax.{Proc, isNil}
 use Rattle.language.specs.Steps.{present, suspended}
 use Rattle.program.specs.Program.{kindAt, aAt}
 use Rattle.program.specs.declared.forms.Front.{Front}
-use Rattle.program.specs.Forms.{over, itself, before, watched, guarded, partIn}
+use Rattle.program.specs.Forms.{over, itself, before, watched, guarded, beside, partIn}
 use Rattle.residual.specs.Residual.{own}
 use Rattle.residual.specs.Nodes.{NodeIn, inFront, left}
 use Rattle.moves.specs.declared.counts.Counts.{Counts}
@@ -78,8 +78,7 @@ Byte form tag = (form ≡ watched → ⊥) → (form ≡ guarded → ⊥) → ta
 
 -- a node's own byte when a nil part in front of it is dropped
 abbrev pub byteDropped : ℕ → ℕ → ℕ
-byteDropped form tag =
-    cond (eqb form watched || eqb form guarded) over (cond (eqb form before) (1 - tag) (3 - tag))
+byteDropped form tag = cond (eqb form before) (1 - tag) (cond (ltb form beside) over (3 - tag))
 
 -- a move around a part
 pub record CanMoveAround (st : List ℕ) (limit : ℕ) : Type 0 where

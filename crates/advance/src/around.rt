@@ -16,7 +16,7 @@ fn byte_dropped(form: u8, tag: u8) -> u8
     if form == forms::BEFORE {
         return 1 - tag;
     }
-    if form == forms::WATCHED || form == forms::GUARDED {
+    if form < forms::BESIDE {
         return forms::OVER;
     }
     3 - tag

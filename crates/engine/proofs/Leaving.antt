@@ -1,6 +1,6 @@
 -- What each way out of `run` has to show.
 use mathlib.Core.Path.{_≡_, refl, sym, ap, _∙_, subst}
-use mathlib.Core.Bool.{true, false}
+use mathlib.Core.Bool.{Bool, true, false}
 use mathlib.Core.List.{List}
 use Prim.Native.Nat.{ℕ, _/_, _≤_, _<_}
 use native.Mathlib.Omega.{arith}
@@ -10,32 +10,53 @@ use Rattle.prelude.specs.declared.Refusal.{Refusal}
 use Rattle.prelude.specs.Refusals.{passes}
 use Rattle.book.specs.declared.Book.{Book}
 use Rattle.book.specs.LevelBook.{count}
+use Rattle.book.specs.Load.{bookOf}
+use Rattle.book.proofs.Sizes.{few-read}
 use Rattle.lattice.specs.Lattice.{bookLattice}
+use Rattle.lattice.proofs.Passing.{passing}
+use Rattle.lattice.proofs.Theorems.{order-at}
 use Rattle.language.specs.Calls.{starts, readable}
 use Rattle.language.specs.Paths.{IsRun}
 use Rattle.language.proofs.Theorems.{runs-agree}
 use Rattle.language.proofs.Naming.{run-alike}
 use Rattle.language.proofs.Stopping.{run-few}
-use Rattle.layout.specs.Layout.{nameCount}
-use Rattle.reach.specs.Checked.{Checked}
+use Rattle.layout.specs.declared.Script.{Script}
+use Rattle.layout.specs.Layout.{layoutOf, nameCount}
+use Rattle.layout.specs.Entries.{nameOf}
+use Rattle.reach.specs.Checked.{Checked, Levelled}
+use Rattle.script.proofs.Theorems.{accepted-exactly}
 use Rattle.tree.specs.Tree.{namesOf, tree}
+use Rattle.moves.specs.Contracts.{mostSteps}
 use Rattle.runner.specs.declared.Ran.{Ran}
 use Rattle.plan.specs.Plan.{seesIn}
 use Rattle.runner.proofs.Outcomes.{written-is}
 use Rattle.checker.specs.Refusals.{checkRefusal}
 use Rattle.call.specs.Refusals.{callRefusal, runRefusal}
+use Rattle.call.proofs.Passing.{run-accepted, run-bounds}
 use Rattle.call.proofs.Writes.{tree-writes}
 use Rattle.answers.specs.Reports.{reportBy}
 use Rattle.engine.specs.Answers.{runOf, Left, leftBy, refusedLeft, left}
-use Rattle.engine.specs.Contracts.{runFor, Returns}
+use Rattle.engine.specs.Contracts.{CanStart, runFor, Returns}
 
-module _ (b s : List ℕ) (reader : ℕ) (values : List ℤ) (limit : ℕ) (log : List ℕ) where
+-- what a run that is not refused counts, which is within the limit, and what it leaves
+pub record Leaves
+    (b s : List ℕ) (reader : ℕ) (values : List ℤ) (limit : ℕ) (log : List ℕ) (r : Ran) (values′ : List ℤ) (log′ : List ℕ)
+    : Type 0 where
+  pub steps : r .at .steps ≤ mostSteps
+  pub instants : r .at .instants ≤ mostSteps
+  pub lines : r .at .lines ≤ mostSteps
+  pub report :
+      reportBy (r .ending) (r .at .steps) (r .at .instants) (r .at .lines) ≡ left b s reader values limit log .report
+  pub final : values′ ≡ left b s reader values limit log .values
+  pub logged : log′ ≡ left b s reader values limit log .log
+
+module _ (b s : List ℕ) (reader : ℕ) (values : List ℤ) (limit : ℕ) where
   -- a refused call
   pub refused-left :
-      {R : Refusal} → R ≡ runRefusal b s reader values limit → passes R ≡ false →
+      (log : List ℕ) {R : Refusal} → R ≡ runRefusal b s reader values limit → passes R ≡ false →
       refusedLeft R values log ≡ left b s reader values limit log
   unfolding left
-  refused-left e f = rw (e, ap passes (sym e) ∙ f)
+  refused-left log e f = rw (e, ap passes (sym e) ∙ f)
 
   pub by-check : {R : Refusal} → R ≡ checkRefusal b s → passes R ≡ false → R ≡ runRefusal b s reader values limit
   unfolding runRefusal
@@ -47,55 +68,80 @@ module _ (b s : List ℕ) (reader : ℕ) (values : List ℤ) (limit : ℕ) (log 
   unfolding runRefusal
   by-call p e = e ∙ sym (rw p)
 
-  -- a call that is not refused: what the runner leaves
-  module _ (ok : Checked s) (long : length values ≡ nameCount s) (bk : Book)
-      (agree : (x : ℕ) → x < nameCount s → seesIn bk s reader x ≡ readable (bookLattice b) (namesOf s) reader x)
-      {r : Ran} {values′ : List ℤ} {log′ : List ℕ} (g : Returns (runFor bk s reader values limit log) log r values′ log′) where
-    given : Returns (runOf b s reader values limit log) log r values′ log′
-    given =
-        subst (λ o. Returns o log r values′ log′)
-        (run-alike (namesOf s) (namesOf s) (seesIn bk s reader) _ (nameCount s) (λ x l. refl) (λ x l. refl) agree limit
-        (length log / 4) (starts (tree s) values) long (tree-writes s ok))
-        g
+  -- a call that is not refused
+  module _ (p : passes (runRefusal b s reader values limit) ≡ true) where
+    file : Checked s × Levelled s (count b)
+    file = accepted-exactly .checked _ _ (run-accepted b s reader values limit p .0 .script)
 
-    path : IsRun (namesOf s) (readable (bookLattice b) (namesOf s) reader) limit (length log / 4) (starts (tree s) values) (runOf b s reader values limit log)
-    path = runs-agree (namesOf s) (readable (bookLattice b) (namesOf s) reader) limit (length log / 4) (starts (tree s) values) .path
+    named : length values ≡ nameCount s
+    named = run-accepted b s reader values limit p .1 .named
 
-    pub few-steps : r .at .steps ≤ limit
-    few-steps = omega (arith, given .steps, path .steps, path .inLimit)
+    bounds : (reader < count b) × (limit ≤ mostSteps)
+    bounds = run-bounds b s reader values limit p
 
-    pub few-instants : r .at .instants ≤ limit
-    few-instants = omega (arith, given .within, few-steps)
+    abbrev sees : ℕ → Bool
+    sees = readable (bookLattice b) (namesOf s) reader
 
-    pub few-lines : r .at .lines ≤ limit
-    few-lines =
-        omega
-        (arith, given .lines, run-few (namesOf s) (readable (bookLattice b) (namesOf s) reader) limit (length log / 4) (starts (tree s) values))
-
-    module _ (p : passes (runRefusal b s reader values limit) ≡ true) where
-      is : leftBy (runOf b s reader values limit log) log ≡ left b s reader values limit log
-      unfolding left
-      is = sym (rw p)
-
-      pub report-is : reportBy (r .ending) (r .at .steps) (r .at .instants) (r .at .lines) ≡ left b s reader values limit log .report
-      report-is =
-          (λ i.
+    module _ {bk : Book} (e : bk ≡ bookOf b) where
+      -- it can be run
+      pub can-start : {c : Script} → c ≡ layoutOf s → CanStart s c bk reader values limit
+      can-start l =
           record {
-            number = 0;
-            place = 0;
-            ending = given .ending i;
-            steps = given .steps i;
-            instants = given .instants i;
-            lines = given .lines i;
-          })
-          ∙ ap (λ (l : Left). l .report) is
+            plan =
+                record {
+                  laid = rw l (file .0 .laid);
+                  checked = file .0;
+                  levelled = rw e (file .1);
+                  levels = few-read b (passing _ (run-accepted b s reader values limit p .0 .book) .size) bk e;
+                  reader = rw e (bounds .0);
+                };
+            named = named;
+            most = bounds .1;
+          }
 
-      pub values-are : values′ ≡ left b s reader values limit log .values
-      values-are = given .final ∙ ap (λ (l : Left). l .values) is
+      -- what the runner leaves
+      module _ {log : List ℕ} {r : Ran} {values′ : List ℤ} {log′ : List ℕ}
+          (g : Returns (runFor bk s reader values limit log) log r values′ log′) where
+        agrees : (x : ℕ) → x < nameCount s → seesIn bk s reader x ≡ sees x
+        agrees x h = rw e (order-at b (nameOf s x .level) reader (file .1 x h) (bounds .0))
 
-      pub log-is : log′ ≡ left b s reader values limit log .log
-      log-is =
-          given .logged
-          ∙ written-is (runOf b s reader values limit log .lines) log
-          (omega (arith, path .inRoom))
-          ∙ ap (λ (l : Left). l .log) is
+        given : Returns (runOf b s reader values limit log) log r values′ log′
+        given =
+            subst (λ o. Returns o log r values′ log′)
+            (run-alike (namesOf s) (namesOf s) (seesIn bk s reader) _ (nameCount s) (λ x l. refl) (λ x l. refl) agrees limit
+            (length log / 4) (starts (tree s) values) named (tree-writes s (file .0)))
+            g
+
+        path : IsRun (namesOf s) sees limit (length log / 4) (starts (tree s) values) (runOf b s reader values limit log)
+        path = runs-agree (namesOf s) sees limit (length log / 4) (starts (tree s) values) .path
+
+        is : leftBy (runOf b s reader values limit log) log ≡ left b s reader values limit log
+        unfolding left
+        is = sym (rw p)
+
+        pub leaves : Leaves b s reader values limit log r values′ log′
+        leaves =
+            let steps : r .at .steps ≤ mostSteps = omega (arith, given .steps, path .steps, path .inLimit, bounds .1) in
+            record {
+              steps = steps;
+              instants = omega (arith, given .within, steps);
+              lines =
+                  omega
+                  (arith, given .lines, run-few (namesOf s) sees limit (length log / 4) (starts (tree s) values), bounds .1);
+              report =
+                  (λ i.
+                  record {
+                    number = 0;
+                    place = 0;
+                    ending = given .ending i;
+                    steps = given .steps i;
+                    instants = given .instants i;
+                    lines = given .lines i;
+                  })
+                  ∙ ap (λ (l : Left). l .report) is;
+              final = given .final ∙ ap (λ (l : Left). l .values) is;
+              logged =
+                  given .logged
+                  ∙ written-is (runOf b s reader values limit log .lines) log (omega (arith, path .inRoom))
+                  ∙ ap (λ (l : Left). l .log) is;
+            }

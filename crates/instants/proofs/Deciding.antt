@@ -16,18 +16,11 @@ use Rattle.program.proofs.Views.{NodeView, aNil, anAssign, aLet, anIf, aWhile, 
 use Rattle.program.specs.declared.forms.Front.{Front}
 use Rattle.program.proofs.Fronts.{front-form, rear-is, parts-meet}
 use Rattle.residual.specs.Residual.{own, residual}
-use Rattle.program.specs.Forms.{itself, first, second, before, watched, guarded, beside, turned, formOf, rearOf, partIn}
+use Rattle.program.specs.Forms.{itself, watched, guarded, beside, formOf, rearOf, partIn}
 use Rattle.residual.specs.Frames.{Frame, around}
 use Rattle.residual.specs.Nodes.{Valued, At, NodeIn, inFront, inRear, left}
 use Rattle.instants.specs.Contracts.{RearWaits}
-use Rattle.residual.proofs.Sights.{Inside, signalAt, MovesItself, not-itself, Sight, sees-nothing, sees-itself, sees-alone, sees-before, sees-watched, sees-guarded, sees-beside, sight, part-length}
-
--- the forms of a part alone, and of a parallel
-alone-within : {n : ℕ} → (n ≡ first) ⊎ (n ≡ second) → (itself < n) × (n < before)
-alone-within = ⊎-elim (λ e. (omega arith, omega arith)) (λ e. (omega arith, omega arith))
-
-beside-above : {n : ℕ} → (n ≡ beside) ⊎ (n ≡ turned) → guarded < n
-beside-above = ⊎-elim (λ e. omega arith) (λ e. omega arith)
+use Rattle.residual.proofs.Sights.{Inside, signalAt, MovesItself, not-itself, alone-within, beside-above, Sight, sees-nothing, sees-itself, sees-alone, sees-before, sees-watched, sees-guarded, sees-beside, sight, part-length}
 
 -- node k with its bytes, and its front
 pub record Found (words : List ℕ) (values : List ℤ) (k : ℕ) (st : List ℕ) (f : Front) : Type 0 where

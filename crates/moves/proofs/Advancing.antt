@@ -1,5 +1,5 @@
 -- Moves that a node has made, from one system to another.
-use mathlib.Core.Path.{_≡_, refl, sym, ap, _∙_, subst}
+use mathlib.Core.Path.{_≡_, refl, ap, _∙_, subst}
 use mathlib.Core.Bool.{Bool, true, false}
 use mathlib.Core.Option.{Option, none, some}
 use mathlib.Core.List.{List}
@@ -16,7 +16,7 @@ use Rattle.moves.specs.declared.counts.Reason.the-variants.{Nil}
 use Rattle.moves.specs.declared.counts.Moved.{Moved}
 use Rattle.moves.specs.declared.counts.Moved.the-variants.{Again, Rests}
 use Rattle.moves.specs.Moves.{Running, system, logAfter, linesAfter, hasRoom, nextLine, moved, Silent, Path, stays, moves, Goes, Stops, Comes, IsFull}
-use Rattle.moves.specs.Contracts.{Counted, Writes, runningWith}
+use Rattle.moves.specs.Contracts.{Counted, CanMove, Writes, runningWith}
 use Rattle.moves.proofs.Framing.{joined, silently, silent-move}
 
 lines-fit : (room : ℕ) (l : Option Line) (n : ℕ) → n ≤ room → hasRoom room l n ≡ true → linesAfter l n ≤ room
@@ -47,15 +47,26 @@ module _ {seen : ℕ → Bool} {limit room : ℕ} where
 
 -- what is counted stays within the limits
 pub counted-on :
-    {seen : ℕ → Bool} {limit : ℕ} {p p′ : Proc ℕ} {vs vs′ : List ℤ} {log log′ : List ℕ} {c d : Counts} →
-    Path seen limit (length log / 4) (runningWith p vs log c) (runningWith p′ vs′ log′ d) → Counted limit log c →
-    length log′ ≡ length log → Counted limit log′ d
-counted-on path c l =
+    {seen : ℕ → Bool} {limit n : ℕ} {p p′ : Proc ℕ} {vs vs′ : List ℤ} {log log′ : List ℕ} {c d : Counts} →
+    Path seen limit (n / 4) (runningWith p vs log c) (runningWith p′ vs′ log′ d) → Counted limit log c →
+    length log ≡ n → length log′ ≡ length log → Counted limit log′ d
+counted-on path c e l =
     record {
       time = path-time path (c .time);
       most = c .most;
       instants = omega (arith, path-instants path, c .instants, path-later path);
-      space = omega (arith, path-space path (omega (arith, c .space)), l);
+      space = omega (arith, path-space path (omega (arith, c .space, e)), e, l);
+    }
+
+-- a function of the run may be called again, with as many bytes and values
+pub can-on :
+    {words st st′ log log′ : List ℕ} {k limit : ℕ} {vs vs′ : List ℤ} {c d : Counts} → CanMove words k st vs log limit c →
+    length st′ ≡ length st → length vs′ ≡ length vs → Counted limit log′ d → CanMove words k st′ vs′ log′ limit d
+can-on c b v d =
+    record {
+      valued = record { runnable = c .valued .runnable; named = v ∙ c .valued .named };
+      node = record { known = c .node .known; whole = b ∙ c .node .whole };
+      counted = d;
     }
 
 module _ {seen : ℕ → Bool} {limit room : ℕ} where
@@ -108,19 +119,4 @@ module _ (seen : ℕ → Bool) (limit room : ℕ) (at : Running ℕ) {x : ℕ} {
         Stops seen limit room at
         (record { process = p; values = vs; log = log; steps = c .steps; instants = c .instants; lines = c .lines }) Nil
     unfolding isNil
-    stops-written {p} {vs} {log} {c} a b l d =
-        record {
-          path =
-              subst (Path seen limit room at)
-              (λ i.
-              record {
-                process = sym a i;
-                values = sym b i;
-                log = sym l i;
-                steps = sym d i .steps;
-                instants = sym d i .instants;
-                lines = sym d i .lines;
-              })
-              written-path;
-          ends = ap isNil a;
-        }
+    stops-written a b l d = rw (a, b, l, d) (record { path = written-path; ends = refl })

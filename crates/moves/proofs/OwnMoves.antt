@@ -1,9 +1,9 @@
 -- A node whose own move is next: what the move is, kind by kind, and what the bytes say after it.
 use mathlib.Core.Path.{_≡_, refl, sym, ap, _∙_, subst}
 use mathlib.Core.Bool.{true, false, true≢false}
-use mathlib.Core.Logic.{inl, inr}
+use mathlib.Core.Logic.{inl, inr, ⊎-elim}
 use mathlib.Core.List.{List, [], _∷_}
-use Prim.Native.Nat.{ℕ, suc, _-_, _≤_, _<_}
+use Prim.Native.Nat.{ℕ, suc, _-_, _<_}
 use native.Mathlib.Decide.{ℕ-discrete}
 use native.Mathlib.Omega.{arith}
 use borrow.Author.Tests.{eqb-true, ne-eqb}
@@ -23,11 +23,10 @@ use Rattle.program.specs.declared.forms.Front.{Front}
 use Rattle.program.specs.Forms.{itself}
 use Rattle.residual.specs.Residual.{own, firstOf, secondOf, residual}
 use Rattle.moves.specs.Moves.{Live, Silent}
-use Rattle.residual.specs.Nodes.{left}
-use Rattle.moves.specs.Contracts.{IsSilent, isWriter, IsWriter, Writes}
-use Rattle.residual.proofs.Residuals.{zeros}
-use Rattle.residual.proofs.Residuals.{own-set-at}
-use Rattle.residual.proofs.Sights.{MovesItself, not-itself, Sight, sees-nothing, sees-itself, sees-alone, sees-before, sees-watched, sees-guarded, sees-beside, own-put, length-put, first-put}
+use Rattle.residual.specs.Nodes.{Valued, At, left}
+use Rattle.moves.specs.Contracts.{Unmoved, IsSilent, isWriter, IsWriter, WriterAt, Written}
+use Rattle.residual.proofs.Residuals.{zeros, own-set-at, some-bytes}
+use Rattle.residual.proofs.Sights.{MovesItself, not-itself, alone-within, beside-above, Sight, sees-nothing, sees-itself, sees-alone, sees-before, sees-watched, sees-guarded, sees-beside, own-put, length-put, first-put}
 
 module _ (words : List ℕ) (k : ℕ) where
   abbrev kind : ℕ
@@ -87,13 +86,11 @@ pub is-itself :
     (own st ≡ 0) × MovesItself (kind words k)
 is-itself (sees-nothing e r) q = absurd (omega (arith, e, q))
 is-itself (sees-itself e o m) q = (o, m)
-is-itself (sees-alone (inl e) i) q = absurd (omega (arith, e, q))
-is-itself (sees-alone (inr e) i) q = absurd (omega (arith, e, q))
+is-itself (sees-alone e i) q = absurd (omega (arith, alone-within e, q))
 is-itself (sees-before e o p i r) q = absurd (omega (arith, e, q))
 is-itself (sees-watched e x i r) q = absurd (omega (arith, e, q))
 is-itself (sees-guarded e x a i r) q = absurd (omega (arith, e, q))
-is-itself (sees-beside (inl e) o g p i j r) q = absurd (omega (arith, e, q))
-is-itself (sees-beside (inr e) o g p i j r) q = absurd (omega (arith, e, q))
+is-itself (sees-beside e o g p i j r) q = absurd (omega (arith, beside-above e, q))
 
 -- assignments and emissions
 pub writer-is : (kind : ℕ) → isWriter kind ≡ true → IsWriter kind
@@ -102,10 +99,6 @@ writer-is kind e =
       | yes q ↦ inl q
       | no n ↦ inr (eqb-true kind 6 (rw (ne-eqb kind 1 n) at e))
     ]
-
-pub writer-was : {kind : ℕ} → IsWriter kind → isWriter kind ≡ true
-writer-was (inl e) = ap isWriter e
-writer-was (inr e) = ap isWriter e
 
 -- let, if, while and local are left
 pub is-silent : {kind : ℕ} → MovesItself kind → isWriter kind ≡ false → IsSilent kind
@@ -125,127 +118,128 @@ is-silent {kind} m e =
           ]
     ]
 
-module _ (words : List ℕ) (ok : Runnable words) (k : ℕ) (h : k < nodeCount words) (st : List ℕ) (some : 1 ≤ length st) where
-  own-set : (v : ℕ) → own (set st 0 v) ≡ v
-  own-set = own-set-at st some
+-- a node whose own move is next is neither nil nor suspended
+live-of :
+    (words : List ℕ) (k : ℕ) (st : List ℕ) (vs : List ℤ) → own st ≡ 0 → MovesItself (kind words k) → NodeView words k →
+    Live (left words k st) vs
+unfolding residual suspended isNil
+live-of words k st vs z m (aNil e q) = absurd (not-itself m e (inl refl))
+live-of words k st vs z m (anAssign e q x y) = rw (q, z) (record { some = refl; moving = refl })
+live-of words k st vs z m (aLet e q x y w) = rw (q, z) (record { some = refl; moving = refl })
+live-of words k st vs z m (anIf e q x y w) = rw (q, z) (record { some = refl; moving = refl })
+live-of words k st vs z m (aWhile e q x y) = rw (q, z) (record { some = refl; moving = refl })
+live-of words k st vs z m (aSequence e q x y) = absurd (not-itself m e (inr (inl refl)))
+live-of words k st vs z m (anEmit e q x) = rw (q, z) (record { some = refl; moving = refl })
+live-of words k st vs z m (aLocal e q x y) = rw (q, z) (record { some = refl; moving = refl })
+live-of words k st vs z m (aWatching e q x y g) = absurd (not-itself m e (inr (inr (omega arith))))
+live-of words k st vs z m (aWhen e q x y l) = absurd (not-itself m e (inr (inr (omega arith))))
+live-of words k st vs z m (aParallel e q x y) = absurd (not-itself m e (inr (inr (omega arith))))
 
-  first-set : (v : ℕ) (p : Proc ℕ) → firstOf p (set st 0 v) ≡ firstOf p st
-  first-set v p = ap (take (size p)) (drop-set-lt 1 st 0 v (omega arith))
+-- a part keeps its bytes when the node's own is set
+first-set : (st : List ℕ) (v : ℕ) (p : Proc ℕ) → firstOf p (set st 0 v) ≡ firstOf p st
+first-set st v p = ap (take (size p)) (drop-set-lt 1 st 0 v (omega arith))
 
-  second-set : (v : ℕ) (p : Proc ℕ) → secondOf p (set st 0 v) ≡ secondOf p st
-  second-set v p = drop-set-lt (suc (size p)) st 0 v (omega arith)
+second-set : (st : List ℕ) (v : ℕ) (p : Proc ℕ) → secondOf p (set st 0 v) ≡ secondOf p st
+second-set st v p = drop-set-lt (suc (size p)) st 0 v (omega arith)
 
-  module _ (z : own st ≡ 0) (vs : List ℤ) where
-    -- a node whose own move is next is neither nil nor suspended
-    live-of : MovesItself (kind words k) → NodeView words k → Live (left words k st) vs
-    unfolding residual suspended isNil
-    live-of m (aNil e q) = absurd (not-itself m e (inl refl))
-    live-of m (anAssign e q x y) = rw (q, z) (record { some = refl; moving = refl })
-    live-of m (aLet e q x y w) = rw (q, z) (record { some = refl; moving = refl })
-    live-of m (anIf e q x y w) = rw (q, z) (record { some = refl; moving = refl })
-    live-of m (aWhile e q x y) = rw (q, z) (record { some = refl; moving = refl })
-    live-of m (aSequence e q x y) = absurd (not-itself m e (inr (inl refl)))
-    live-of m (anEmit e q x) = rw (q, z) (record { some = refl; moving = refl })
-    live-of m (aLocal e q x y) = rw (q, z) (record { some = refl; moving = refl })
-    live-of m (aWatching e q x y g) = absurd (not-itself m e (inr (inr (omega arith))))
-    live-of m (aWhen e q x y l) = absurd (not-itself m e (inr (inr (omega arith))))
-    live-of m (aParallel e q x y) = absurd (not-itself m e (inr (inr (omega arith))))
+module _ {words : List ℕ} {k : ℕ} {st : List ℕ} {vs : List ℤ} where
+  pub itself-live : Valued words vs → At words k st → own st ≡ 0 → MovesItself (kind words k) → Live (left words k st) vs
+  itself-live v at z m = live-of words k st vs z m (node-view words (v .runnable) k (at .known))
 
-    pub itself-live : MovesItself (kind words k) → Live (left words k st) vs
-    itself-live m = live-of m (node-view words ok k h)
+  -- what is known of a node that is as it is written, and its own byte when it is set
+  pub fields : {n : ℕ} → Unmoved words k st vs n → KnownAt words k n
+  fields u = known words (u .valued .runnable) k (u .node .known) (u .kind)
 
-    pub let-moves :
-        kind words k ≡ 2 →
-        Silent (left words k st) vs (left words k (set st 0 1)) (set vs (a words k) (value (expressionOf words (b words k)) vs))
-    unfolding residual suspended move isNil
-    let-moves e =
-        rw (known words ok k h e .0, z, own-set 1, first-set 1 (one words k))
-        (record { some = refl; moving = refl }, refl)
+  own-set : {n : ℕ} → Unmoved words k st vs n → (v : ℕ) → own (set st 0 v) ≡ v
+  own-set u = own-set-at st (some-bytes (u .node))
 
-    pub local-moves : kind words k ≡ 7 → Silent (left words k st) vs (left words k (set st 0 1)) (set vs (a words k) (pos 0))
-    unfolding residual suspended move isNil
-    local-moves e =
-        rw (known words ok k h e .0, z, own-set 1, first-set 1 (one words k))
-        (record { some = refl; moving = refl }, refl)
+  pub let-moves :
+      Unmoved words k st vs 2 →
+      Silent (left words k st) vs (left words k (set st 0 1)) (set vs (a words k) (value (expressionOf words (b words k)) vs))
+  unfolding residual suspended move isNil
+  let-moves u =
+      rw (fields u .0, u .clear, own-set u 1, first-set st 1 (one words k)) (record { some = refl; moving = refl }, refl)
 
-    pub then-moves :
-        kind words k ≡ 3 → test (expressionOf words (a words k)) vs ≡ true → Silent (left words k st) vs (left words k (set st 0 1)) vs
-    unfolding residual suspended move isNil
-    then-moves e t =
-        rw (known words ok k h e .0, z, own-set 1, first-set 1 (one words k), t)
-        (record { some = refl; moving = refl }, refl)
+  pub local-moves :
+      Unmoved words k st vs 7 → Silent (left words k st) vs (left words k (set st 0 1)) (set vs (a words k) (pos 0))
+  unfolding residual suspended move isNil
+  local-moves u =
+      rw (fields u .0, u .clear, own-set u 1, first-set st 1 (one words k)) (record { some = refl; moving = refl }, refl)
 
-    pub else-moves :
-        kind words k ≡ 3 → test (expressionOf words (a words k)) vs ≡ false → Silent (left words k st) vs (left words k (set st 0 2)) vs
-    unfolding residual suspended move isNil
-    else-moves e t =
-        rw (known words ok k h e .0, z, own-set 2, second-set 2 (one words k), t)
-        (record { some = refl; moving = refl }, refl)
+  pub then-moves :
+      Unmoved words k st vs 3 → test (expressionOf words (a words k)) vs ≡ true →
+      Silent (left words k st) vs (left words k (set st 0 1)) vs
+  unfolding residual suspended move isNil
+  then-moves u t =
+      rw (fields u .0, u .clear, own-set u 1, first-set st 1 (one words k), t) (record { some = refl; moving = refl }, refl)
 
+  pub else-moves :
+      Unmoved words k st vs 3 → test (expressionOf words (a words k)) vs ≡ false →
+      Silent (left words k st) vs (left words k (set st 0 2)) vs
+  unfolding residual suspended move isNil
+  else-moves u t =
+      rw (fields u .0, u .clear, own-set u 2, second-set st 2 (one words k), t) (record { some = refl; moving = refl }, refl)
+
+  module _ (u : Unmoved words k st vs 4) where
     pub done-moves :
-        kind words k ≡ 4 → test (expressionOf words (a words k)) vs ≡ false → Silent (left words k st) vs (left words k (set st 0 4)) vs
+        test (expressionOf words (a words k)) vs ≡ false → Silent (left words k st) vs (left words k (set st 0 4)) vs
     unfolding residual suspended move isNil
-    done-moves e t =
-        rw (known words ok k h e .0, z, own-set 4, t) (record { some = refl; moving = refl }, refl)
-
-    pub assign-writes :
-        kind words k ≡ 1 → Writes (left words k st) vs (a words k) (value (expressionOf words (b words k)) vs)
-    unfolding residual suspended move isNil calledFor
-    assign-writes e =
-        rw (known words ok k h e .0, z)
-        (record {
-          live = record { some = refl; moving = refl };
-          process = refl;
-          values = refl;
-          line = λ seen at. refl;
-        })
-
-    pub emit-writes : kind words k ≡ 6 → Writes (left words k st) vs (a words k) (pos 1)
-    unfolding residual suspended move isNil calledFor
-    emit-writes e =
-        rw (known words ok k h e .0, z)
-        (record {
-          live = record { some = refl; moving = refl };
-          process = refl;
-          values = refl;
-          line = λ seen at. refl;
-        })
+    done-moves t = rw (fields u .0, u .clear, own-set u 4, t) (record { some = refl; moving = refl }, refl)
 
     -- a loop's next round: its byte is set, and the bytes of its body are cleared
-    module _ (e : kind words k ≡ 4) (whole : length st ≡ size (processOf words k)) (zs : List ℕ)
-        (clear : zs ≡ replicate (length (take (length (set st 0 1) - 1) (drop 1 (set st 0 1)))) 0) where
+    abbrev count : ℕ
+    count = length (take (length (set st 0 1) - 1) (drop 1 (set st 0 1)))
+
+    long : length (set st 0 1) ≡ suc (size (one words k))
+    unfolding size
+    long = length-set st 0 1 ∙ u .node .whole ∙ ap size (fields u .0)
+
+    count-is : count ≡ size (one words k)
+    count-is =
+        length-take-le (length (set st 0 1) - 1) (drop 1 (set st 0 1)) (rw length-drop (omega arith)) ∙ omega (arith, long)
+
+    module _ (zs : List ℕ) (clear : zs ≡ replicate count 0) where
       abbrev cleared : List ℕ
       cleared = putMid 1 (length (set st 0 1) - 1) (set st 0 1) zs
 
-      long : length (set st 0 1) ≡ suc (size (one words k))
-      unfolding size
-      long = length-set st 0 1 ∙ whole ∙ ap size (known words ok k h e .0)
-
       zeros-long : length zs ≡ size (one words k)
-      zeros-long =
-          ap length clear
-          ∙ length-replicate _ 0
-          ∙ length-take-le (length (set st 0 1) - 1) (drop 1 (set st 0 1)) (rw length-drop (omega arith))
-          ∙ omega (arith, long)
+      zeros-long = ap length clear ∙ length-replicate _ 0 ∙ count-is
 
       pub cleared-long : length cleared ≡ length st
       cleared-long =
           length-put 1 (length (set st 0 1) - 1) (set st 0 1) zs (omega (arith, long)) (omega (arith, long, zeros-long))
           ∙ length-set st 0 1
 
-      abbrev count : ℕ
-      count = length (take (length (set st 0 1) - 1) (drop 1 (set st 0 1)))
-
       fresh-body : residual (one words k) (firstOf (one words k) cleared) ≡ (one words k)
       fresh-body =
           ap (residual (one words k))
           (first-put (size (one words k)) (length (set st 0 1)) long (set st 0 1) zs (omega arith) zeros-long ∙ clear)
-          ∙ zeros (one words k) count (omega (arith, zeros-long, ap length clear ∙ length-replicate count 0))
+          ∙ zeros (one words k) count (omega (arith, count-is))
 
       own-cleared : own cleared ≡ 1
-      own-cleared = own-put 1 (length (set st 0 1) - 1) (set st 0 1) zs (omega arith) (omega (arith, long)) ∙ own-set 1
+      own-cleared = own-put 1 (length (set st 0 1) - 1) (set st 0 1) zs (omega arith) (omega (arith, long)) ∙ own-set u 1
 
       pub round-moves : test (expressionOf words (a words k)) vs ≡ true → Silent (left words k st) vs (left words k cleared) vs
       unfolding residual suspended move isNil
       round-moves t =
-          rw (known words ok k h e .0, z, own-cleared, t, fresh-body) (record { some = refl; moving = refl }, refl)
+          rw (fields u .0, u .clear, own-cleared, t, fresh-body) (record { some = refl; moving = refl }, refl)
+
+-- what an assignment and an emission give their name
+module _ {words : List ℕ} {k : ℕ} {vs : List ℤ} {n : ℕ} (w : WriterAt words k vs n) where
+  pub writer-fields : {m : ℕ} → n ≡ m → KnownAt words k m
+  writer-fields e = known words (w .valued .runnable) k (w .known) (w .kind ∙ e)
+
+  pub name-known : a words k < nameCount words
+  name-known = ⊎-elim (λ e. writer-fields {m = 1} e .1 .0) (λ e. writer-fields {m = 6} e .1) (w .writer)
+
+  pub assign-writes : n ≡ 1 → Written words k vs (value (expressionOf words (b words k)) vs)
+  unfolding residual suspended move isNil calledFor
+  assign-writes e st some z =
+      rw (writer-fields e .0, z)
+      (record { live = record { some = refl; moving = refl }; process = refl; values = refl; line = λ seen at. refl })
+
+  pub emit-writes : n ≡ 6 → Written words k vs (pos 1)
+  unfolding residual suspended move isNil calledFor
+  emit-writes e st some z =
+      rw (writer-fields e .0, z)
+      (record { live = record { some = refl; moving = refl }; process = refl; values = refl; line = λ seen at. refl })

@@ -1,7 +1,7 @@
 -- What the bytes of a node say of it: its form, and what is left of it by what is left of the part in front.
 use mathlib.Core.Path.{_≡_, refl, sym, ap, _∙_}
 use mathlib.Core.Bool.{true}
-use mathlib.Core.Logic.{_⊎_, inl, inr}
+use mathlib.Core.Logic.{_⊎_, inl, inr, ⊎-elim}
 use mathlib.Core.List.{List, [], _∷_, _++_, append-nil}
 use Prim.Native.Nat.{ℕ, zero, suc, _+_, _-_, _≤_, _<_}
 use native.Mathlib.Omega.{arith}
@@ -45,6 +45,13 @@ pub not-itself : {kind n : ℕ} → MovesItself kind → kind ≡ n → (n ≡ 0
 not-itself m e (inl q) = omega (arith, e, q, m .others (λ x. omega (arith, e, q, x)) (λ x. omega (arith, e, q, x)) (λ x. omega (arith, e, q, x)) (λ x. omega (arith, e, q, x)) (λ x. omega (arith, e, q, x)))
 not-itself m e (inr (inl q)) = omega (arith, e, q, m .others (λ x. omega (arith, e, q, x)) (λ x. omega (arith, e, q, x)) (λ x. omega (arith, e, q, x)) (λ x. omega (arith, e, q, x)) (λ x. omega (arith, e, q, x)))
 not-itself m e (inr (inr q)) = omega (arith, e, q, m .others (λ x. omega (arith, e, q, x)) (λ x. omega (arith, e, q, x)) (λ x. omega (arith, e, q, x)) (λ x. omega (arith, e, q, x)) (λ x. omega (arith, e, q, x)))
+
+-- the forms of a part alone, and of a parallel
+pub alone-within : {n : ℕ} → (n ≡ first) ⊎ (n ≡ second) → (itself < n) × (n < before)
+alone-within = ⊎-elim (λ e. (omega arith, omega arith)) (λ e. (omega arith, omega arith))
+
+pub beside-above : {n : ℕ} → (n ≡ beside) ⊎ (n ≡ turned) → guarded < n
+beside-above = ⊎-elim (λ e. omega arith) (λ e. omega arith)
 
 -- node k with the bytes st, form by form
 pub data Sight (words : List ℕ) (k : ℕ) (st : List ℕ) (f : Front) : Type 0 where

@@ -4,24 +4,27 @@ use mathlib.Core.Bool.{Bool, true, false, cond, true≢false}
 use mathlib.Core.List.{List}
 use Prim.Native.Nat.{ℕ, zero, suc, _+_, _≤_, _<_}
 use native.Mathlib.Decide.{decLt}
-use native.Mathlib.Numerals.{add-one}
+use native.Mathlib.Nat.{add-zero, add-suc}
 use native.Mathlib.Omega.{arith}
 use lib.IntN.{ℤ, pos, negsuc}
 use lib.ListN.{length, List·getD-eq-default}
+use lib.Seq.{ext-getD}
 use Rattle.prelude.proofs.Bools.{and-second, by-cases}
 use Rattle.prelude.proofs.Searches.{none-of-any}
+use Rattle.prelude.proofs.Tables.{length-table, table-at}
 use Rattle.arithmetic.specs.Values.{holds}
-use Rattle.language.specs.Syntax.{Names}
+use Rattle.language.specs.Syntax.{Names, Proc}
 use Rattle.language.specs.Steps.{held, present, suspended, change, instantStart}
 use Rattle.program.specs.Program.{nodeCount, namesOf, processOf}
 use Rattle.program.specs.Runnable.{Runnable}
 use Rattle.program.proofs.Views.{NodeView, aNil, anAssign, aLet, anIf, aWhile, aSequence, anEmit, aLocal, aWatching, aWhen, aParallel, node-view}
 use Rattle.residual.specs.Residual.{residual}
 use Rattle.residual.proofs.Staying.{Still, residual-stays}
+use Rattle.moves.specs.declared.counts.Counts.{Counts}
 use Rattle.moves.specs.Moves.{Running}
+use Rattle.moves.specs.Contracts.{afterChanges, runningWith}
 use Rattle.runner.specs.Outcome.{outcome}
 use Rattle.instants.specs.Contracts.{isPresentSignal, someSignalPresent}
-use Rattle.instants.proofs.Clearing.{Renewed, renewed-none, renewed-kept, renewed-all}
 use Rattle.runner.proofs.Outcomes.{outcome-changes}
 
 zero-of : (z : ℤ) → holds z ≡ false → z ≡ pos 0
@@ -72,45 +75,21 @@ module _ (names : Names ℕ) (values : List ℤ) (none : someSignalPresent names
   same-at x =
       by-cases (λ z. held values x ≡ z) (names .isSignal x) (λ h. zero-of (held values x) (absent x h)) (λ h. refl)
 
-  same-below : (n : ℕ) → n ≤ length values → Renewed starts values n values
-  same-below zero h = renewed-none starts values
-  same-below (suc n) h =
-      rw (← add-one n) (renewed-kept starts values n values (omega arith) (same-below n (omega arith)) (same-at n))
-
   pub values-stay : instantStart names values ≡ values
   unfolding instantStart
   values-stay =
-      sym (renewed-all starts values (length values) values (omega arith) (same-below (length values) (omega arith)))
+      ext-getD (pos 0) _ _ (length-table starts (length values))
+      (λ x h. table-at starts (length values) x (pos 0) (rw (length-table starts (length values)) at h) ∙ sym (same-at x))
 
--- to the end of the run
+-- however many instant changes are made
 pub outcome-idle :
-    (names : Names ℕ) (seen : ℕ → Bool) (limit room : ℕ) (n : ℕ) (at : Running ℕ) (instants : ℕ) →
-    suspended (at .process) (at .values) ≡ true → change (at .process) (at .values) ≡ at .process →
-    instantStart names (at .values) ≡ at .values → at .steps + n ≡ limit → at .instants + n ≡ instants →
-    outcome names seen limit room at
-    ≡ outcome names seen limit room
-    (record {
-      process = at .process;
-      values = at .values;
-      log = at .log;
-      steps = limit;
-      instants = instants;
-      lines = at .lines;
-    })
-outcome-idle names seen limit room zero at instants w p v t i =
-    let e : at .steps ≡ limit = omega (arith, t) in
-    let f : at .instants ≡ instants = omega (arith, i) in
-    rw (← e, ← f)
-outcome-idle names seen limit room (suc n) at instants w p v t i =
-    sym (outcome-changes names seen limit room at w (omega (arith, t)))
-    ∙ rw (p, v)
-    (outcome-idle names seen limit room n
-    (record {
-      process = at .process;
-      values = at .values;
-      log = at .log;
-      steps = suc (at .steps);
-      instants = suc (at .instants);
-      lines = at .lines;
-    })
-    instants w p v (omega (arith, t)) (omega (arith, i)))
+    (names : Names ℕ) (seen : ℕ → Bool) (limit room : ℕ) {p : Proc ℕ} {s : List ℤ} (log : List ℕ) (at : Counts) →
+    suspended p s ≡ true → change p s ≡ p → instantStart names s ≡ s → (n : ℕ) → at .steps + n ≤ limit →
+    outcome names seen limit room (runningWith p s log (afterChanges at n))
+    ≡ outcome names seen limit room (runningWith p s log at)
+outcome-idle names seen limit room log at w p v zero t = rw (add-zero (at .steps), add-zero (at .instants))
+outcome-idle names seen limit room log at w p v (suc n) t =
+    let here : Running ℕ = runningWith _ _ log (afterChanges at n) in
+    rw (add-suc (at .steps) n, add-suc (at .instants) n)
+    (rw (p, v) at (outcome-changes names seen limit room here w (omega (arith, t)))
+    ∙ outcome-idle names seen limit room log at w p v n (omega (arith, t)))

@@ -7,11 +7,10 @@ use mathlib.Core.List.{List, [], _∷_, _++_}
 use Prim.Native.Nat.{ℕ, zero, suc, _+_, _-_, _*_, _≤_, _<_}
 use native.Mathlib.Nat.{add-zero}
 use native.Mathlib.Omega.{arith}
-use lib.IntN.{ℤ}
 use lib.ListN.{length, drop, length-append}
 use lib.Seq.{sets, sets-eq}
 use borrow.Author.Tests.{ltb-true, ltb-false}
-use Rattle.language.specs.Syntax.{Names, Proc, isNil}
+use Rattle.language.specs.Syntax.{Names, isNil}
 use Rattle.language.specs.Steps.{Outcome as Left, leaves, suspended, move, change, instantStart, step}
 use Rattle.language.specs.Calls.{Line, Ending, finished, spent, logFull, Stop, calledFor, halts, noted, reach}
 use Rattle.moves.specs.Moves.{Running, system, putLine, logAfter, linesAfter, hasRoom, nextLine, moved, changed, Live, Path, stays, moves}
@@ -31,14 +30,7 @@ module _ {L : Type 0} where
       let k : room - n ≡ suc (room - suc n) = omega (arith, ltb-true n room h) in
       let r : Stop L = go (room - suc n) in
       let e : suc n + length (r .lines) ≡ n + suc (length (r .lines)) = omega arith in
-      rw k (ap (λ m. stopped (r .ending) (record {
-        process = r .at .process;
-        values = r .at .values;
-        log = written (r .lines) (suc n) (putLine l n log);
-        steps = r .at .steps;
-        instants = r .at .instants;
-        lines = m;
-      })) e)
+      rw (k, e)
 
   noted-full :
       (room : ℕ) (c : Option Line) (n : ℕ) (go : ℕ → Stop L) (full : Stop L) → hasRoom room c n ≡ false →
@@ -47,16 +39,6 @@ module _ {L : Type 0} where
   noted-full room none n go full h = absurd (true≢false h)
   noted-full room (some l) n go full h =
       let k : room - n ≡ 0 = omega (arith, ltb-false n room h) in rw k
-
--- the two kinds of step
-module _ {L : Type 0} (names : Names L) (p : Proc L) (s : List ℤ) where
-  step-moves : suspended p s ≡ false → step names p s ≡ move p s
-  unfolding step
-  step-moves h = rw h
-
-  step-changes : suspended p s ≡ true → step names p s ≡ leaves (change p s) (instantStart names s)
-  unfolding step
-  step-changes h = rw h
 
 module _ {L : Type 0} (names : Names L) (seen : ℕ → Bool) (limit room : ℕ) (at : Running L) where
   abbrev out : Running L → Outcome L
@@ -68,16 +50,7 @@ module _ {L : Type 0} (names : Names L) (seen : ℕ → Bool) (limit room : ℕ)
 
   stops-here : (how : Ending) → rest ≡ halts how (system at) → out at ≡ stopped how at
   unfolding outcome written
-  stops-here how e =
-      ap (recorded (at .lines) (at .log)) e
-      ∙ ap (λ n. stopped how (record {
-        process = at .process;
-        values = at .values;
-        log = at .log;
-        steps = at .steps;
-        instants = at .instants;
-        lines = n;
-      })) (add-zero (at .lines))
+  stops-here how e = rw (e, add-zero (at .lines))
 
   pub outcome-finished : isNil (at .process) ≡ true → out at ≡ stopped finished at
   unfolding reach
@@ -115,21 +88,20 @@ module _ {L : Type 0} (names : Names L) (seen : ℕ → Bool) (limit room : ℕ)
         noted (calledFor seen (system at) (r .output)) (room - at .lines) (after r b) (halts logFull (system at))
 
     rest-goes :
-        isNil (at .process) ≡ false →
-        rest ≡ goes (step names (at .process) (at .values)) (suspended (at .process) (at .values))
+        {r : Left L} {b : Bool} → isNil (at .process) ≡ false → step names (at .process) (at .values) ≡ r →
+        suspended (at .process) (at .values) ≡ b → rest ≡ goes r b
     unfolding reach
-    rest-goes h = rw (one-more, h)
+    rest-goes h e w = rw (one-more, h) (ap₂ goes e w)
 
     rest-moves : Live (at .process) (at .values) → rest ≡ goes (move (at .process) (at .values)) false
-    rest-moves l =
-        rest-goes (l .some) ∙ ap₂ goes (step-moves names (at .process) (at .values) (l .moving)) (l .moving)
+    unfolding step
+    rest-moves l = rest-goes (l .some) (rw (l .moving)) (l .moving)
 
     rest-changes :
         suspended (at .process) (at .values) ≡ true →
         rest ≡ goes (leaves (change (at .process) (at .values)) (instantStart names (at .values))) true
-    rest-changes w =
-        rest-goes (waits-some (at .process) (at .values) w)
-        ∙ ap₂ goes (step-changes names (at .process) (at .values) w) w
+    unfolding step
+    rest-changes w = rest-goes (waits-some (at .process) (at .values) w) (rw w) w
 
   pub outcome-full :
       Live (at .process) (at .values) → at .steps < limit → hasRoom room (nextLine seen at) (at .lines) ≡ false →
@@ -179,19 +151,7 @@ outcome-onward names seen limit limit′ room at h k =
     let d : room - at .lines - length (r .lines) ≡ room - (at .lines + length (r .lines)) = omega arith in
     ap (recorded (at .lines) (at .log))
     (reach-onward names seen (limit - at .steps) limit′ (room - at .lines) (system at) (omega (arith, h, k)))
-    ∙ (λ i.
-    stopped (q .ending)
-    (record {
-      process = q .at .process;
-      values = q .at .values;
-      log = sym (written-both (r .lines) (q .lines) (at .lines) (at .log)) i;
-      steps = q .at .steps;
-      instants = q .at .instants;
-      lines = (ap (λ m. at .lines + m) (length-append (r .lines) (q .lines)) ∙ e) i;
-    }))
-    ∙ ap
-    (λ m. recorded (at .lines + length (r .lines)) (written (r .lines) (at .lines) (at .log)) (reach names seen (limit′ - r .at .steps) m (r .at)))
-    d
+    ∙ rw (← written-both (r .lines) (q .lines) (at .lines) (at .log), length-append (r .lines) (q .lines), e, d)
 
 -- the stores of `written`, word by word
 written-sets : (ls : List Line) (n : ℕ) (log : List ℕ) → written ls n log ≡ sets log (4 * n) (words ls)

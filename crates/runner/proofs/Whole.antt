@@ -2,7 +2,7 @@
 use mathlib.Core.Path.{_≡_, refl, sym, ap, _∙_, subst}
 use mathlib.Core.Bool.{true, false, false≢true}
 use mathlib.Core.List.{List}
-use Prim.Native.Nat.{ℕ, _+_, _-_, _/_, _<_}
+use Prim.Native.Nat.{ℕ, _+_, _-_, _/_, _≤_, _<_}
 use native.Mathlib.Omega.{arith}
 use lib.IntN.{ℤ}
 use lib.ListN.{length}
@@ -16,7 +16,7 @@ use Rattle.moves.specs.declared.counts.Rested.{Rested}
 use Rattle.moves.specs.Moves.{Running, changed, Stops, Ends}
 use Rattle.moves.specs.Contracts.{afterChanges}
 use Rattle.moves.proofs.Framing.{waits-some}
-use Rattle.moves.proofs.Advancing.{counted-on}
+use Rattle.moves.proofs.Advancing.{counted-on, can-on}
 use Rattle.runner.specs.declared.Ran.{Ran}
 use Rattle.runner.specs.Outcome.{Outcome, stopped}
 use Rattle.runner.specs.Contracts.{root, scriptAt, CanRun, InstantMade, endingBy, endingOf, isSuspended, endingNumber, outcomeOf, Runs}
@@ -56,15 +56,9 @@ module _ (words : List ℕ) (limit : ℕ) (begun : Running ℕ) where
           length st′ ≡ length st → length values′ ≡ length values → length log′ ≡ length log →
           Comes st′ values′ log′ (r .at)
       comes-on b v l =
-          let c = u .can in
           record {
             same = outcome-moves (namesOf words) (here .path) ∙ u .same;
-            can =
-                record {
-                  valued = record { runnable = c .valued .runnable; named = v ∙ c .valued .named };
-                  node = record { known = c .node .known; whole = b ∙ c .node .whole };
-                  counted = counted-on (i .path) (c .counted) l;
-                };
+            can = can-on (u .can) b v (counted-on (i .path) (u .can .counted) refl l);
             logged = l ∙ u .logged;
           }
 
@@ -89,17 +83,13 @@ module _ (words : List ℕ) (limit : ℕ) (begun : Running ℕ) where
               ∙ outcome-changes (namesOf words) (seenBy words) limit room (scriptAt words st values log at) w l
               ∙ u .same;
           can =
-              record {
-                valued = record { runnable = c .valued .runnable; named = v ∙ c .valued .named };
-                node = record { known = c .node .known; whole = b ∙ c .node .whole };
-                counted =
-                    record {
-                      time = omega (arith, steps, l);
-                      most = c .counted .most;
-                      instants = omega (arith, steps, instants, c .counted .instants);
-                      space = omega (arith, lines, c .counted .space);
-                    };
-              };
+              can-on c b v
+              (record {
+                time = omega (arith, steps, l);
+                most = c .counted .most;
+                instants = omega (arith, steps, instants, c .counted .instants);
+                space = omega (arith, lines, c .counted .space);
+              });
           logged = u .logged;
         }
 
@@ -109,28 +99,21 @@ module _ (words : List ℕ) (limit : ℕ) (begun : Running ℕ) where
         someSignalPresent (namesOf words) values ≡ false → Comes st values log (afterChanges at (limit - at .steps))
     comes-idle w none =
         let c = u .can in
-        let s : limit ≡ at .steps + (limit - at .steps) = omega (arith, c .counted .time) in
+        let s : at .steps + (limit - at .steps) ≤ limit = omega (arith, c .counted .time) in
         record {
           same =
-              ap (λ n. outcomeOf words limit room (scriptAt words st values log (record { steps = n; instants = at .instants + (limit - at .steps); lines = at .lines }))) (sym s)
-              ∙ sym
-              (outcome-idle (namesOf words) (seenBy words) limit room (limit - at .steps) (scriptAt words st values log at)
-              (at .instants + (limit - at .steps)) w
+              outcome-idle (namesOf words) (seenBy words) limit room log at w
               (idle-stays (namesOf words) values none words (c .valued .runnable) (λ x. refl) (root words) (c .node .known) st)
-              (values-stay (namesOf words) values none) (sym s) refl)
+              (values-stay (namesOf words) values none) (limit - at .steps) s
               ∙ u .same;
           can =
-              record {
-                valued = c .valued;
-                node = c .node;
-                counted =
-                    record {
-                      time = omega (arith, s);
-                      most = c .counted .most;
-                      instants = omega (arith, c .counted .instants);
-                      space = c .counted .space;
-                    };
-              };
+              can-on c refl refl
+              (record {
+                time = s;
+                most = c .counted .most;
+                instants = omega (arith, c .counted .instants);
+                space = c .counted .space;
+              });
           logged = u .logged;
         }
 

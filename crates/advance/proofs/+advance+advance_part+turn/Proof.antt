@@ -1,28 +1,27 @@
 -- `advance`, `turn` and `advance_part`: by what comes next at the node. The node's number falls, or, from turn to turn, the
 -- steps that are left.
-use mathlib.Core.Path.{_≡_, refl, _∙_, subst}
+use mathlib.Core.Path.{_≡_, refl, sym, _∙_, subst}
 use mathlib.Core.Bool.{cond}
-use Prim.Native.Nat.{ℕ, _+_, _-_, _*_, _/_, _≤_, _<_}
+use Prim.Native.Nat.{ℕ, _+_, _-_, _*_, _≤_, _<_}
 use native.Mathlib.Omega.{arith}
 use denote.Ref.{now}
-use borrow.Rule.Slice.PartMut.{midOf, putMid, put-same}
+use borrow.Rule.Slice.PartMut.{midOf, put-same}
 use lib.ListN.{length}
 use borrow.Fn.Kinds.{In}
 use borrow.Fn.PlainCycle.{Measures, is, falls, and}
 use borrow.Author.Needs.{needs, fits-under}
-use Rattle.program.specs.Program.{seenBy}
 use Rattle.residual.proofs.Sights.{part-length}
 use Rattle.moves.specs.declared.counts.Moved.the-variants as moved
-use Rattle.moves.specs.Moves.{Running, stays, Comes}
-use Rattle.moves.specs.Contracts.{Counted, nodeAt}
-use Rattle.moves.proofs.Advancing.{path-time, counted-on, comes-on}
-use Rattle.moves.specs.declared.counts.Counts.{Counts}
+use Rattle.moves.specs.Moves.{stays}
+use Rattle.moves.specs.Contracts.{nodeAt}
+use Rattle.moves.proofs.Framing.{joined}
+use Rattle.moves.proofs.Advancing.{path-time}
 use Rattle.moves.specs.declared.counts.Moved.{Moved}
 use Rattle.advance.specs.declared.Turned.{Turned}
 use Rattle.advance.specs.declared.Turned.the-variants as turned
 use Rattle.advance.specs.Contracts.{Follows, TurnMade}
-use Rattle.advance.proofs.Turning.{reached, begins, valued, in-room}
-use Rattle.advance.proofs.Places.{Placed, itself-placed, long, bytes-kept, comes-there, part-falls, part-placed, Here, here-on, here-inside}
+use Rattle.advance.proofs.Turning.{reached}
+use Rattle.advance.proofs.Places.{Placed, itself-placed, long, bytes-kept, part-falls, part-placed, Here, Becomes, becomes, here-on, here-inside}
 use Rattle.advance.proofs.Nexts.{stands-ends, Way, way, within, at-part, moves-next, falls-by, bytes-long, part-came, node-came}
 use Rattle.advance.proofs.advance.Reads as advance
 use Rattle.advance.proofs.advance.Kinds as advance-kinds
@@ -69,7 +68,7 @@ turn-below t = and 4 turn-kinds.ps (falls 4 turn-kinds.ps _<_ μ-turn t) turn.Pr
 -- node k has made moves, and one of its parts stands in its place
 abbrev advance-Inv-loop : advance-lts.InvT-loop
 advance-Inv-loop program values₀ state₀ log₀ limit k at₀ node₀ start₀ end₀ values state log at node start end =
-    Here (seenBy program) limit (nodeAt program k state₀ values₀ log₀ at₀) state₀ program k state values log at node start end
+    Here limit (nodeAt program k state₀ values₀ log₀ at₀) program k state values log at node start end
 
 abbrev advance-μ-loop : advance-lts.MeasureT-loop
 advance-μ-loop program values₀ state₀ log₀ limit k at₀ node₀ start₀ end₀ values state log at node start end =
@@ -100,21 +99,12 @@ turn-is t c =
     TurnMade (now (a .program)) (a .limit) (u .node) (midOf (u .start) (u .end - u .start) (u .state)) (u .values) (u .log) (u .at)
     (r .last .1 .1 .0) (r .last .1 .0) (r .last .1 .1 .1 .0)
 
-abbrev node-then :
-    (t : ℕ) (c : advance-lts.After-turn (R t) (advance-at t) advance.Post advance-Inv-loop advance-μ-loop) → Counts → Running ℕ
-node-then t c =
-    let a = c .before .before .before .before .before .before .before .args in
-    let u = c .before .before .before .before .loop in
-    let r = c .turn in
-    nodeAt (now (a .program)) (a .k) (putMid (u .start) (u .end - u .start) (u .state) (r .last .1 .1 .0)) (r .last .1 .0) (r .last .1 .1 .1 .0)
-
 abbrev node-made :
     (t : ℕ) (c : advance-lts.After-turn (R t) (advance-at t) advance.Post advance-Inv-loop advance-μ-loop) → Moved → Type 0
 node-made t c =
-    let a = c .before .before .before .before .before .before .before .args in
-    let u = c .before .before .before .before .loop in
-    Comes (seenBy (now (a .program))) (a .limit) (length (u .log) / 4)
-    (nodeAt (now (a .program)) (a .k) (u .state) (u .values) (u .log) (u .at)) (node-then t c)
+    let r = c .turn in
+    Becomes (c .before .before .before .before .loop .inv) (r .last .1 .1 .0) (r .last .1 .0) (r .last .1 .1 .1 .0)
+    (turn-long t c)
 
 -- one of its own parts takes its place ..
 inside :
@@ -129,27 +119,26 @@ inside-placed :
     let f = c .r .given .0 .0 in
     Placed (now (a .program)) (a .k) (u .state) (f .child) (u .start + f .from) (u .start + f .to)
 inside-placed t c =
-    let u = c .before .before .before .before .before .before .before .before .before .before .before .loop .inv in part-placed (u .placed) (valued (u .come) (c .before .before .before .before .before .before .before .before .before .before .before .before .before .before .pre .1 .valued)) (inside t c .alone)
+    let u = c .before .before .before .before .before .before .before .before .before .before .before .loop .inv in
+    part-placed (u .placed) (u .can .valued) (inside t c .alone)
 
 few-bytes :
     (t : ℕ) (c : advance-lts.After-r (R t) (advance-at t) advance.Post advance-Inv-loop advance-μ-loop) →
     length (c .before .before .before .before .before .before .before .before .before .before .before .loop .state) ≤ 256
 few-bytes t c =
-    let start = c .before .before .before .before .before .before .before .before .before .before .before .before .before .before in
-    let at = start .pre .1 .node in
-    let ok = start .pre .1 .valued .runnable in
-    omega
-    (arith, c .before .before .before .before .before .before .before .before .before .before .before .loop .inv .come .bytes, at .whole, at .known, ok .nodes (start .args .k) (at .known) .small, ok .fewNodes)
+    let can = c .before .before .before .before .before .before .before .before .before .before .before .loop .inv .can in
+    let ok = can .valued .runnable in
+    omega (arith, can .node .whole, can .node .known, ok .nodes _ (can .node .known) .small, ok .fewNodes)
 
 -- .. or this has become of the node
 made :
     (t : ℕ) (c : advance-lts.After-r2 (R t) (advance-at t) advance.Post advance-Inv-loop advance-μ-loop) →
     node-made t (c .before .before .before .before .before .before .before) (c .r2 .given .0 .0)
 made t c =
-    let u = c .before .before .before .before .before .before .before .before .before .before .before .loop in
-    let r = c .before .before .before .before .before .before .before .turn in
-    comes-there (u .inv .placed) (r .last .1 .1 .0) (turn-long t (c .before .before .before .before .before .before .before)) _ _ _ (u .values) (u .log) (u .at) (r .last .1 .0)
-    (r .last .1 .1 .1 .0) (c .r2 .given .0 .0) (subst (turn-is t (c .before .before .before .before .before .before .before)) (c .r2 .given .1) (r .ensures))
+    let d = c .before .before .before .before .before .before .before in
+    let r = d .turn in
+    becomes (d .before .before .before .before .loop .inv) (r .last .1 .1 .0) (r .last .1 .0) (r .last .1 .1 .1 .0)
+    (turn-long t d) (c .r2 .given .0 .0) (subst (turn-is t d) (c .r2 .given .1) (r .ensures))
 
 -- it may go on
 goes :
@@ -158,7 +147,9 @@ goes :
 goes t c = subst (node-made t (c .before .before .before .before .before .before .before .before .before .before)) (c .m .given .1) (made t (c .before .before .before))
 
 advance-loop-holds : (t : ℕ) → advance-lts.Need-loop-holds (R t) (advance-at t) advance.Post advance-Inv-loop advance-μ-loop
-advance-loop-holds t c = record { come = begins; placed = itself-placed _ _ _ (c .before .before .pre .1 .node) }
+advance-loop-holds t c =
+    let can = c .before .before .pre .1 in
+    record { path = stays; can = can; logged = refl; placed = itself-placed _ _ _ (can .node) }
 
 advance-sub-part : (t : ℕ) → advance-lts.Need-sub-part (R t) (advance-at t) advance.Post advance-Inv-loop advance-μ-loop
 advance-sub-part t c = c .loop .inv .placed .order
@@ -175,9 +166,9 @@ advance-turn-requires t c κs =
     let u = c .before .before .before .loop .inv in (
       omega (arith, pre .0, u .placed .earlier),
       record {
-        valued = valued (u .come) (pre .1 .valued);
+        valued = u .can .valued;
         node = u .placed .at;
-        counted = counted-on (u .come .path) (pre .1 .counted) (u .come .logged);
+        counted = u .can .counted;
       },
     )
 
@@ -194,14 +185,14 @@ advance-add-start t c =
 advance-loop-less : (t : ℕ) → advance-lts.Need-loop-less (R t) (advance-at t) advance.Post advance-Inv-loop advance-μ-loop
 advance-loop-less t c =
     let u = c .before .before .before .before .before .before .before .before .before .before .before .before .before .before .loop .inv in
-    omega (arith, part-falls (u .placed) (valued (u .come) (c .before .before .before .before .before .before .before .before .before .before .before .before .before .before .before .before .before .pre .1 .valued)) (inside t (c .before .before .before) .alone))
+    omega (arith, part-falls (u .placed) (u .can .valued) (inside t (c .before .before .before) .alone))
 
 advance-loop-again : (t : ℕ) → advance-lts.Need-loop-again (R t) (advance-at t) advance.Post advance-Inv-loop advance-μ-loop
 advance-loop-again t c =
     let u = c .before .before .before .before .before .before .before .before .before .before .before .before .before .before .loop in
     let same = inside t (c .before .before .before) in
     rw (same .sameBytes, put-same (u .start) (u .end - u .start) (u .state), same .sameValues, same .sameLog)
-    (here-inside (u .inv) (valued (u .inv .come) (c .before .before .before .before .before .before .before .before .before .before .before .before .before .before .before .before .before .pre .1 .valued)) (same .alone))
+    (here-inside (u .inv) (same .alone))
 
 advance-enum-known-r-2 : (t : ℕ) → advance-lts.Need-enum-known-r-2 (R t) (advance-at t) advance.Post advance-Inv-loop advance-μ-loop
 advance-enum-known-r-2 t c = search needs
@@ -212,36 +203,44 @@ advance-enum-known-m t c = search needs
 advance-loop-less-2 : (t : ℕ) → advance-lts.Need-loop-less-2 (R t) (advance-at t) advance.Post advance-Inv-loop advance-μ-loop
 advance-loop-less-2 t c =
     let g = goes t (c .before) in
-    let u = c .before .before .before .before .before .before .before .before .before .before .before .before .before .before .before .loop .inv .come in
-    let counted : Counted (c .before .before .before .before .before .before .before .before .before .before .before .before .before .before .before .before .before .before .args .limit) (c .before .before .before .before .before .before .before .before .before .before .before .before .before .before .before .loop .log) (c .before .before .before .before .before .before .before .before .before .before .before .before .before .before .before .loop .at) = counted-on (u .path) (c .before .before .before .before .before .before .before .before .before .before .before .before .before .before .before .before .before .before .pre .1 .counted) (u .logged) in
-    omega (arith, g .some, path-time (g .path) (counted .time))
+    let d = c .before .before .before .before .before .before .before .before .before .before .before in
+    omega (arith, g .some, path-time (g .path) (d .before .before .before .before .loop .inv .can .counted .time))
 
 advance-loop-again-2 : (t : ℕ) → advance-lts.Need-loop-again-2 (R t) (advance-at t) advance.Post advance-Inv-loop advance-μ-loop
 advance-loop-again-2 t c =
-    let r = c .before .before .before .before .before .before .before .before .before .before .before .turn in
-    here-on (c .before .before .before .before .before .before .before .before .before .before .before .before .before .before .before .loop .inv) (r .last .1 .1 .0) (turn-long t (c .before .before .before .before .before .before .before .before .before .before .before)) (goes t (c .before) .path) (r .kept .1 .0) (r .kept .1 .1 .1 .0)
+    let d = c .before .before .before .before .before .before .before .before .before .before .before in
+    let r = d .turn in
+    here-on (d .before .before .before .before .loop .inv) (r .last .1 .1 .0) (r .last .1 .0) (r .last .1 .1 .1 .0)
+    (turn-long t d) (goes t (c .before)) (r .kept .1 .0) (r .kept .1 .1 .1 .0)
 
 advance-enum-known-m-2 : (t : ℕ) → advance-lts.Need-enum-known-m-2 (R t) (advance-at t) advance.Post advance-Inv-loop advance-μ-loop
 advance-enum-known-m-2 t c = search needs
 
 advance-same-length : (t : ℕ) → advance-lts.Need-same-length (R t) (advance-at t) advance.Post advance-Inv-loop advance-μ-loop
-advance-same-length t c = c .before .before .before .before .before .before .before .before .before .before .before .turn .kept .1 .0 ∙ c .before .before .before .before .before .before .before .before .before .before .before .before .before .before .before .loop .inv .come .named
+advance-same-length t c =
+    let d = c .before .before .before .before .before .before .before .before .before .before .before in
+    d .turn .kept .1 .0
+    ∙ d .before .before .before .before .loop .inv .can .valued .named
+    ∙ sym (d .before .before .before .before .before .before .before .pre .1 .valued .named)
 
 advance-same-length-2 : (t : ℕ) → advance-lts.Need-same-length-2 (R t) (advance-at t) advance.Post advance-Inv-loop advance-μ-loop
-advance-same-length-2 t c = bytes-kept (c .before .before .before .before .before .before .before .before .before .before .before .before .before .before .before .loop .inv .placed) (c .before .before .before .before .before .before .before .before .before .before .before .turn .last .1 .1 .0) (turn-long t (c .before .before .before .before .before .before .before .before .before .before .before)) ∙ c .before .before .before .before .before .before .before .before .before .before .before .before .before .before .before .loop .inv .come .bytes
+advance-same-length-2 t c =
+    let d = c .before .before .before .before .before .before .before .before .before .before .before in
+    let u = d .before .before .before .before .loop .inv in
+    bytes-kept (u .placed) (d .turn .last .1 .1 .0) (turn-long t d)
+    ∙ u .can .node .whole
+    ∙ sym (d .before .before .before .before .before .before .before .pre .1 .node .whole)
 
 advance-same-length-3 : (t : ℕ) → advance-lts.Need-same-length-3 (R t) (advance-at t) advance.Post advance-Inv-loop advance-μ-loop
-advance-same-length-3 t c = c .before .before .before .before .before .before .before .before .before .before .before .turn .kept .1 .1 .1 .0 ∙ c .before .before .before .before .before .before .before .before .before .before .before .before .before .before .before .loop .inv .come .logged
+advance-same-length-3 t c =
+    let d = c .before .before .before .before .before .before .before .before .before .before .before in
+    d .turn .kept .1 .1 .1 .0 ∙ d .before .before .before .before .loop .inv .logged
 
 advance-returns : (t : ℕ) → advance-lts.Need-returns (R t) (advance-at t) advance.Post advance-Inv-loop advance-μ-loop
 advance-returns t c =
-    let a = c .before .before .before .before .before .before .before .before .before .before .before .before .before .before .before .before .before .before .args in
-    let come = c .before .before .before .before .before .before .before .before .before .before .before .before .before .before .before .loop .inv .come in
-    subst
-    (Comes (seenBy (now (a .program))) (a .limit) (length (now (a .log)) / 4)
-    (nodeAt (now (a .program)) (a .k) (now (a .state)) (now (a .values)) (now (a .log)) (a .from)) (node-then t (c .before .before .before .before .before .before .before .before .before .before .before)))
-    (c .before .m2 .given .1)
-    (comes-on (node-then t (c .before .before .before .before .before .before .before .before .before .before .before)) (c .before .before .before .before .r2 .given .0 .0) (come .path) (in-room come (node-then t (c .before .before .before .before .before .before .before .before .before .before .before)) (c .before .before .before .before .r2 .given .0 .0) (made t (c .before .before .before .before))))
+    let d = c .before .before .before .before .before .before .before .before .before .before .before in
+    let r = subst (node-made t d) (c .before .m2 .given .1) (made t (c .before .before .before .before)) in
+    record { path = joined (d .before .before .before .before .loop .inv .path) (r .path); ends = r .ends }
 
 advance-part-move-own-requires : (t : ℕ) → advance-part-lts.Need-move-own-requires (Q t) (advance-part-at t) advance-part.Post
 advance-part-move-own-requires t c κs =

@@ -1,23 +1,11 @@
 -- `move_if`: the node's byte says which branch is left.
-use mathlib.Core.Path.{_≡_, sym, ap, _∙_}
+use mathlib.Core.Path.{sym, _∙_}
 use native.Mathlib.Omega.{arith}
-use Rattle.language.specs.Steps.{test}
-use Rattle.program.specs.Program.{aAt, expressionOf}
 use Rattle.residual.proofs.Residuals.{some-bytes}
-use Rattle.moves.proofs.OwnMoves.{known, then-moves, else-moves}
+use Rattle.moves.proofs.OwnMoves.{fields, then-moves, else-moves}
 use borrow.Author.Needs.{needs}
 use Rattle.moves.proofs.move_if.Statement.{statement}
 use Rattle.moves.proofs.move_if.Tie as tie
-
--- the test that was made
-tested :
-    (c : tie.After-test-holds) →
-    let start = c .before .before .before in
-    c .test-holds .result
-    ≡ test (expressionOf (start .args .program .now) (aAt (start .args .program .now) (start .args .k))) (start .args .values .now)
-tested c =
-    let start = c .before .before .before in
-    c .test-holds .ensures ∙ ap (λ e. test (expressionOf (start .args .program .now) e) (start .args .values .now)) (c .before .a-at .ensures)
 
 a-at-requires : tie.Need-a-at-requires
 a-at-requires c κs = search needs
@@ -25,7 +13,7 @@ a-at-requires c κs = search needs
 test-holds-requires : tie.Need-test-holds-requires
 test-holds-requires c κs =
     let start = c .before .before in
-    record { valued = start .pre .valued; known = omega (arith, c .a-at .ensures, known (start .args .program .now) (start .pre .valued .runnable) (start .args .k) (start .pre .node .known) (start .pre .kind) .1) }
+    record { valued = start .pre .valued; known = omega (arith, c .a-at .ensures, fields (start .pre) .1) }
 
 slice-write-state : tie.Need-slice-write-state
 slice-write-state c =
@@ -43,8 +31,7 @@ same-length c = search needs
 returns : tie.Need-returns
 returns c =
     let start = c .before .before .before .before in
-    then-moves (start .args .program .now) (start .pre .valued .runnable) (start .args .k) (start .pre .node .known)
-    (start .args .state .now) (some-bytes (start .pre .node)) (start .pre .clear) (start .args .values .now) (start .pre .kind) (sym (tested (c .before)) ∙ c .if1 .taken)
+    then-moves (start .pre) (rw (c .before .before .a-at .ensures) at (sym (c .before .test-holds .ensures) ∙ c .if1 .taken))
 
 same-length-2 : tie.Need-same-length-2
 same-length-2 c = search needs
@@ -52,8 +39,7 @@ same-length-2 c = search needs
 returns-2 : tie.Need-returns-2
 returns-2 c =
     let start = c .before .before .before .before in
-    else-moves (start .args .program .now) (start .pre .valued .runnable) (start .args .k) (start .pre .node .known)
-    (start .args .state .now) (some-bytes (start .pre .node)) (start .pre .clear) (start .args .values .now) (start .pre .kind) (sym (tested (c .before)) ∙ c .if1 .left)
+    else-moves (start .pre) (rw (c .before .before .a-at .ensures) at (sym (c .before .test-holds .ensures) ∙ c .if1 .left))
 
 pub move-if-spec : {M : Type 1} → statement M
 move-if-spec =

@@ -3,7 +3,7 @@ use native.Mathlib.Omega.{arith}
 use mir.Syntax.{w32}
 use mir.Facts.{toZ-ofZ}
 use Rattle.residual.proofs.Residuals.{some-bytes}
-use Rattle.moves.proofs.OwnMoves.{known, let-moves}
+use Rattle.moves.proofs.OwnMoves.{fields, let-moves}
 use borrow.Author.Needs.{fits-under}
 use borrow.Author.Needs.{needs}
 use Rattle.moves.proofs.move_let.Statement.{statement}
@@ -20,18 +20,19 @@ value-of-requires c κs =
     let start = c .before .before .before .before in
     record {
       valued = start .pre .valued;
-      known = omega (arith, c .b-at .ensures, known (start .args .program .now) (start .pre .valued .runnable) (start .args .k) (start .pre .node .known) (start .pre .kind) .1 .1);
+      known = omega (arith, c .b-at .ensures, fields (start .pre) .1 .1);
     }
 
 mul-v : tie.Need-mul-v
 mul-v c =
     let start = c .before .before .before .before .before in
-    fits-under _ _ 512 (omega (arith, c .before .before .before .a-at .ensures, known (start .args .program .now) (start .pre .valued .runnable) (start .args .k) (start .pre .node .known) (start .pre .kind) .1 .0, start .pre .valued .runnable .fewNames)) tt
+    let few = start .pre .valued .runnable .fewNames in
+    fits-under _ _ 512 (omega (arith, c .before .before .before .a-at .ensures, fields (start .pre) .1 .0, few)) tt
 
 slice-set-from-v : tie.Need-slice-set-from-v
 slice-set-from-v c =
     let start = c .before .before .before .before .before in
-    omega (arith, c .before .before .before .a-at .ensures, known (start .args .program .now) (start .pre .valued .runnable) (start .args .k) (start .pre .node .known) (start .pre .kind) .1 .0, start .pre .valued .named)
+    omega (arith, c .before .before .before .a-at .ensures, fields (start .pre) .1 .0, start .pre .valued .named)
 
 slice-write-state : tie.Need-slice-write-state
 slice-write-state c =
@@ -48,8 +49,7 @@ returns : tie.Need-returns
 returns c =
     let start = c .before .before .before .before .before in
     rw (toZ-ofZ {w = w32} (record { sfits = c .value-of .ok }), c .value-of .ensures, c .before .b-at .ensures, c .before .before .before .a-at .ensures)
-    (let-moves (start .args .program .now) (start .pre .valued .runnable) (start .args .k) (start .pre .node .known)
-    (start .args .state .now) (some-bytes (start .pre .node)) (start .pre .clear) (start .args .values .now) (start .pre .kind))
+    (let-moves (start .pre))
 
 pub move-let-spec : {M : Type 1} → statement M
 move-let-spec =

@@ -1,6 +1,5 @@
 -- `move_own`: by the kind, if the limit is not reached.
 use mathlib.Core.Path.{_≡_, sym, ap, _∙_, subst}
-use mathlib.Core.Logic.{⊎-elim}
 use Prim.Native.Nat.{_/_, _<_}
 use native.Mathlib.Nat.{le-antisymm}
 use native.Mathlib.Omega.{arith}
@@ -8,14 +7,14 @@ use mir.Syntax.{w32}
 use mir.Facts.{toZ-ofZ}
 use lib.ListN.{length, set}
 use borrow.Author.Tests.{not-true, not-false}
-use Rattle.program.specs.Program.{nameCount, kindAt, aAt, processOf, seenBy}
+use Rattle.program.specs.Program.{nameCount, kindAt, processOf, seenBy}
 use Rattle.residual.specs.Residual.{own}
 use Rattle.residual.proofs.Residuals.{nil-at-four, some-bytes, own-set-at}
 use Rattle.residual.proofs.Sights.{MovesItself, sight}
-use Rattle.moves.specs.Contracts.{IsWriter, Writes, afterMove, lineOf, Notes, nodeAt}
+use Rattle.moves.specs.Contracts.{WriterAt, Writes, afterMove, lineOf, Notes, nodeAt}
 use Rattle.moves.specs.Moves.{stays}
 use Rattle.moves.proofs.Advancing.{goes-silently, stops-full, stops-written}
-use Rattle.moves.proofs.OwnMoves.{known, is-itself, writer-is, is-silent, itself-live}
+use Rattle.moves.proofs.OwnMoves.{is-itself, writer-is, is-silent, itself-live, name-known}
 use borrow.Author.Needs.{needs}
 use Rattle.moves.proofs.move_own.Statement.{statement}
 use Rattle.moves.proofs.move_own.Tie as tie
@@ -30,8 +29,18 @@ moves-itself c =
     (c .pre .form)
 
 -- it is an assignment or an emission
-writer : (c : tie.Then2) → IsWriter (c .before .before .kind-at .result)
-writer c = writer-is _ (sym (c .before .is-writer .ensures) ∙ c .if2 .taken)
+writer-at :
+    (c : tie.Then2) →
+    let a = c .before .before .before .before .before .before .before .args in
+    WriterAt (a .program .now) (a .k) (a .values .now) (c .before .before .kind-at .result)
+writer-at c =
+    let can = c .before .before .before .before .before .before .before .pre .can in
+    record {
+      valued = can .valued;
+      known = can .node .known;
+      kind = sym (c .before .before .kind-at .ensures);
+      writer = writer-is _ (sym (c .before .is-writer .ensures) ∙ c .if2 .taken);
+    }
 
 returns : tie.Need-returns
 returns c =
@@ -42,27 +51,14 @@ returns c =
       ends =
           record {
             live =
-                itself-live (start .args .program .now) (can .valued .runnable) (start .args .k) (can .node .known)
-                (start .args .state .now) (some-bytes (can .node)) (moves-itself start .0) (start .args .values .now)
-                (moves-itself start .1);
+                itself-live (can .valued) (can .node) (moves-itself start .0) (moves-itself start .1);
             time = le-antisymm (can .counted .time) (c .if1 .taken);
           };
     }
 
 -- its name has a value
-name-known :
-    (c : tie.Then2) → let start = c .before .before .before .before .before .before .before in aAt (start .args .program .now) (start .args .k) < nameCount (start .args .program .now)
-name-known c =
-    let start = c .before .before .before .before .before .before .before in
-    let a = start .args in
-    let can = start .pre .can in
-    ⊎-elim
-    (λ e. known (a .program .now) (can .valued .runnable) (a .k) (can .node .known) {n = 1} (sym (c .before .before .kind-at .ensures) ∙ e) .1 .0)
-    (λ e. known (a .program .now) (can .valued .runnable) (a .k) (can .node .known) {n = 6} (sym (c .before .before .kind-at .ensures) ∙ e) .1)
-    (writer c)
-
 name-few : (c : tie.After-a-at) → let start = c .before .before .before .before .before .before .before .before in c .a-at .result < nameCount (start .args .program .now)
-name-few c = omega (arith, c .a-at .ensures, name-known (c .before))
+name-few c = omega (arith, c .a-at .ensures, name-known (writer-at (c .before)))
 
 -- the value, as it was given
 writes :
@@ -83,14 +79,7 @@ a-at-requires : tie.Need-a-at-requires
 a-at-requires c κs = search needs
 
 written-requires : tie.Need-written-requires
-written-requires c κs =
-    let can = c .before .before .before .before .before .before .before .before .before .pre .can in
-    record {
-      valued = can .valued;
-      known = can .node .known;
-      kind = sym (c .before .before .before .before .kind-at .ensures);
-      writer = writer (c .before .before);
-    }
+written-requires c κs = writer-at (c .before .before)
 
 note-requires : tie.Need-note-requires
 note-requires c κs =

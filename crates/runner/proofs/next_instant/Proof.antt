@@ -1,9 +1,7 @@
 -- `next_instant`: the script's node changes, and one step more is counted.
-use mathlib.Core.Path.{sym, ap, _∙_, subst}
+use mathlib.Core.Path.{ap, _∙_}
 use native.Mathlib.Numerals.{add-one}
-use Rattle.language.specs.Steps.{change}
 use Rattle.moves.specs.declared.counts.Counts.{Counts}
-use Rattle.residual.specs.Nodes.{NodeIn, left}
 use borrow.Author.Needs.{needs}
 use Rattle.runner.proofs.next_instant.Statement.{statement}
 use Rattle.runner.proofs.next_instant.Tie as tie
@@ -13,8 +11,7 @@ root-of-requires c κs = search needs
 
 begin-instant-requires : tie.Need-begin-instant-requires
 begin-instant-requires c κs =
-    let a = c .before .before .before .before .args in
-    subst (λ k. NodeIn (a .program .now) k (a .state .now) (a .values .now)) (sym (c .before .before .root-of .ensures)) (c .before .before .before .before .pre .node)
+    rw (c .before .before .root-of .ensures) (c .before .before .before .before .pre .node)
 
 after-changes-requires : tie.Need-after-changes-requires
 after-changes-requires c κs = search needs
@@ -30,12 +27,10 @@ returns c =
     λ log.
     let a = c .before .before .before .before .before .before .before .before .before .args in
     let r = c .before .before .before .before .begin-instant in
+    let e = rw (c .before .before .before .before .before .before .before .root-of .ensures) at (r .ensures .process) in
     λ i.
     record {
-      process =
-          (ap (λ k. left (a .program .now) k (r .last .1 .1 .0)) (sym (c .before .before .before .before .before .before .before .root-of .ensures))
-          ∙ r .ensures .process
-          ∙ ap (λ k. change (left (a .program .now) k (a .state .now)) (a .values .now)) (c .before .before .before .before .before .before .before .root-of .ensures)) i;
+      process = e i;
       values = r .ensures .values i;
       log = log;
       steps = (ap (λ (x : Counts). x .steps) (c .after-changes .ensures) ∙ add-one (a .at .steps)) i;

@@ -1,7 +1,4 @@
 -- `run_instant`: the script's node is advanced.
-use mathlib.Core.Path.{sym, subst}
-use Rattle.moves.specs.Contracts.{CanMove}
-use Rattle.advance.specs.Contracts.{Advances}
 use borrow.Author.Needs.{needs}
 use Rattle.runner.proofs.run_instant.Statement.{statement}
 use Rattle.runner.proofs.run_instant.Tie as tie
@@ -11,8 +8,7 @@ root-of-requires c κs = search needs
 
 advance-requires : tie.Need-advance-requires
 advance-requires c κs =
-    let a = c .before .before .before .before .before .before .args in
-    subst (λ k. CanMove (a .program .now) k (a .state .now) (a .values .now) (a .log .now) (a .limit) (a .at)) (sym (c .before .before .before .root-of .ensures)) (c .before .before .before .before .before .before .pre)
+    rw (c .before .before .before .root-of .ensures) (c .before .before .before .before .before .before .pre)
 
 same-length : tie.Need-same-length
 same-length c = search needs
@@ -25,14 +21,8 @@ same-length-3 c = search needs
 
 returns : tie.Need-returns
 returns c =
-    let a = c .before .before .before .before .before .before .before .before .before .before .before .before .args in
-    let r = c .before .before .before .before .before .advance in
-    subst
-    (λ k.
-    Advances (a .program .now) (a .limit) k (a .state .now) (a .values .now) (a .log .now) (a .at) (r .last .1 .1 .0) (r .last .1 .0)
-    (r .last .1 .1 .1 .0) (r .result))
-    (c .before .before .before .before .before .before .before .before .before .root-of .ensures)
-    (r .ensures)
+    let d = c .before .before .before .before .before in
+    rw (d .before .before .before .before .root-of .ensures) at (d .advance .ensures)
 
 pub run-instant-spec : {M : Type 1} → statement M
 run-instant-spec =

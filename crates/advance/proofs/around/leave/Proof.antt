@@ -12,8 +12,7 @@ use Rattle.residual.proofs.Residuals.{some-bytes}
 use Rattle.instants.specs.Contracts.{RearWaits}
 use Rattle.instants.proofs.Deciding.{Found, sees, waiting-front}
 use Rattle.moves.specs.declared.counts.Moved.{Moved}
-use Rattle.residual.specs.Residual.{own}
-use Rattle.advance.specs.Contracts.{Byte, PartEnds, EndsWith, PartCame, PartRests, Settles, restsOn, LeftBy, Leaves}
+use Rattle.advance.specs.Contracts.{PartEnds, EndsWith, PartCame, PartRests, Settles, restsOn, LeftBy, Leaves}
 use Rattle.advance.proofs.Resting.{drops, trades, byte-bound, settles}
 use borrow.Author.Needs.{needs}
 use Rattle.advance.proofs.around.leave.Statement.{statement}
@@ -45,10 +44,7 @@ rear :
     (c : tie.After-rear-waits) {w : Bool} → c .rear-waits .result ≡ w →
     let a = c .before .before .before .before .before .before .before .before .before .args in
     RearWaits (now (a .program)) (a .k) (now (a .state)) (now (a .values)) (inFront (now (a .program)) (a .k) (now (a .state)) .form) w
-rear c {w} e =
-    let a = c .before .before .before .before .before .before .before .before .before .args in
-    subst (λ n. RearWaits (now (a .program)) (a .k) (now (a .state)) (now (a .values)) n w) (rested (c .before .before .before .before .before) .form-is)
-    (subst (RearWaits (now (a .program)) (a .k) (now (a .state)) (now (a .values)) (a .form)) e (c .rear-waits .ensures))
+rear c e = rw (← e, ← rested (c .before .before .before .before .before) .form-is) (c .rear-waits .ensures)
 
 -- what the node comes to is said of its part
 leaves :
@@ -88,7 +84,7 @@ byte-dropped-requires c κs =
     let start = c .before .before .before .before .before .before .before .before in
     let a = start .args in
     let d = (c .before .before .before .before) in
-    subst (λ n. Byte n (own (now (a .state)))) (sym (rested d .form-is))
+    rw (rested d .form-is)
     (byte-bound (now (a .program)) (a .k) (now (a .state)) _ (now (a .values)) (sees (found start)) (framed d))
 
 move-around-requires : tie.Need-move-around-requires
