@@ -9,7 +9,7 @@ use lib.ListN.{getD}
 use mir.Syntax.{w32}
 use mir.Val.{toZ}
 use Rattle.prelude.specs.Course.{entry}
-use Rattle.language.specs.Syntax.{Names, add, subtract, multiply, divide, less, equal, Exp, constant, register, binary, negated, Proc, nil}
+use Rattle.language.specs.Syntax.{Names, Operator, add, subtract, multiply, divide, less, equal, Exp, constant, register, binary, negated, Proc, nil}
 use Rattle.packing.specs.Packing.{kindIn, constantIn, operandIn, laterIn, aIn, bIn, firstIn, nodeKindIn, levelIn, signalIn, sessionIn, seenIn, namesIn, expressionsIn, nodesIn}
 use Rattle.program.specs.Rows.{Fields, rowOf}
 
@@ -82,6 +82,10 @@ module _ (words : List ℕ) where
   -- the names that the reader sees
   abbrev pub seenBy : ℕ → Bool
   seenBy x = seenIn (nameWord x)
+
+-- the operators of expressions, by their kinds
+abbrev pub operatorOf : ℕ → Operator
+operatorOf kind = getD (equal ∷ equal ∷ add ∷ subtract ∷ multiply ∷ divide ∷ less ∷ []) kind equal
 
 -- the expressions of the nine kinds, in the order of their numbers
 abbrev pub expressionsFrom : ℕ → (ℕ → Exp) → List Exp
