@@ -7,11 +7,11 @@ use native.Mathlib.Nat.{le-of-suc-le-suc, not-suc-le-zero, eq-or-lt-of-le}
 use native.Mathlib.Omega.{arith}
 
 -- P 0, .., P (n - 1), as pairs nested to the left
-abbrev pub Each : (ℕ → Type 0) → ℕ → Type 0
+abbrev Each : (ℕ → Type 0) → ℕ → Type 0
 Each P zero = Unit {0}
 Each P (suc n) = Each P n × P n
 
-pub each : (P : ℕ → Type 0) (n : ℕ) → Each P n → (k : ℕ) → k < n → P k
+each : (P : ℕ → Type 0) (n : ℕ) → Each P n → (k : ℕ) → k < n → P k
 each P zero t k h = absurd (not-suc-le-zero h)
 each P (suc n) t k h =
     ⊎-elim (λ e. subst P (sym e) (t .1)) (λ l. each P n (t .0) k l) (eq-or-lt-of-le (le-of-suc-le-suc h))
