@@ -4,7 +4,7 @@
 use mathlib.Core.Bool.{Bool}
 use mathlib.Core.List.{List, [], _∷_}
 use Prim.Native.Nat.{ℕ, _+_, _-_}
-use lib.IntN.{pos}
+use lib.IntN.{ℤ, pos}
 use lib.ListN.{getD}
 use mir.Syntax.{w32}
 use mir.Val.{toZ}
@@ -87,13 +87,13 @@ module _ (words : List ℕ) where
 abbrev pub operatorOf : ℕ → Operator
 operatorOf kind = getD (equal ∷ equal ∷ add ∷ subtract ∷ multiply ∷ divide ∷ less ∷ []) kind equal
 
--- the expressions of the nine kinds, in the order of their numbers
-abbrev pub expressionsFrom : ℕ → (ℕ → Exp) → List Exp
-expressionsFrom w operand =
-    let a : Exp = operand (operandIn w) in
-    let b : Exp = operand (laterIn w) in
-    constant (toZ w32 (constantIn w))
-    ∷ register (operandIn w)
+-- the expressions of the nine kinds, in the order of their numbers: of a value, and of a register or operands
+abbrev pub expressionsBy : ℤ → ℕ → ℕ → (ℕ → Exp) → List Exp
+expressionsBy v x y operand =
+    let a : Exp = operand x in
+    let b : Exp = operand y in
+    constant v
+    ∷ register x
     ∷ binary add a b
     ∷ binary subtract a b
     ∷ binary multiply a b
@@ -102,6 +102,10 @@ expressionsFrom w operand =
     ∷ binary equal a b
     ∷ negated a
     ∷ []
+
+-- those of a word
+abbrev pub expressionsFrom : ℕ → (ℕ → Exp) → List Exp
+expressionsFrom w = expressionsBy (toZ w32 (constantIn w)) (operandIn w) (laterIn w)
 
 abbrev pub noExpression : Exp
 noExpression = constant (pos 0)

@@ -3,7 +3,7 @@
 use mathlib.Core.Path.{_≡_, refl, sym, ap, ap₂, _∙_, subst}
 use mathlib.Core.Bool.{Bool, true, false, cond, _&&_, _||_}
 use mathlib.Core.List.{List}
-use Prim.Native.Nat.{ℕ, _+_, _*_, _<_}
+use Prim.Native.Nat.{ℕ, _+_, _*_, _≤_, _<_}
 use native.Mathlib.Omega.{arith}
 use lib.Dec.{eqb, ltb}
 use lib.ListN.{getD}
@@ -38,6 +38,14 @@ code multiply = 4
 code divide = 5
 code less = 6
 code equal = 7
+
+pub code-range : (o : Operator) → (2 ≤ code o) × (code o ≤ 7)
+code-range add = (omega arith, omega arith)
+code-range subtract = (omega arith, omega arith)
+code-range multiply = (omega arith, omega arith)
+code-range divide = (omega arith, omega arith)
+code-range less = (omega arith, omega arith)
+code-range equal = (omega arith, omega arith)
 
 module _ (s : List ℕ) where
   -- part q uses name x, which is of this kind and in reach
