@@ -15,7 +15,7 @@ use Rattle.tree.proofs.Views.{kind-below}
 use Rattle.tree.proofs.NodeSizes.{size-within}
 use Rattle.plan.proofs.Reading.{node-read}
 use Rattle.plan.proofs.Watching.{watches-told}
-use Rattle.packing.proofs.Words.{mark-fits}
+use Rattle.packing.proofs.Words.{bit-small}
 use Rattle.plan.proofs.Plans.{forms-fit, node-packed}
 use borrow.Author.Needs.{needs}
 use Rattle.plan.proofs.node_word.Statement.{statement}
@@ -81,13 +81,14 @@ forms-of-requires : tie.Need-forms-of-requires
 forms-of-requires c κs = kind (c .before .before .before .before .before .before .before .before)
 
 pack-node-requires : tie.Need-pack-node-requires
-pack-node-requires c κs = (
-  rw (c .forms-of .ensures) (forms-fit _ (kind (c .before .before .before .before .before .before .before .before .before))),
-  (
-    omega (arith, c .before .before .before .pack-fields .ensures),
-    rw (c .before .mark .ensures) (mark-fits _ (omega (arith, kind (c .before .before .before .before .before .before .before .before .before))) (c .before .before .has-watching .result)),
-  ),
-)
+pack-node-requires c κs =
+    let known = kind (c .before .before .before .before .before .before .before .before .before) in (
+      rw (c .forms-of .ensures) (forms-fit _ known),
+      (
+        omega (arith, c .before .before .before .pack-fields .ensures),
+        omega (arith, c .before .mark .ensures, bit-small (c .before .before .has-watching .result), known),
+      ),
+    )
 
 -- the mark, by the words of the nodes before
 marks :
