@@ -6,6 +6,7 @@ use Prim.Native.Nat.{_-_, _≤_}
 use native.Mathlib.Omega.{arith}
 use borrow.Author.Count.{below-none, below-more}
 use Rattle.prelude.proofs.Searches.{NoneBelow, past, any-some, any-none}
+use Rattle.language.specs.Steps.{present}
 use Rattle.program.specs.Program.{namesOf}
 use Rattle.instants.specs.Contracts.{isPresentSignal}
 use borrow.Author.Needs.{needs}
@@ -30,8 +31,8 @@ is-present-requires c κs = search needs
 returns : tie.Need-returns Inv-loop μ-loop
 returns c =
     let signal = sym (c .before .before .before .is-signal .ensures) ∙ c .before .before .if1 .taken in
-    let present = sym (c .before .is-present .ensures) ∙ c .if2 .taken in
-    sym (any-some _ _ _ (c .before .before .before .before .loop-test .taken) (ap₂ (λ a b. a && b) signal present))
+    let shown = sym (c .before .is-present .ensures) ∙ c .if2 .taken in
+    sym (any-some _ _ _ (c .before .before .before .before .loop-test .taken) (ap₂ (λ a b. a && b) signal shown))
 
 add-x : tie.Need-add-x Inv-loop μ-loop
 add-x c = search needs
@@ -41,12 +42,13 @@ loop-less c = search needs
 
 loop-again : tie.Need-loop-again Inv-loop μ-loop
 loop-again c =
-    let signal = sym (c .before .is-signal .ensures) in (
+    let signal = sym (c .before .is-signal .ensures) in
+    let turn = c .before .before .before in (
       search needs,
-      below-more _ _ (c .before .before .before .loop .inv .1)
+      below-more _ _ (turn .loop .inv .1)
           (⊎-elim
           (λ w. ap₂ (λ a b. a && b) (signal ∙ w .0 .taken) (sym (w .1 .ensures) ∙ w .2 .left))
-          (λ w. ap (λ b. b && _) (signal ∙ w .left))
+          (λ w. ap (λ b. b && present (turn .before .args .values .now) (turn .loop .x)) (signal ∙ w .left))
           (c .if1 .came)),
     )
 
