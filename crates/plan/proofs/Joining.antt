@@ -21,7 +21,7 @@ use Rattle.layout.proofs.Layouts.{few-bounds, names-are, expressions-are, nodes
 use Rattle.fields.specs.Fields.{firstChild, secondChild}
 use Rattle.reach.specs.Checked.{Checked}
 use Rattle.tree.specs.Tree.{expressionsFrom, noExpression, expressionOf, processesFrom, processOf}
-use Rattle.tree.proofs.Views.{code-range, ExpressionView, aConstant, aRegister, aBinary, aNegated, expression-view, UsesName, NodeView, aNil, anAssign, aLet, anIf, aWhile, aSequence, anEmit, aLocal, aWatching, aWhen, aParallel, node-view}
+use Rattle.tree.proofs.Views.{code, code-range, ExpressionView, aConstant, aRegister, aBinary, aNegated, expression-view, UsesName, NodeView, aNil, anAssign, aLet, anIf, aWhile, aSequence, anEmit, aLocal, aWatching, aWhen, aParallel, node-view}
 use Rattle.tree.proofs.NodeSizes.{size-within, whole-size}
 use Rattle.packing.specs.Packing.{kindIn, aIn, bIn, firstIn, nodeKindIn, levelIn, signalIn, packedCounts}
 use Rattle.program.specs.Program as program
@@ -105,35 +105,29 @@ module _ (s : List ℕ) (sees : ℕ → Bool) (words : List ℕ) (ok : Checked s
       x : ExpressionPacked s e (expressionWord words e)
       x = made .keeps .expression e h
 
+      -- an expression of kind n, by what its fields hold
+      runs :
+          (n : ℕ) → partOf s e .kind ≡ n → n < 9 → (n ≡ 1 → partOf s e .a < nameCount s) → (1 < n → partOf s e .a < e) →
+          (1 < n → n < 8 → partOf s e .b < e) → ExpressionRuns words e
+      runs n k few name first second =
+          let kind : kindIn (expressionWord words e) ≡ n = x .kind ∙ k in
+          record {
+            kind = omega (arith, few, kind);
+            register = λ q. omega (arith, made .names, name (omega (arith, q, kind)), x .operand (λ z. omega (arith, k, z, q, kind)));
+            first = λ l. omega (arith, first (omega (arith, l, kind)), x .operand (λ z. omega (arith, k, z, l, kind)));
+            second = λ l m. omega (arith, second (omega (arith, l, kind)) (omega (arith, m, kind)), x .later);
+          }
+
       view : ExpressionView s e → ExpressionRuns words e
       view (aConstant k v) =
-          record {
-            kind = omega (arith, k, x .kind);
-            register = λ q. absurd (omega (arith, k, q, x .kind));
-            first = λ l. absurd (omega (arith, k, l, x .kind));
-            second = λ l m. absurd (omega (arith, k, l, x .kind));
-          }
+          runs 0 k (omega arith) (λ q. absurd (omega (arith, q))) (λ l. absurd (omega (arith, l))) (λ l m. absurd (omega (arith, l)))
       view (aRegister k v u) =
-          record {
-            kind = omega (arith, k, x .kind);
-            register = λ q. omega (arith, made .names, u .known, x .operand (λ z. omega (arith, k, z)));
-            first = λ l. absurd (omega (arith, k, l, x .kind));
-            second = λ l m. absurd (omega (arith, k, l, x .kind));
-          }
+          runs 1 k (omega arith) (λ _. u .known) (λ l. absurd (omega (arith, l))) (λ l m. absurd (omega (arith, l)))
       view (aBinary o k v a b) =
-          record {
-            kind = omega (arith, k, x .kind, code-range o);
-            register = λ q. absurd (omega (arith, k, q, x .kind, code-range o));
-            first = λ l. omega (arith, a .part .before, x .operand (λ z. omega (arith, k, z, code-range o)));
-            second = λ l m. omega (arith, b .part .before, x .later);
-          }
+          runs (code o) k (omega (arith, code-range o)) (λ q. absurd (omega (arith, q, code-range o))) (λ _. a .part .before)
+          (λ _ _. b .part .before)
       view (aNegated k v a) =
-          record {
-            kind = omega (arith, k, x .kind);
-            register = λ q. absurd (omega (arith, k, q, x .kind));
-            first = λ l. omega (arith, a .part .before, x .operand (λ z. omega (arith, k, z)));
-            second = λ l m. absurd (omega (arith, k, m, x .kind));
-          }
+          runs 8 k (omega arith) (λ q. absurd (omega (arith, q))) (λ _. a .part .before) (λ _ m. absurd (omega (arith, m)))
 
   -- node k, by its word
   module _ (k w : ℕ) (x : NodePacked s k w) (h : k < nodeCount s) where
