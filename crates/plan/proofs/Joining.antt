@@ -113,14 +113,16 @@ module _ (s : List ℕ) (sees : ℕ → Bool) (words : List ℕ) (ok : Checked s
           let kind : kindIn (expressionWord words e) ≡ n = x .kind ∙ k in
           record {
             kind = omega (arith, few, kind);
-            register = λ q. omega (arith, made .names, name (omega (arith, q, kind)), x .operand (λ z. omega (arith, k, z, q, kind)));
+            register =
+                λ q. omega (arith, made .names, name (omega (arith, q, kind)), x .operand (λ z. omega (arith, k, z, q, kind)));
             first = λ l. omega (arith, first (omega (arith, l, kind)), x .operand (λ z. omega (arith, k, z, l, kind)));
             second = λ l m. omega (arith, second (omega (arith, l, kind)) (omega (arith, m, kind)), x .later);
           }
 
       view : ExpressionView s e → ExpressionRuns words e
       view (aConstant k v) =
-          runs 0 k (omega arith) (λ q. absurd (omega (arith, q))) (λ l. absurd (omega (arith, l))) (λ l m. absurd (omega (arith, l)))
+          runs 0 k (omega arith) (λ q. absurd (omega (arith, q))) (λ l. absurd (omega (arith, l)))
+          (λ l m. absurd (omega (arith, l)))
       view (aRegister k v u) =
           runs 1 k (omega arith) (λ _. u .known) (λ l. absurd (omega (arith, l))) (λ l m. absurd (omega (arith, l)))
       view (aBinary o k v a b) =

@@ -16,7 +16,7 @@ b-in-requires c κs = search needs
 
 returns : tie.Need-returns
 unfolding rearOf
-returns c = rw (eq-eqb _ beside (c .before .if1 .taken)) (cc (c .b-in .ensures, c .before .before .middle-in .ensures, c .before .before .before .word-at .ensures))
+returns c = rw (eq-eqb _ beside (c .before .if1 .taken)) (cc)
 
 first-in-requires : tie.Need-first-in-requires
 first-in-requires c κs = search needs
