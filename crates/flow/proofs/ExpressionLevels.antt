@@ -2,11 +2,10 @@
 -- Assumes nothing.
 use mathlib.Core.Path.{_≡_, sym, ap, ap₂, _∙_, subst}
 use mathlib.Core.List.{List}
-use Prim.Native.Nat.{ℕ, _≤_, _<_}
+use Prim.Native.Nat.{ℕ, _<_}
 use native.Mathlib.Omega.{arith}
 use Rattle.table.specs.Table.{kept}
 use Rattle.lattice.specs.Lattice.{Lattice}
-use Rattle.language.specs.Syntax.{Operator, add, subtract, multiply, divide, less, equal}
 use Rattle.language.specs.Levels.{expLevel}
 use Rattle.layout.specs.declared.Script.{Script}
 use Rattle.layout.specs.declared.entries.Name.{Name}
@@ -15,7 +14,7 @@ use Rattle.layout.specs.Layout.{nameCount}
 use Rattle.layout.specs.Entries.{nameOf, partOf}
 use Rattle.tree.specs.Tree.{namesOf, expressionOf}
 use Rattle.layout.proofs.Layouts.{names-are, expressions-are}
-use Rattle.tree.proofs.Views.{code, code-range, UsesExpression, ExpressionView, aConstant, aRegister, aBinary, aNegated, expression-view}
+use Rattle.tree.proofs.Views.{code-range, UsesExpression, ExpressionView, aConstant, aRegister, aBinary, aNegated, expression-view}
 use Rattle.flow.specs.Flow.{Levels, lattice, Ready, Joins, LevelAt}
 use Rattle.flow.proofs.BookLevels.{bottom-is, bottom-inside, join-kept, join-inside}
 
