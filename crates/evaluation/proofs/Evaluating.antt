@@ -1,32 +1,15 @@
 -- What the word of an expression tells of the expression's value, kind by kind.
-use mathlib.Core.Path.{_≡_, refl, sym, ap, _∙_}
+use mathlib.Core.Path.{_≡_, sym, ap}
 use mathlib.Core.List.{List}
 use Prim.Native.Nat.{ℕ, _≤_, _<_}
 use native.Mathlib.Omega.{arith}
 use lib.IntN.{ℤ}
 use Rattle.arithmetic.specs.Values.{negation}
-use Rattle.language.specs.Syntax.{Operator, add, subtract, multiply, divide, less, equal}
 use Rattle.language.specs.Steps.{evaluate, value}
 use Rattle.packing.specs.Packing.{kindIn, operandIn, laterIn}
 use Rattle.program.specs.Program.{nameCount, expressionWord, expressionOf}
-use Rattle.program.proofs.Views.{code, ExpressionView, aConstant, aRegister, aBinary, aNegated, expression-view}
-use Rattle.evaluation.specs.Evaluation.{operatorOf, applied, leafValue, Evaluable}
-
-code-range : (o : Operator) → (2 ≤ code o) × (code o ≤ 7)
-code-range add = (omega arith, omega arith)
-code-range subtract = (omega arith, omega arith)
-code-range multiply = (omega arith, omega arith)
-code-range divide = (omega arith, omega arith)
-code-range less = (omega arith, omega arith)
-code-range equal = (omega arith, omega arith)
-
-operator-is : (o : Operator) → operatorOf (code o) ≡ o
-operator-is add = refl
-operator-is subtract = refl
-operator-is multiply = refl
-operator-is divide = refl
-operator-is less = refl
-operator-is equal = refl
+use Rattle.program.proofs.Views.{ExpressionView, aConstant, aRegister, aBinary, aNegated, expression-view}
+use Rattle.evaluation.specs.Evaluation.{applied, leafValue, Evaluable}
 
 -- what word w, which is that of expression e, tells
 pub record Tells (words : List ℕ) (values : List ℤ) (e w : ℕ) : Type 0 where
@@ -62,14 +45,14 @@ module _ {words : List ℕ} {values : List ℤ} {e : ℕ} where
         second = λ l n. absurd (omega (arith, k, l));
         binary = λ l n. absurd (omega (arith, k, l));
       }
-  by-view (aBinary o k v a b) =
+  by-view (aBinary l m v a b) =
       record {
-        known = λ l m. absurd (omega (arith, k, m, code-range o));
-        leaf = λ m. absurd (omega (arith, k, m, code-range o));
+        known = λ _ h. absurd (omega (arith, l, h));
+        leaf = λ h. absurd (omega (arith, l, h));
         first = λ _. a;
-        negated = λ q. absurd (omega (arith, k, q, code-range o));
+        negated = λ q. absurd (omega (arith, m, q));
         second = λ _ _. b;
-        binary = λ _ _. rw (ap operatorOf k ∙ operator-is o, v);
+        binary = λ _ _. rw v;
       }
   by-view (aNegated k v a) =
       record {

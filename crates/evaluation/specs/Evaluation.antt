@@ -1,22 +1,17 @@
 -- What the evaluation of expressions asks for and promises.
 use mathlib.Core.Bool.{cond}
-use mathlib.Core.List.{List, [], _∷_}
+use mathlib.Core.List.{List}
 use Prim.Native.Nat.{ℕ, _<_}
 use lib.Dec.{eqb}
 use lib.IntN.{ℤ}
-use lib.ListN.{getD}
 use mir.Syntax.{w32}
 use mir.Val.{toZ}
-use Rattle.language.specs.Syntax.{Operator, add, subtract, multiply, divide, less, equal}
 use Rattle.language.specs.Steps.{held, apply}
 use Rattle.packing.specs.Packing.{kindIn, constantIn, operandIn}
-use Rattle.program.specs.Program.{expressionCount}
+use Rattle.program.specs.Program.{expressionCount, operatorOf}
 use Rattle.program.specs.Runnable.{Valued}
 
--- the operators of expressions, by their kinds
-abbrev pub operatorOf : ℕ → Operator
-operatorOf kind = getD (equal ∷ equal ∷ add ∷ subtract ∷ multiply ∷ divide ∷ less ∷ []) kind equal
-
+-- the operator of this kind, applied
 abbrev pub applied : ℕ → ℤ → ℤ → ℤ
 applied kind a b = apply (operatorOf kind) a b
 

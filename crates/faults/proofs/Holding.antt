@@ -11,7 +11,7 @@ use Rattle.prelude.proofs.Searches.{all-elim}
 use Rattle.layout.specs.Layout.{expressionCount, partCount}
 use Rattle.layout.specs.Entries.{node, partOf}
 use Rattle.fields.specs.declared.Field.{Field}
-use Rattle.fields.specs.Roles.{expression, child, register, signal, newRegister, newSignal, isUse, isNew}
+use Rattle.fields.specs.Roles.{unused, expression, child, register, signal, newRegister, newSignal, isUse, isNew}
 use Rattle.fields.specs.Fields.{fieldCount, fieldOf}
 use Rattle.faults.specs.Faults.{holds, holdsName, kindsFor, Sound}
 
@@ -23,6 +23,10 @@ module _ (s : List ℕ) (q : ℕ) (x : Field) where
   pub holds-child : x .role ≡ child → holds s q x ≡ ltb (node s (x .value)) q
   unfolding holds
   holds-child e = rw e
+
+  pub holds-unused : x .role ≡ unused → holds s q x ≡ eqb (x .value) 0
+  unfolding holds
+  holds-unused e = rw e
 
   -- a field that uses or declares a name
   pub holds-name : (isUse (x .role) || isNew (x .role)) ≡ true → holds s q x ≡ holdsName s q x

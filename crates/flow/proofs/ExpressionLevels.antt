@@ -2,11 +2,10 @@
 -- Assumes nothing.
 use mathlib.Core.Path.{_≡_, sym, ap, ap₂, _∙_, subst}
 use mathlib.Core.List.{List}
-use Prim.Native.Nat.{ℕ, _≤_, _<_}
+use Prim.Native.Nat.{ℕ, _<_}
 use native.Mathlib.Omega.{arith}
 use Rattle.table.specs.Table.{kept}
 use Rattle.lattice.specs.Lattice.{Lattice}
-use Rattle.language.specs.Syntax.{Operator, add, subtract, multiply, divide, less, equal}
 use Rattle.language.specs.Levels.{expLevel}
 use Rattle.layout.specs.declared.Script.{Script}
 use Rattle.layout.specs.declared.entries.Name.{Name}
@@ -15,17 +14,9 @@ use Rattle.layout.specs.Layout.{nameCount}
 use Rattle.layout.specs.Entries.{nameOf, partOf}
 use Rattle.tree.specs.Tree.{namesOf, expressionOf}
 use Rattle.layout.proofs.Layouts.{names-are, expressions-are}
-use Rattle.tree.proofs.Views.{code, UsesExpression, ExpressionView, aConstant, aRegister, aBinary, aNegated, expression-view}
+use Rattle.tree.proofs.Views.{code-range, UsesExpression, ExpressionView, aConstant, aRegister, aBinary, aNegated, expression-view}
 use Rattle.flow.specs.Flow.{Levels, lattice, Ready, Joins, LevelAt}
 use Rattle.flow.proofs.BookLevels.{bottom-is, bottom-inside, join-kept, join-inside}
-
-code-within : (o : Operator) → (2 ≤ code o) × (code o ≤ 7)
-code-within add = (omega arith, omega arith)
-code-within subtract = (omega arith, omega arith)
-code-within multiply = (omega arith, omega arith)
-code-within divide = (omega arith, omega arith)
-code-within less = (omega arith, omega arith)
-code-within equal = (omega arith, omega arith)
 
 module _ (𝓛 : Lattice ℕ) (s : List ℕ) where
   abbrev pub levelOf : ℕ → ℕ
@@ -36,7 +27,7 @@ module _ (𝓛 : Lattice ℕ) (s : List ℕ) where
     unfolding expLevel
     constant-view (aConstant k q) n = ap (expLevel 𝓛 (namesOf s)) q
     constant-view (aRegister k q u) n = absurd (omega arith)
-    constant-view (aBinary o k q u v) n = absurd (omega (arith, code-within o))
+    constant-view (aBinary o k q u v) n = absurd (omega (arith, code-range o))
     constant-view (aNegated k q u) n = absurd (omega arith)
 
     register-view :
@@ -45,7 +36,7 @@ module _ (𝓛 : Lattice ℕ) (s : List ℕ) where
     unfolding expLevel
     register-view (aConstant k q) n = absurd (omega arith)
     register-view (aRegister k q u) n = (u .known, ap (expLevel 𝓛 (namesOf s)) q)
-    register-view (aBinary o k q u v) n = absurd (omega (arith, code-within o))
+    register-view (aBinary o k q u v) n = absurd (omega (arith, code-range o))
     register-view (aNegated k q u) n = absurd (omega arith)
 
     operand-view :
@@ -60,7 +51,7 @@ module _ (𝓛 : Lattice ℕ) (s : List ℕ) where
     unfolding expLevel
     negated-view (aConstant k q) n = absurd (omega arith)
     negated-view (aRegister k q u) n = absurd (omega arith)
-    negated-view (aBinary o k q u v) n = absurd (omega (arith, code-within o))
+    negated-view (aBinary o k q u v) n = absurd (omega (arith, code-range o))
     negated-view (aNegated k q u) n = ap (expLevel 𝓛 (namesOf s)) q
 
     binary-view :

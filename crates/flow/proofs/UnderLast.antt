@@ -10,7 +10,7 @@ use native.Mathlib.Omega.{arith}
 use lib.Dec.{eqb, ltb}
 use borrow.Author.Tests.{eqb-true, ltb-true}
 use Rattle.prelude.proofs.Bools.{and-left, by-cases}
-use Rattle.prelude.proofs.Each.{each}
+use Rattle.prelude.proofs.Each.{row-of, done, _then_}
 use Rattle.layout.specs.Layout.{expressionCount, nodeCount, partCount}
 use Rattle.fields.specs.Roles.{nodeRows, roleIn, expression, child, childCount}
 use Rattle.layout.specs.Entries.{partOf, node}
@@ -44,7 +44,7 @@ module _ (s : List ℕ) (ok : Checked s) (k : ℕ) (h : k < nodeCount s) where
       inFirst (omega (arith, w .0, ap childCount e)) (subst (λ j. Under s j v) (sym (w .1) ∙ first-is s k n e) itself))
       (λ w.
       inSecond (omega (arith, w .0, ap childCount e)) (subst (λ j. Under s j v) (sym (w .1) ∙ second-is s k n e) itself))
-      (each (FieldIs n) fieldCount (((tt, a), b), c) f l (ap (λ r. eqb r child) (sym (role s ok k h n e f) ∙ r)))
+      (row-of {P = FieldIs n} (a then b then c then done) f l (ap (λ r. eqb r child) (sym (role s ok k h n e f) ∙ r)))
 
   never : {M : Type 0} → false ≡ true → M
   never e = absurd (false≢true e)

@@ -1,6 +1,7 @@
 -- A loop that gives the names new values, one after the other: those of the names before x are new, the others are as
 -- they were.
 use mathlib.Core.Path.{_≡_, refl, sym, ap, _∙_, subst}
+use mathlib.Core.Bool.{Bool, true, false, cond, not}
 use mathlib.Core.List.{List}
 use Prim.Native.Nat.{ℕ, _+_, _≤_, _<_}
 use native.Mathlib.Nat.{add-zero}
@@ -10,7 +11,10 @@ use lib.ListN.{length, take, drop, set, length-set}
 use lib.Seq.{set-getD, drop-set-lt, drop-drop, getD-drop}
 use Rattle.prelude.specs.Table.{table}
 use Rattle.prelude.proofs.Tables.{fill-none, fill-more, fill-all}
-use Rattle.language.specs.Steps.{held}
+use Rattle.language.specs.Syntax.{Names}
+use Rattle.language.specs.Steps.{held, instantStart}
+use Rattle.language.specs.Calls.{givenBack}
+use Rattle.instants.specs.Contracts.{isCleared, cleared}
 
 -- where name x is to hold f x
 pub record Renewed (f : ℕ → ℤ) (old : List ℤ) (x : ℕ) (values : List ℤ) : Type 0 where
@@ -48,3 +52,15 @@ module _ (f : ℕ → ℤ) (old : List ℤ) where
   pub renewed-all :
       (x : ℕ) (values : List ℤ) → length old ≤ x → Renewed f old x values → values ≡ table f (length old)
   renewed-all x values h r = fill-all f values (length old) x (r .same) (r .within) h (r .done)
+
+cond-not : {A : Type 0} (b : Bool) (x y : A) → cond (not b) x y ≡ cond b y x
+cond-not true x y = refl
+cond-not false x y = refl
+
+-- all names that are to be cleared are 0
+pub all-cleared :
+    (names : Names ℕ) (owned : Bool) (values : List ℤ) →
+    table (λ x. cond (isCleared names owned x) (pos 0) (held values x)) (length values) ≡ cleared names owned values
+unfolding givenBack instantStart
+all-cleared names true values = simp cond-not
+all-cleared names false values = refl

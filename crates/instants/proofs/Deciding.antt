@@ -1,6 +1,6 @@
 -- What the form of a node tells: its parts, and by them whether it is suspended and what an instant change makes of it.
-use mathlib.Core.Path.{_≡_, refl, sym, _∙_, subst}
-use mathlib.Core.Bool.{Bool, true, false, and-true, and-false, false≢true}
+use mathlib.Core.Path.{_≡_, refl, sym, ap, _∙_, subst}
+use mathlib.Core.Bool.{Bool, true, false, _&&_, and-true, and-comm}
 use mathlib.Core.Logic.{_⊎_, inl, inr, ⊎-elim}
 use mathlib.Core.List.{List}
 use Prim.Native.Nat.{ℕ, _-_, _≤_, _<_}
@@ -217,31 +217,19 @@ module _ {words : List ℕ} {values : List ℤ} {k : ℕ} {st : List ℕ} {f : F
     abbrev front : Proc ℕ
     front = left words (f .child) (partIn f st)
 
-    -- it waits, and so does the node if nothing behind it could move
+    -- nothing behind the part in front could move, and that part is suspended
+    pub rear-decides :
+        {waits : Bool} → RearWaits words k st values (f .form) waits →
+        suspended (left words k st) values ≡ (waits && suspended front values)
+    unfolding suspended
+    rear-decides b =
+        elim (decLt (f .form) beside) [
+          | yes l ↦ let a = ahead h l in rw (a .inside .whole, a .waits on front, b .none l)
+          | no n ↦ rw (rear-part (omega arith) .whole, b .other (omega arith)) (and-comm (suspended front values) _)
+        ]
+
+    -- the part in front is suspended, and so is the node if nothing behind it could move
     pub waiting-front :
         {waits : Bool} → suspended front values ≡ true → RearWaits words k st values (f .form) waits →
         waits ≡ suspended (left words k st) values
-    unfolding suspended
-    waiting-front w b =
-        elim (decLt (f .form) beside) [
-          | yes l ↦ let a = ahead h l in rw (a .inside .whole, a .waits on front, w) (b .none l)
-          | no n ↦ rw (rear-part (omega arith) .whole, w) (b .other (omega arith))
-        ]
-
-    -- behind it is a part that could move
-    pub moving-rear : RearWaits words k st values (f .form) false → suspended (left words k st) values ≡ false
-    unfolding suspended
-    moving-rear b =
-        elim (decLt (f .form) beside) [
-          | yes l ↦ absurd (false≢true (b .none l))
-          | no n ↦ rw (rear-part (omega arith) .whole, ← b .other (omega arith)) (and-false (suspended front values))
-        ]
-
-    -- nothing behind it could move: the part in front decides
-    pub waiting-rear : RearWaits words k st values (f .form) true → suspended front values ≡ suspended (left words k st) values
-    unfolding suspended
-    waiting-rear b =
-        elim (decLt (f .form) beside) [
-          | yes l ↦ let a = ahead h l in rw (a .inside .whole, a .waits on front)
-          | no n ↦ rw (rear-part (omega arith) .whole, ← b .other (omega arith)) (sym (and-true (suspended front values)))
-        ]
+    waiting-front {waits} w b = sym (rear-decides b ∙ ap (λ x. waits && x) w ∙ and-true waits)

@@ -1,6 +1,6 @@
 -- What the functions about suspension and instants promise.
 use mathlib.Core.Path.{_≡_}
-use mathlib.Core.Bool.{Bool, true, _&&_}
+use mathlib.Core.Bool.{Bool, true, cond, not, _&&_}
 use mathlib.Core.List.{List}
 use Prim.Native.Nat.{ℕ, _≤_, _<_}
 use lib.IntN.{ℤ}
@@ -8,6 +8,7 @@ use lib.ListN.{length}
 use Rattle.prelude.specs.Search.{any}
 use Rattle.language.specs.Syntax.{Names}
 use Rattle.language.specs.Steps.{present, suspended, change, instantStart}
+use Rattle.language.specs.Calls.{givenBack}
 use Rattle.program.specs.Program.{namesOf}
 use Rattle.program.specs.Forms.{beside, partIn}
 use Rattle.residual.specs.Nodes.{NodeIn, inFront, inRear, left}
@@ -29,6 +30,13 @@ isPresentSignal names values x = names .isSignal x && present values x
 
 abbrev pub someSignalPresent : Names ℕ → List ℤ → Bool
 someSignalPresent names values = any (isPresentSignal names values) (length values)
+
+-- the names that are cleared: the owned ones, or else the signals; and the values without theirs
+abbrev pub isCleared : Names ℕ → Bool → ℕ → Bool
+isCleared names owned x = cond owned (not (names .isSession x)) (names .isSignal x)
+
+abbrev pub cleared : Names ℕ → Bool → List ℤ → List ℤ
+cleared names owned values = cond owned (givenBack names values) (instantStart names values)
 
 -- what the end of an instant makes of node k, and of the values
 pub record NextInstant (words : List ℕ) (k : ℕ) (st st′ : List ℕ) (vs vs′ : List ℤ) : Type 0 where

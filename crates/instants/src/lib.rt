@@ -8,12 +8,11 @@ use program::forms::find_rear;
 use program::forms::form_at;
 ghost use mathlib.Core.Path.{_≡_};
 ghost use Prim.Native.Nat.{_<_};
-ghost use lib.ListN.{length};
 ghost use Rattle.language.specs.Steps.{change, instantStart};
 ghost use Rattle.language.specs.Calls.{givenBack};
-ghost use Rattle.program.specs.Program.{namesOf};
+ghost use Rattle.program.specs.Program.{mostNames, namesOf};
 ghost use Rattle.residual.specs.Nodes.{Valued, NodeIn, left};
-ghost use Rattle.instants.specs.Contracts.{isPresentSignal, someSignalPresent, NextInstant};
+ghost use Rattle.instants.specs.Contracts.{someSignalPresent, isCleared, cleared, NextInstant};
 
 // The instant change of node k, which goes into what is in front and reads the signals of the instant that ends.
 fn change_instant(program: &[usize; WORDS], values: &[i32], state: &mut [u8], k: usize)
@@ -49,14 +48,6 @@ fn change_instant(program: &[usize; WORDS], values: &[i32], state: &mut [u8], k:
     }
 }
 
-// Name x is a signal, and present.
-fn is_present_signal(program: &[usize; WORDS], values: &[i32], x: usize) -> bool
-    requires { ⌜ Valued (now program) (now values) × (x < length (now values)) ⌝ }
-    ensures { λ r. ⌜ r ≡ isPresentSignal (namesOf (now (program .entry))) (now (values .entry)) x ⌝ }
-{
-    program::is_signal(program, x) && evaluation::is_present(values, x)
-}
-
 pub fn some_signal_present(program: &[usize; WORDS], values: &[i32]) -> bool
     requires { ⌜ Valued (now program) (now values) ⌝ }
     ensures { λ r. ⌜ r ≡ someSignalPresent (namesOf (now (program .entry))) (now (values .entry)) ⌝ }
@@ -64,7 +55,7 @@ pub fn some_signal_present(program: &[usize; WORDS], values: &[i32]) -> bool
     let n = values.len();
     let mut x: usize = 0;
     while x < n {
-        if is_present_signal(program, values, x) {
+        if program::is_signal(program, x) && evaluation::is_present(values, x) {
             return true;
         }
         x += 1;
@@ -72,19 +63,38 @@ pub fn some_signal_present(program: &[usize; WORDS], values: &[i32]) -> bool
     false
 }
 
+// Name x is owned, or else a signal.
+fn is_cleared(program: &[usize; WORDS], owned: bool, x: usize) -> bool
+    requires { ⌜ x < mostNames ⌝ }
+    ensures { λ r. ⌜ r ≡ isCleared (namesOf (now (program .entry))) owned x ⌝ }
+{
+    if owned {
+        return !program::is_session(program, x);
+    }
+    program::is_signal(program, x)
+}
+
+// Every owned name is 0, or else every signal is absent.
+fn clear(program: &[usize; WORDS], owned: bool, values: &mut [i32])
+    requires { ⌜ Valued (now program) (now values) ⌝ }
+    ensures { λ _. ⌜ now (values .exit) ≡ cleared (namesOf (now (program .entry))) owned (now (values .entry)) ⌝ }
+{
+    let n = values.len();
+    let mut x: usize = 0;
+    while x < n {
+        if is_cleared(program, owned, x) {
+            values[x] = 0;
+        }
+        x += 1;
+    }
+}
+
 // Every signal is absent.
 fn clear_signals(program: &[usize; WORDS], values: &mut [i32])
     requires { ⌜ Valued (now program) (now values) ⌝ }
     ensures { λ _. ⌜ now (values .exit) ≡ instantStart (namesOf (now (program .entry))) (now (values .entry)) ⌝ }
 {
-    let n = values.len();
-    let mut x: usize = 0;
-    while x < n {
-        if program::is_signal(program, x) {
-            values[x] = 0;
-        }
-        x += 1;
-    }
+    clear(program, false, values);
 }
 
 // The instant ends: what is left of node k changes, by the signals of the instant that ends, and the next one begins.
@@ -101,12 +111,5 @@ pub fn clear_owned(program: &[usize; WORDS], values: &mut [i32])
     requires { ⌜ Valued (now program) (now values) ⌝ }
     ensures { λ _. ⌜ now (values .exit) ≡ givenBack (namesOf (now (program .entry))) (now (values .entry)) ⌝ }
 {
-    let n = values.len();
-    let mut x: usize = 0;
-    while x < n {
-        if !program::is_session(program, x) {
-            values[x] = 0;
-        }
-        x += 1;
-    }
+    clear(program, true, values);
 }

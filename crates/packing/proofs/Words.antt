@@ -31,24 +31,6 @@ module _ (forms kind a b first size : ℕ) (few : forms < 65536) where
   pub size-told : sizeIn made ≡ size % 1024
   size-told = omega (arith, few)
 
-pub mark-fits : (kind : ℕ) → kind < 128 → (w : Bool) → marked kind w < 256
-mark-fits kind h true = omega (arith, h)
-mark-fits kind h false = omega (arith, h)
-
--- its kind, and its mark
-module _ (forms a b first size kind : ℕ) (few : forms < 65536) (fits : kind < 128) where
-  pub kind-told : (w : Bool) → nodeKindIn (made forms (marked kind w) a b first size few) ≡ kind
-  kind-told true = omega (arith, few, fits)
-  kind-told false = omega (arith, few, fits)
-
-  pub mark-told : (w : Bool) → watchesIn (made forms (marked kind w) a b first size few) ≡ w
-  mark-told true =
-      let e : made forms (kind + 128) a b first size few / 2 ^ 63 ≡ 1 = omega (arith, few, fits) in
-      rw e
-  mark-told false =
-      let e : made forms kind a b first size few / 2 ^ 63 ≡ 0 = omega (arith, few, fits) in
-      rw e
-
 -- a bit that was packed
 bit-told : (b : Bool) → eqb (bit b) 1 ≡ b
 bit-told true = refl
@@ -57,6 +39,18 @@ bit-told false = refl
 pub bit-small : (b : Bool) → bit b < 2
 bit-small true = omega arith
 bit-small false = omega arith
+
+-- its kind, and its mark
+module _ (forms a b first size kind : ℕ) (few : forms < 65536) (fits : kind < 128) (w : Bool) where
+  abbrev marks : ℕ
+  marks = made forms (marked kind w) a b first size few
+
+  pub kind-told : nodeKindIn marks ≡ kind
+  kind-told = omega (arith, few, fits, bit-small w)
+
+  pub mark-told : watchesIn marks ≡ w
+  mark-told =
+      let e : marks / 2 ^ 63 ≡ bit w = omega (arith, few, fits, bit-small w) in ap (λ n. eqb n 1) e ∙ bit-told w
 
 -- the word of a name
 module _ (level kind : ℕ) (session seen : Bool) (h : level < 256) (k : kind < 2) where

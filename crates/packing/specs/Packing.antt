@@ -3,6 +3,10 @@ use mathlib.Core.Bool.{Bool, cond}
 use Prim.Native.Nat.{ℕ, _+_, _*_, _/_, _%_, _^_}
 use lib.Dec.{eqb}
 
+-- a bit that is set or not
+abbrev pub bit : Bool → ℕ
+bit b = cond b 1 0
+
 -- what the word of an expression tells: its kind; a constant's word; its name or first operand; its second operand
 abbrev pub kindIn : ℕ → ℕ
 kindIn w = w / 2 ^ 32
@@ -48,7 +52,7 @@ abbrev pub packedFields : ℕ → ℕ → ℕ → ℕ → ℕ
 packedFields a b first size = a % 1024 + 1024 * (b % 1024 + 1024 * (first % 1024 + 1024 * (size % 1024)))
 
 abbrev pub marked : ℕ → Bool → ℕ
-marked kind watches = cond watches (kind + 128) kind
+marked kind watches = kind + 128 * bit watches
 
 abbrev pub packedNode : ℕ → ℕ → ℕ → ℕ
 packedNode forms fields kind = forms + 2 ^ 16 * (fields + 2 ^ 40 * kind)
@@ -67,9 +71,6 @@ abbrev pub seenIn : ℕ → Bool
 seenIn w = eqb (w / 1024) 1
 
 -- a word that tells these
-abbrev pub bit : Bool → ℕ
-bit b = cond b 1 0
-
 abbrev pub packedName : ℕ → ℕ → Bool → Bool → ℕ
 packedName level kind session seen = level + 256 * (kind + 2 * (bit session + 2 * bit seen))
 

@@ -10,6 +10,16 @@ ghost use Rattle.packing.specs.Packing.{kindIn, constantIn, operandIn, l
 // The bit above the kind of a node: a watching stands in it.
 const MARK: usize = 128;
 
+// A bit that is set or not.
+fn bit_of(b: bool) -> usize
+    ensures { λ r. ⌜ (r ≡ bit b) × (r < 2) ⌝ }
+{
+    if b {
+        return 1;
+    }
+    0
+}
+
 // What the word of an expression tells.
 pub fn kind_in(w: usize) -> usize
     ensures { λ r. ⌜ r ≡ kindIn w ⌝ }
@@ -98,10 +108,7 @@ pub fn mark(kind: usize, watches: bool) -> usize
     requires { ⌜ kind < 128 ⌝ }
     ensures { λ r. ⌜ r ≡ marked kind watches ⌝ }
 {
-    if watches {
-        return kind + MARK;
-    }
-    kind
+    kind + MARK * bit_of(watches)
 }
 
 pub fn pack_node(forms: usize, fields: usize, kind: usize) -> usize
@@ -128,15 +135,6 @@ pub fn is_seen_in(w: usize) -> bool
     ensures { λ r. ⌜ r ≡ seenIn w ⌝ }
 {
     w >> 10 == 1
-}
-
-fn bit_of(b: bool) -> usize
-    ensures { λ r. ⌜ (r ≡ bit b) × (r < 2) ⌝ }
-{
-    if b {
-        return 1;
-    }
-    0
 }
 
 pub fn pack_name(level: usize, kind: usize, session: bool, seen: bool) -> usize

@@ -5,12 +5,13 @@ use mathlib.Core.List.{List, [], _∷_, _++_}
 use Prim.Native.Nat.{ℕ, zero, suc, _-_, _≤_, _<_}
 use native.Mathlib.Omega.{arith}
 use lib.Dec.{eqb}
+use lib.IntN.{pos}
 use lib.ListN.{getD, set}
 use lib.Seq.{getD-set-same}
 use mir.Syntax.{w32}
 use mir.Val.{toZ}
 use Rattle.prelude.specs.Course.{course, entry}
-use Rattle.language.specs.Syntax.{Operator, add, subtract, multiply, divide, less, equal, Exp, constant, register, binary, negated, Proc, nil, assign, while, sequence, emit, watching, when, parallel}
+use Rattle.language.specs.Syntax.{Exp, constant, Proc, nil, assign, while, sequence, emit, watching, when, parallel}
 use Rattle.language.specs.Shapes.{size, watches, leavesAlone}
 use Rattle.layout.specs.declared.Script.{Script}
 use Rattle.layout.specs.declared.entries.Part.{Part}
@@ -20,7 +21,7 @@ use Rattle.layout.proofs.Layouts.{few-bounds, names-are, expressions-are, nodes
 use Rattle.fields.specs.Fields.{firstChild, secondChild}
 use Rattle.reach.specs.Checked.{Checked}
 use Rattle.tree.specs.Tree.{expressionsFrom, noExpression, expressionOf, processesFrom, processOf}
-use Rattle.tree.proofs.Views.{code, ExpressionView, aConstant, aRegister, aBinary, aNegated, expression-view, UsesName, NodeView, aNil, anAssign, aLet, anIf, aWhile, aSequence, anEmit, aLocal, aWatching, aWhen, aParallel, node-view}
+use Rattle.tree.proofs.Views.{code, code-range, ExpressionView, aConstant, aRegister, aBinary, aNegated, expression-view, UsesName, NodeView, aNil, anAssign, aLet, anIf, aWhile, aSequence, anEmit, aLocal, aWatching, aWhen, aParallel, node-view}
 use Rattle.tree.proofs.NodeSizes.{size-within, whole-size}
 use Rattle.packing.specs.Packing.{kindIn, aIn, bIn, firstIn, nodeKindIn, levelIn, signalIn, packedCounts}
 use Rattle.program.specs.Program as program
@@ -44,27 +45,6 @@ module _ {A : Type 0} (f g : ℕ → List A → A) where
   unfolding entry
   entry-same n h = ap (f n) (course-same n (λ m l. h m (omega arith))) ∙ h n (omega arith) (course g n)
 
-code-range : (o : Operator) → (2 ≤ code o) × (code o ≤ 7)
-code-range add = (omega arith, omega arith)
-code-range subtract = (omega arith, omega arith)
-code-range multiply = (omega arith, omega arith)
-code-range divide = (omega arith, omega arith)
-code-range less = (omega arith, omega arith)
-code-range equal = (omega arith, omega arith)
-
--- the expressions with operands, by the operands' numbers
-abbrev rest : (ℕ → Exp) → ℕ → ℕ → List Exp
-rest operand a b =
-    register a
-    ∷ binary add (operand a) (operand b)
-    ∷ binary subtract (operand a) (operand b)
-    ∷ binary multiply (operand a) (operand b)
-    ∷ binary divide (operand a) (operand b)
-    ∷ binary less (operand a) (operand b)
-    ∷ binary equal (operand a) (operand b)
-    ∷ negated (operand a)
-    ∷ []
-
 -- an expression, by its word
 module _ (s : List ℕ) (e w : ℕ) (x : ExpressionPacked s e w) where
   expression-made :
@@ -79,7 +59,8 @@ module _ (s : List ℕ) (e w : ℕ) (x : ExpressionPacked s e w) where
           ≡ getD (expressionsFrom (partOf s e) (λ j. getD l j noExpression)) n noExpression
       by-kind zero q = ap (λ v. constant (toZ w32 v)) (x .constant q)
       by-kind (suc n) q =
-          ap₂ (λ a b. getD (rest (λ j. getD l j noExpression) a b) n noExpression) (x .operand (λ z. omega (arith, z, q)))
+          ap₂ (λ a b. getD (program.expressionsBy (pos 0) a b (λ j. getD l j noExpression)) (suc n) noExpression)
+          (x .operand (λ z. omega (arith, z, q)))
           (x .later)
 
 -- a file and its words, with the counts
@@ -124,35 +105,31 @@ module _ (s : List ℕ) (sees : ℕ → Bool) (words : List ℕ) (ok : Checked s
       x : ExpressionPacked s e (expressionWord words e)
       x = made .keeps .expression e h
 
+      -- an expression of kind n, by what its fields hold
+      runs :
+          (n : ℕ) → partOf s e .kind ≡ n → n < 9 → (n ≡ 1 → partOf s e .a < nameCount s) → (1 < n → partOf s e .a < e) →
+          (1 < n → n < 8 → partOf s e .b < e) → ExpressionRuns words e
+      runs n k few name first second =
+          let kind : kindIn (expressionWord words e) ≡ n = x .kind ∙ k in
+          record {
+            kind = omega (arith, few, kind);
+            register =
+                λ q. omega (arith, made .names, name (omega (arith, q, kind)), x .operand (λ z. omega (arith, k, z, q, kind)));
+            first = λ l. omega (arith, first (omega (arith, l, kind)), x .operand (λ z. omega (arith, k, z, l, kind)));
+            second = λ l m. omega (arith, second (omega (arith, l, kind)) (omega (arith, m, kind)), x .later);
+          }
+
       view : ExpressionView s e → ExpressionRuns words e
       view (aConstant k v) =
-          record {
-            kind = omega (arith, k, x .kind);
-            register = λ q. absurd (omega (arith, k, q, x .kind));
-            first = λ l. absurd (omega (arith, k, l, x .kind));
-            second = λ l m. absurd (omega (arith, k, l, x .kind));
-          }
+          runs 0 k (omega arith) (λ q. absurd (omega (arith, q))) (λ l. absurd (omega (arith, l)))
+          (λ l m. absurd (omega (arith, l)))
       view (aRegister k v u) =
-          record {
-            kind = omega (arith, k, x .kind);
-            register = λ q. omega (arith, made .names, u .known, x .operand (λ z. omega (arith, k, z)));
-            first = λ l. absurd (omega (arith, k, l, x .kind));
-            second = λ l m. absurd (omega (arith, k, l, x .kind));
-          }
+          runs 1 k (omega arith) (λ _. u .known) (λ l. absurd (omega (arith, l))) (λ l m. absurd (omega (arith, l)))
       view (aBinary o k v a b) =
-          record {
-            kind = omega (arith, k, x .kind, code-range o);
-            register = λ q. absurd (omega (arith, k, q, x .kind, code-range o));
-            first = λ l. omega (arith, a .part .before, x .operand (λ z. omega (arith, k, z, code-range o)));
-            second = λ l m. omega (arith, b .part .before, x .later);
-          }
+          runs (code o) k (omega (arith, code-range o)) (λ q. absurd (omega (arith, q, code-range o))) (λ _. a .part .before)
+          (λ _ _. b .part .before)
       view (aNegated k v a) =
-          record {
-            kind = omega (arith, k, x .kind);
-            register = λ q. absurd (omega (arith, k, q, x .kind));
-            first = λ l. omega (arith, a .part .before, x .operand (λ z. omega (arith, k, z)));
-            second = λ l m. absurd (omega (arith, k, m, x .kind));
-          }
+          runs 8 k (omega arith) (λ q. absurd (omega (arith, q))) (λ _. a .part .before) (λ _ m. absurd (omega (arith, m)))
 
   -- node k, by its word
   module _ (k w : ℕ) (x : NodePacked s k w) (h : k < nodeCount s) where

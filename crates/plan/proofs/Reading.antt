@@ -6,12 +6,10 @@ use native.Mathlib.Omega.{arith}
 use Rattle.book.specs.declared.Book.{Book}
 use Rattle.layout.specs.declared.Script.{Script}
 use Rattle.layout.specs.declared.entries.Part.{Part}
-use Rattle.layout.specs.Layout.{nameCount, nodeCount, Laid}
+use Rattle.layout.specs.Layout.{nameCount, Laid}
 use Rattle.layout.specs.Entries.{partOf, node}
 use Rattle.layout.proofs.Layouts.{name-within, names-are, expressions-are}
-use Rattle.reach.specs.Checked.{Checked}
 use Rattle.plan.specs.Plan.{CanPlan, CanPackName}
-use Rattle.tree.proofs.Views.{NodeView, aNil, anAssign, aLet, anIf, aWhile, aSequence, anEmit, aLocal, aWatching, aWhen, aParallel, node-view}
 
 -- a name has a level of the book, and is a register or a signal
 module _ {s : List ℕ} {c : Script} {b : Book} {reader : ℕ} (x : ℕ) where
@@ -29,21 +27,3 @@ module _ {s : List ℕ} {c : Script} {b : Book} {reader : ℕ} (x : ℕ) where
 pub node-read :
     {s : List ℕ} {c : Script} (k : ℕ) {p : Part} → Laid s c → p ≡ partOf s (c .expressions + k) → p ≡ partOf s (node s k)
 node-read {s} k l e = e ∙ ap (λ n. partOf s (n + k)) (expressions-are l)
-
--- a node has a kind
-module _ (s : List ℕ) (ok : Checked s) (k : ℕ) (h : k < nodeCount s) where
-  kind-of : NodeView s k → partOf s (node s k) .kind < 11
-  kind-of (aNil e q) = omega (arith, e)
-  kind-of (anAssign e q x y) = omega (arith, e)
-  kind-of (aLet e q x y z) = omega (arith, e)
-  kind-of (anIf e q x y z) = omega (arith, e)
-  kind-of (aWhile e q x y) = omega (arith, e)
-  kind-of (aSequence e q x y) = omega (arith, e)
-  kind-of (anEmit e q x) = omega (arith, e)
-  kind-of (aLocal e q x y) = omega (arith, e)
-  kind-of (aWatching e q x y) = omega (arith, e)
-  kind-of (aWhen e q x y) = omega (arith, e)
-  kind-of (aParallel e q x y) = omega (arith, e)
-
-  pub kind-known : partOf s (node s k) .kind < 11
-  kind-known = kind-of (node-view s ok k h)

@@ -11,11 +11,9 @@ use Rattle.language.specs.Shapes.{watches}
 use Rattle.layout.specs.declared.entries.Part.{Part}
 use Rattle.layout.specs.Layout.{nodeCount}
 use Rattle.layout.specs.Entries.{partOf, node}
-use Rattle.fields.specs.declared.Field.{Field}
 use Rattle.fields.specs.Roles.{nodeRows, roleIn, unused}
 use Rattle.fields.specs.Fields.{fieldCount, fieldOf, firstChild, secondChild}
-use Rattle.faults.specs.Faults.{holds}
-use Rattle.faults.proofs.Holding.{right-field}
+use Rattle.faults.proofs.Holding.{right-field, holds-unused}
 use Rattle.reach.specs.Checked.{Checked}
 use Rattle.tree.specs.Tree.{processOf}
 use Rattle.tree.proofs.Views.{NodeView, aNil, anAssign, aLet, anIf, aWhile, aSequence, anEmit, aLocal, aWatching, aWhen, aParallel, node-view, role}
@@ -25,10 +23,6 @@ use Rattle.plan.specs.Plan.{watchesBefore, watchesBy, KeepsNodes}
 and-same : (a b c : Bool) → (a ≡ true → b ≡ c) → (a && b) ≡ (a && c)
 and-same true b c f = f refl
 and-same false b c f = refl
-
-holds-unused : (s : List ℕ) (q : ℕ) (x : Field) → x .role ≡ unused → holds s q x ≡ eqb (x .value) 0
-unfolding holds
-holds-unused s q x e = rw e
 
 module _ (s : List ℕ) (ok : Checked s) where
   -- 'child nodes have smaller numbers than their parent': node 0 has none

@@ -28,7 +28,7 @@ fn watches_before(words: &[usize; WORDS], k: usize, j: usize) -> bool
     requires { ⌜ k < mostNodes ⌝ }
     ensures { λ r. ⌜ r ≡ watchesBefore (now (words .entry)) k j ⌝ }
 {
-    j < k && packing::watches_in(words[program::NODES + j])
+    j < k && program::watches_at(words, j)
 }
 
 // A watching stands in node k, which is of this kind and has these children: it is one, or one stands in a child. A

@@ -8,42 +8,36 @@ use lib.ListN.{getD}
 use mir.Syntax.{w32}
 use mir.Val.{toZ}
 use Rattle.prelude.specs.Course.{course, entry}
-use Rattle.prelude.proofs.Each.{each}
+use Rattle.prelude.proofs.Each.{row-of, done, _then_}
 use Rattle.prelude.proofs.Courses.{earlier}
-use Rattle.language.specs.Syntax.{Exp, Operator, add, subtract, multiply, divide, less, equal, constant, register, binary, negated, Proc, nil, assign, letIn, ifThenElse, while, sequence, emit, local, watching, when, parallel}
+use Rattle.language.specs.Syntax.{Exp, constant, register, binary, negated, Proc, nil, assign, letIn, ifThenElse, while, sequence, emit, local, watching, when, parallel}
 use Rattle.language.specs.Shapes.{leavesAlone}
 use Rattle.packing.specs.Packing.{kindIn, constantIn, operandIn, laterIn, levelIn, signalIn}
 use Rattle.program.specs.Rows.{rowOf}
-use Rattle.program.specs.Program.{nameCount, expressionCount, nodeCount, nameWord, expressionWord, nodeWord, kindAt, aAt, bAt, firstAt, secondAt, expressionsFrom, noExpression, expressionOf, fieldsOf, processOf}
+use Rattle.program.specs.Program.{nameCount, expressionCount, nodeCount, nameWord, expressionWord, nodeWord, kindAt, aAt, bAt, firstAt, secondAt, operatorOf, expressionsFrom, noExpression, expressionOf, fieldsOf, processOf}
 use Rattle.program.specs.Runnable.{Holds, Leads, FirstPart, ExpressionRuns, NodeRuns, Runnable}
 
--- the kind of a binary expression
-abbrev pub code : Operator → ℕ
-code add = 2
-code subtract = 3
-code multiply = 4
-code divide = 5
-code less = 6
-code equal = 7
-
 module _ (words : List ℕ) where
-  pub data ExpressionView (e : ℕ) : Type 0 where
-    aConstant :
-        kindIn (expressionWord words e) ≡ 0 → expressionOf words e ≡ constant (toZ w32 (constantIn (expressionWord words e))) →
-        ExpressionView e
-    aRegister :
-        kindIn (expressionWord words e) ≡ 1 → expressionOf words e ≡ register (operandIn (expressionWord words e)) →
-        operandIn (expressionWord words e) < nameCount words → ExpressionView e
-    aBinary :
-        (o : Operator) → kindIn (expressionWord words e) ≡ code o →
-        expressionOf words e
-        ≡ binary o (expressionOf words (operandIn (expressionWord words e)))
-        (expressionOf words (laterIn (expressionWord words e))) →
-        operandIn (expressionWord words e) < e → laterIn (expressionWord words e) < e → ExpressionView e
-    aNegated :
-        kindIn (expressionWord words e) ≡ 8 →
-        expressionOf words e ≡ negated (expressionOf words (operandIn (expressionWord words e))) →
-        operandIn (expressionWord words e) < e → ExpressionView e
+  module _ (e : ℕ) where
+    abbrev w : ℕ
+    w = expressionWord words e
+
+    abbrev Means : Exp → Type 0
+    Means x = expressionOf words e ≡ x
+
+    abbrev left : Exp
+    left = expressionOf words (operandIn w)
+
+    abbrev right : Exp
+    right = expressionOf words (laterIn w)
+
+    pub data ExpressionView : Type 0 where
+      aConstant : kindIn w ≡ 0 → Means (constant (toZ w32 (constantIn w))) → ExpressionView
+      aRegister : kindIn w ≡ 1 → Means (register (operandIn w)) → operandIn w < nameCount words → ExpressionView
+      aBinary :
+          1 < kindIn w → kindIn w < 8 → Means (binary (operatorOf (kindIn w)) left right) → operandIn w < e → laterIn w < e →
+          ExpressionView
+      aNegated : kindIn w ≡ 8 → Means (negated left) → operandIn w < e → ExpressionView
 
   module _ (k : ℕ) where
     abbrev kind : ℕ
@@ -157,37 +151,19 @@ module _ (words : List ℕ) (k : ℕ) (runs : NodeRuns words k) where
 
   pub view-of : NodeView words k
   view-of =
-      each View 11 (
-        (
-          (
-            (
-              (
-                (
-                  (
-                    (
-                      (
-                        (
-                          (tt, λ e. aNil e (process 0 e)),
-                          λ e. anAssign e (process 1 e) (field-a 1 e) (field-b 1 e),
-                        ),
-                        let-view,
-                      ),
-                      if-view,
-                    ),
-                    while-view,
-                  ),
-                  sequence-view,
-                ),
-                λ e. anEmit e (process 6 e) (field-a 6 e),
-              ),
-              local-view,
-            ),
-            watching-view,
-          ),
-          when-view,
-        ),
-        parallel-view,
-      )
+      row-of {P = View}
+      ((λ e. aNil e (process 0 e))
+      then (λ e. anAssign e (process 1 e) (field-a 1 e) (field-b 1 e))
+      then let-view
+      then if-view
+      then while-view
+      then sequence-view
+      then (λ e. anEmit e (process 6 e) (field-a 6 e))
+      then local-view
+      then watching-view
+      then when-view
+      then parallel-view
+      then done)
       (kindAt words k)
       (runs .kind)
       refl
@@ -196,17 +172,17 @@ pub node-view : (words : List ℕ) → Runnable words → (k : ℕ) → k < node
 node-view words ok k h = view-of words k (ok .nodes k h)
 
 module _ (words : List ℕ) (e : ℕ) (runs : ExpressionRuns words e) where
-  abbrev w : ℕ
-  w = expressionWord words e
+  abbrev word : ℕ
+  word = expressionWord words e
 
   abbrev told : ℕ → List Exp → Exp
   told e before =
       getD (expressionsFrom (expressionWord words e) (λ k. getD before k noExpression)) (kindIn (expressionWord words e)) noExpression
 
   abbrev Said : ℕ → Exp
-  Said n = getD (expressionsFrom w (λ j. getD (course told e) j noExpression)) n noExpression
+  Said n = getD (expressionsFrom word (λ j. getD (course told e) j noExpression)) n noExpression
 
-  expression : (n : ℕ) → kindIn w ≡ n → expressionOf words e ≡ Said n
+  expression : (n : ℕ) → kindIn word ≡ n → expressionOf words e ≡ Said n
   unfolding expressionOf entry
   expression n q = ap Said q
 
@@ -215,50 +191,39 @@ module _ (words : List ℕ) (e : ℕ) (runs : ExpressionRuns words e) where
   operand {j} l = earlier told noExpression e j l
 
   abbrev Viewed : ℕ → Type 0
-  Viewed n = kindIn w ≡ n → ExpressionView words e
+  Viewed n = kindIn word ≡ n → ExpressionView words e
 
   binary-view :
-      (o : Operator) → 1 < code o → code o < 8 →
+      (n : ℕ) → 1 < n → n < 8 →
       ((operands : ℕ → Exp) →
-      getD (expressionsFrom w operands) (code o) noExpression ≡ binary o (operands (operandIn w)) (operands (laterIn w))) →
-      Viewed (code o)
-  binary-view o l m at q =
-      let left : operandIn w < e = runs .first (omega (arith, l, q)) in
-      let right : laterIn w < e = runs .second (omega (arith, l, q)) (omega (arith, m, q)) in
-      aBinary o q
-      (expression (code o) q ∙ at (λ j. getD (course told e) j noExpression) ∙ ap₂ (binary o) (operand left) (operand right))
-      left right
+      getD (expressionsFrom word operands) n noExpression
+      ≡ binary (operatorOf n) (operands (operandIn word)) (operands (laterIn word))) →
+      Viewed n
+  binary-view n l m at q =
+      let first : operandIn word < e = runs .first (omega (arith, l, q)) in
+      let second : laterIn word < e = runs .second (omega (arith, l, q)) (omega (arith, m, q)) in
+      aBinary (omega (arith, l, q)) (omega (arith, m, q))
+      (expression n q
+      ∙ at (λ j. getD (course told e) j noExpression)
+      ∙ rw (q, operand first, operand second))
+      first second
 
   pub expression-view-of : ExpressionView words e
   expression-view-of =
-      each Viewed 9 (
-        (
-          (
-            (
-              (
-                (
-                  (
-                    (
-                      (tt, λ q. aConstant q (expression 0 q)),
-                      λ q. aRegister q (expression 1 q) (runs .register q),
-                    ),
-                    binary-view add (omega arith) (omega arith) (λ _. refl),
-                  ),
-                  binary-view subtract (omega arith) (omega arith) (λ _. refl),
-                ),
-                binary-view multiply (omega arith) (omega arith) (λ _. refl),
-              ),
-              binary-view divide (omega arith) (omega arith) (λ _. refl),
-            ),
-            binary-view less (omega arith) (omega arith) (λ _. refl),
-          ),
-          binary-view equal (omega arith) (omega arith) (λ _. refl),
-        ),
-        λ q.
-            let only : operandIn w < e = runs .first (omega (arith, q)) in
-            aNegated q (expression 8 q ∙ ap negated (operand only)) only,
-      )
-      (kindIn w)
+      row-of {P = Viewed}
+      ((λ q. aConstant q (expression 0 q))
+      then (λ q. aRegister q (expression 1 q) (runs .register q))
+      then binary-view 2 (omega arith) (omega arith) (λ _. refl)
+      then binary-view 3 (omega arith) (omega arith) (λ _. refl)
+      then binary-view 4 (omega arith) (omega arith) (λ _. refl)
+      then binary-view 5 (omega arith) (omega arith) (λ _. refl)
+      then binary-view 6 (omega arith) (omega arith) (λ _. refl)
+      then binary-view 7 (omega arith) (omega arith) (λ _. refl)
+      then (λ q.
+      let only : operandIn word < e = runs .first (omega (arith, q)) in
+      aNegated q (expression 8 q ∙ ap negated (operand only)) only)
+      then done)
+      (kindIn word)
       (runs .kind)
       refl
 

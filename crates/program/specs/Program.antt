@@ -4,12 +4,12 @@
 use mathlib.Core.Bool.{Bool}
 use mathlib.Core.List.{List, [], _∷_}
 use Prim.Native.Nat.{ℕ, _+_, _-_}
-use lib.IntN.{pos}
+use lib.IntN.{ℤ, pos}
 use lib.ListN.{getD}
 use mir.Syntax.{w32}
 use mir.Val.{toZ}
 use Rattle.prelude.specs.Course.{entry}
-use Rattle.language.specs.Syntax.{Names, add, subtract, multiply, divide, less, equal, Exp, constant, register, binary, negated, Proc, nil}
+use Rattle.language.specs.Syntax.{Names, Operator, add, subtract, multiply, divide, less, equal, Exp, constant, register, binary, negated, Proc, nil}
 use Rattle.packing.specs.Packing.{kindIn, constantIn, operandIn, laterIn, aIn, bIn, firstIn, nodeKindIn, levelIn, signalIn, sessionIn, seenIn, namesIn, expressionsIn, nodesIn}
 use Rattle.program.specs.Rows.{Fields, rowOf}
 
@@ -83,13 +83,17 @@ module _ (words : List ℕ) where
   abbrev pub seenBy : ℕ → Bool
   seenBy x = seenIn (nameWord x)
 
--- the expressions of the nine kinds, in the order of their numbers
-abbrev pub expressionsFrom : ℕ → (ℕ → Exp) → List Exp
-expressionsFrom w operand =
-    let a : Exp = operand (operandIn w) in
-    let b : Exp = operand (laterIn w) in
-    constant (toZ w32 (constantIn w))
-    ∷ register (operandIn w)
+-- the operators of expressions, by their kinds
+abbrev pub operatorOf : ℕ → Operator
+operatorOf kind = getD (equal ∷ equal ∷ add ∷ subtract ∷ multiply ∷ divide ∷ less ∷ []) kind equal
+
+-- the expressions of the nine kinds, in the order of their numbers: of a value, and of a register or operands
+abbrev pub expressionsBy : ℤ → ℕ → ℕ → (ℕ → Exp) → List Exp
+expressionsBy v x y operand =
+    let a : Exp = operand x in
+    let b : Exp = operand y in
+    constant v
+    ∷ register x
     ∷ binary add a b
     ∷ binary subtract a b
     ∷ binary multiply a b
@@ -98,6 +102,10 @@ expressionsFrom w operand =
     ∷ binary equal a b
     ∷ negated a
     ∷ []
+
+-- those of a word
+abbrev pub expressionsFrom : ℕ → (ℕ → Exp) → List Exp
+expressionsFrom w = expressionsBy (toZ w32 (constantIn w)) (operandIn w) (laterIn w)
 
 abbrev pub noExpression : Exp
 noExpression = constant (pos 0)

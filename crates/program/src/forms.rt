@@ -1,7 +1,8 @@
 // The form that a node has come to: what is in front, and what stands around it.
 use crate::WORDS;
 ghost use mathlib.Core.Path.{_≡_};
-ghost use Prim.Native.Nat.{_<_};
+ghost use Prim.Native.Nat.{_+_, _<_};
+ghost use Rattle.packing.specs.Packing.{sizeIn};
 ghost use Rattle.program.specs.Program.{mostNodes, nodeCount, kindAt};
 ghost use Rattle.program.specs.Forms.{formOf, frontOf, rearOf, formsOf};
 ghost use Rattle.program.specs.Runnable.{Runnable};
@@ -101,6 +102,13 @@ pub fn form_at(program: &[usize; WORDS], k: usize, tag: u8) -> u8
     packing::form_in(crate::word_at(program, k), prelude::wide(tag)) as u8
 }
 
+// Where the bytes of the second part begin, of a node with word w.
+fn middle_in(w: usize) -> usize
+    ensures { λ r. ⌜ r ≡ 1 + sizeIn w ⌝ }
+{
+    1 + packing::size_in(w)
+}
+
 // The form of node k whose own byte is `tag` and which has so many bytes, with the part in front.
 pub fn find_front(program: &[usize; WORDS], k: usize, tag: u8, len: usize) -> Front
     requires { ⌜ Runnable (now program) × (k < nodeCount (now program)) ⌝ }
@@ -116,7 +124,7 @@ pub fn find_front(program: &[usize; WORDS], k: usize, tag: u8, len: usize) -> Fr
         };
     }
     let w = crate::word_at(program, k);
-    let middle = 1 + packing::size_in(w);
+    let middle = middle_in(w);
     if form == SECOND || form == TURNED {
         return Front {
             form,
@@ -139,7 +147,7 @@ pub fn find_rear(program: &[usize; WORDS], k: usize, len: usize, form: u8) -> Fr
     ensures { λ r. ⌜ r ≡ rearOf (now (program .entry)) k form len ⌝ }
 {
     let w = crate::word_at(program, k);
-    let middle = 1 + packing::size_in(w);
+    let middle = middle_in(w);
     if form == BESIDE {
         return Front {
             form: TURNED,

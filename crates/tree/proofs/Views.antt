@@ -3,14 +3,14 @@
 use mathlib.Core.Path.{_≡_, refl, sym, ap, ap₂, _∙_, subst}
 use mathlib.Core.Bool.{Bool, true, false, cond, _&&_, _||_}
 use mathlib.Core.List.{List}
-use Prim.Native.Nat.{ℕ, _+_, _*_, _<_}
+use Prim.Native.Nat.{ℕ, _+_, _*_, _≤_, _<_}
 use native.Mathlib.Omega.{arith}
 use lib.Dec.{eqb, ltb}
 use lib.ListN.{getD}
 use borrow.Author.Tests.{ltb-true, le-ltb, lt-ltb, not-false}
 use Rattle.prelude.specs.Course.{course, entry}
 use Rattle.prelude.proofs.Bools.{and-left, and-right, and-second}
-use Rattle.prelude.proofs.Each.{each}
+use Rattle.prelude.proofs.Each.{row-of, done, _then_}
 use Rattle.prelude.proofs.Searches.{none-of-any}
 use Rattle.prelude.proofs.Courses.{earlier}
 use Rattle.language.specs.Syntax.{Exp, Operator, add, subtract, multiply, divide, less, equal, constant, register, binary, negated, Proc, nil, assign, letIn, ifThenElse, while, sequence, emit, local, watching, when, parallel}
@@ -38,6 +38,14 @@ code multiply = 4
 code divide = 5
 code less = 6
 code equal = 7
+
+pub code-range : (o : Operator) → (2 ≤ code o) × (code o ≤ 7)
+code-range add = (omega arith, omega arith)
+code-range subtract = (omega arith, omega arith)
+code-range multiply = (omega arith, omega arith)
+code-range divide = (omega arith, omega arith)
+code-range less = (omega arith, omega arith)
+code-range equal = (omega arith, omega arith)
 
 module _ (s : List ℕ) where
   -- part q uses name x, which is of this kind and in reach
@@ -280,48 +288,30 @@ module _ (s : List ℕ) (ok : Checked s) where
         let right = uses-node 1 roles.child (omega arith) (role 10 e 1) (role 10 e 0) in
         aParallel e (process 10 e ∙ ap₂ parallel (part-of left) (part-of right)) left right
 
+    pub kind-below : partOf s q .kind < roles.nodeKinds
+    kind-below =
+        subst (λ n. partOf s q .kind < n)
+        (ap (λ b. cond b roles.expressionKinds roles.nodeKinds) (le-ltb q (expressionCount s) (omega arith)))
+        (right-kind s (ok .joined .sound) q inside)
+
     pub node-view : NodeView s k
     node-view =
-        each (λ n. partOf s q .kind ≡ n → NodeView s k) roles.nodeKinds (
-          (
-            (
-              (
-                (
-                  (
-                    (
-                      (
-                        (
-                          (
-                            (tt, λ e. aNil e (process 0 e)),
-                            λ e. anAssign e (process 1 e) (a-register (role 1 e 0)) (an-expression 1 (omega arith) (role 1 e 1)),
-                          ),
-                          let-view,
-                        ),
-                        if-view,
-                      ),
-                      while-view,
-                    ),
-                    sequence-view,
-                  ),
-                  λ e. anEmit e (process 6 e) (a-signal (role 6 e 0)),
-                ),
-                local-view,
-              ),
-              watching-view,
-            ),
-            when-view,
-          ),
-          parallel-view,
-        )
+        row-of {P = λ n. partOf s q .kind ≡ n → NodeView s k}
+        ((λ e. aNil e (process 0 e))
+        then (λ e. anAssign e (process 1 e) (a-register (role 1 e 0)) (an-expression 1 (omega arith) (role 1 e 1)))
+        then let-view
+        then if-view
+        then while-view
+        then sequence-view
+        then (λ e. anEmit e (process 6 e) (a-signal (role 6 e 0)))
+        then local-view
+        then watching-view
+        then when-view
+        then parallel-view
+        then done)
         (partOf s q .kind)
         kind-below
         refl
-      where
-        kind-below : partOf s q .kind < roles.nodeKinds
-        kind-below =
-            subst (λ n. partOf s q .kind < n)
-            (ap (λ b. cond b roles.expressionKinds roles.nodeKinds) (le-ltb q (expressionCount s) (omega arith)))
-            (right-kind s (ok .joined .sound) q inside)
 
   module _ (e : ℕ) (h : e < expressionCount s) where
     within-parts : e < partCount s
@@ -362,41 +352,26 @@ module _ (s : List ℕ) (ok : Checked s) where
 
     pub expression-view : ExpressionView s e
     expression-view =
-        each (λ n. partOf s e .kind ≡ n → ExpressionView s e) roles.expressionKinds (
-          (
-            (
-              (
-                (
-                  (
-                    (
-                      (
-                        (tt, λ q. aConstant q (expression 0 q)),
-                        λ q.
-                            aRegister q (expression 1 q)
-                            (uses-name e within-parts 0 (omega arith) roles.register (role-in 1 q 0) refl),
-                      ),
-                      binary-view add refl refl (λ _. refl),
-                    ),
-                    binary-view subtract refl refl (λ _. refl),
-                  ),
-                  binary-view multiply refl refl (λ _. refl),
-                ),
-                binary-view divide refl refl (λ _. refl),
-              ),
-              binary-view less refl refl (λ _. refl),
-            ),
-            binary-view equal refl refl (λ _. refl),
-          ),
-          λ q.
-              let only = uses-expression e within-parts 0 (omega arith) (role-in 8 q 0) in
-              aNegated q (expression 8 q ∙ ap negated (operand only)) only,
-        )
+        row-of {P = λ n. partOf s e .kind ≡ n → ExpressionView s e}
+        ((λ q. aConstant q (expression 0 q))
+        then (λ q.
+        aRegister q (expression 1 q) (uses-name e within-parts 0 (omega arith) roles.register (role-in 1 q 0) refl))
+        then binary-view add refl refl (λ _. refl)
+        then binary-view subtract refl refl (λ _. refl)
+        then binary-view multiply refl refl (λ _. refl)
+        then binary-view divide refl refl (λ _. refl)
+        then binary-view less refl refl (λ _. refl)
+        then binary-view equal refl refl (λ _. refl)
+        then (λ q.
+        let only = uses-expression e within-parts 0 (omega arith) (role-in 8 q 0) in
+        aNegated q (expression 8 q ∙ ap negated (operand only)) only)
+        then done)
         (partOf s e .kind)
-        kind-below
+        expression-kind
         refl
       where
-        kind-below : partOf s e .kind < roles.expressionKinds
-        kind-below =
+        expression-kind : partOf s e .kind < roles.expressionKinds
+        expression-kind =
             subst (λ n. partOf s e .kind < n)
             (ap (λ b. cond b roles.expressionKinds roles.nodeKinds) (lt-ltb e (expressionCount s) h))
             (right-kind s (ok .joined .sound) e within-parts)

@@ -1,5 +1,5 @@
 -- `operand` and `value_of`: the operands of an expression have smaller numbers, so e falls.
-use mathlib.Core.Path.{_≡_, ap, ap₂, _∙_}
+use mathlib.Core.Path.{ap, ap₂, _∙_}
 use mathlib.Core.List.{List}
 use Prim.Native.Nat.{ℕ, _+_, _*_, _<_}
 use native.Mathlib.Omega.{arith}
@@ -155,23 +155,13 @@ module _ (t : ℕ) where
   not-requires : lts.Need-not-requires (Q t) (at t) value-of.Post
   not-requires c κs = tt
 
-  -- the value of the first operand
-  first-value :
-      (c : lts.After-operand (Q t) (at t) value-of.Post) →
-      let w = c .before .before .before .before in
-      c .operand .result
-      ≡ value (expressionOf (w .before .args .program .now) (operandIn (w .expression-at .result))) (w .before .args .values .now)
-  first-value c =
-      let args = c .before .before .before .before .before .args in
-      c .operand .ensures ∙ ap (λ j. value (expressionOf (args .program .now) j) (args .values .now)) (c .before .operand-in .ensures)
-
   returns-2 : lts.Need-returns-2 (Q t) (at t) value-of.Post
   returns-2 c =
       let one = c .before .before in
       let test = one .before .before .before in
       given-back (c .not .ok)
       (c .not .ensures
-      ∙ ap negation (given-back (one .operand .ok) (first-value one))
+      ∙ ap negation (given-back (one .operand .ok) (rw (one .before .operand-in .ensures) at (one .operand .ensures)))
       ∙ tells (test .before) .negated (omega (arith, test .kind-in .ensures, c .before .if2 .taken)))
 
   later-in-requires : lts.Need-later-in-requires (Q t) (at t) value-of.Post
@@ -183,16 +173,6 @@ module _ (t : ℕ) where
       let w = one .before .before in
       let u = tells w .second (operates one) (λ z. c .before .if2 .left (one .before .kind-in .ensures ∙ z)) in
       rw (c .later-in .ensures) (omega (arith, u), part (asked (w .before)) u)
-
-  -- the value of the second operand
-  second-value :
-      (c : lts.After-operand2 (Q t) (at t) value-of.Post) →
-      let w = c .before .before .before .before .before .before .before in
-      c .operand2 .result
-      ≡ value (expressionOf (w .before .args .program .now) (laterIn (w .expression-at .result))) (w .before .args .values .now)
-  second-value c =
-      let args = c .before .before .before .before .before .before .before .before .args in
-      c .operand2 .ensures ∙ ap (λ j. value (expressionOf (args .program .now) j) (args .values .now)) (c .before .later-in .ensures)
 
   operate-requires : lts.Need-operate-requires (Q t) (at t) value-of.Post
   operate-requires c κs = tt
@@ -207,7 +187,9 @@ module _ (t : ℕ) where
       let at : ℕ → ℤ = λ j. value (expressionOf (w .before .args .program .now) j) (w .before .args .values .now) in
       given-back (c .operate .ok)
       (c .operate .ensures
-      ∙ ap₂ (applied (kind .result)) (given-back (one .operand .ok) (first-value one)) (given-back (two .operand2 .ok) (second-value two))
+      ∙ ap₂ (applied (kind .result))
+      (given-back (one .operand .ok) (rw (one .before .operand-in .ensures) at (one .operand .ensures)))
+      (given-back (two .operand2 .ok) (rw (two .before .later-in .ensures) at (two .operand2 .ensures)))
       ∙ ap (λ k. applied k (at (operandIn (w .expression-at .result))) (at (laterIn (w .expression-at .result)))) (kind .ensures)
       ∙ tells w .binary (operates test) (λ z. two .before .before .if2 .left (kind .ensures ∙ z)))
 

@@ -1,9 +1,12 @@
 -- `some_signal_present`: of the names passed none is a signal that is present.
-use mathlib.Core.Path.{sym, _∙_}
+use mathlib.Core.Path.{sym, ap, ap₂, _∙_}
+use mathlib.Core.Bool.{_&&_}
+use mathlib.Core.Logic.{⊎-elim}
 use Prim.Native.Nat.{_-_, _≤_}
 use native.Mathlib.Omega.{arith}
 use borrow.Author.Count.{below-none, below-more}
 use Rattle.prelude.proofs.Searches.{NoneBelow, past, any-some, any-none}
+use Rattle.language.specs.Steps.{present}
 use Rattle.program.specs.Program.{namesOf}
 use Rattle.instants.specs.Contracts.{isPresentSignal}
 use borrow.Author.Needs.{needs}
@@ -19,11 +22,17 @@ abbrev μ-loop : tie.MeasureT-loop
 loop-holds : tie.Need-loop-holds Inv-loop μ-loop
 loop-holds c = (search needs, below-none _)
 
-is-present-signal-requires : tie.Need-is-present-signal-requires Inv-loop μ-loop
-is-present-signal-requires c κs = search needs
+is-signal-requires : tie.Need-is-signal-requires Inv-loop μ-loop
+is-signal-requires c κs = omega arith
+
+is-present-requires : tie.Need-is-present-requires Inv-loop μ-loop
+is-present-requires c κs = search needs
 
 returns : tie.Need-returns Inv-loop μ-loop
-returns c = sym (any-some _ _ _ (c .before .before .loop-test .taken) (sym (c .before .is-present-signal .ensures) ∙ c .if1 .taken))
+returns c =
+    let signal = sym (c .before .before .before .is-signal .ensures) ∙ c .before .before .if1 .taken in
+    let shown = sym (c .before .is-present .ensures) ∙ c .if2 .taken in
+    sym (any-some _ _ _ (c .before .before .before .before .loop-test .taken) (ap₂ (λ a b. a && b) signal shown))
 
 add-x : tie.Need-add-x Inv-loop μ-loop
 add-x c = search needs
@@ -32,10 +41,16 @@ loop-less : tie.Need-loop-less Inv-loop μ-loop
 loop-less c = search needs
 
 loop-again : tie.Need-loop-again Inv-loop μ-loop
-loop-again c = (
-  search needs,
-  below-more _ _ (c .before .before .before .loop .inv .1) (sym (c .before .is-present-signal .ensures) ∙ c .if1 .left),
-)
+loop-again c =
+    let signal = sym (c .before .is-signal .ensures) in
+    let turn = c .before .before .before in (
+      search needs,
+      below-more _ _ (turn .loop .inv .1)
+          (⊎-elim
+          (λ w. ap₂ (λ a b. a && b) (signal ∙ w .0 .taken) (sym (w .1 .ensures) ∙ w .2 .left))
+          (λ w. ap (λ b. b && present (turn .before .args .values .now) (turn .loop .x)) (signal ∙ w .left))
+          (c .if1 .came)),
+    )
 
 returns-2 : tie.Need-returns-2 Inv-loop μ-loop
 returns-2 c =
@@ -48,7 +63,8 @@ some-signal-present-spec =
     Inv-loop
     μ-loop
     loop-holds
-    is-present-signal-requires
+    is-signal-requires
+    is-present-requires
     returns
     add-x
     loop-less

@@ -11,10 +11,11 @@ use Rattle.fields.specs.Fields.{firstChild, secondChild}
 use Rattle.language.specs.Shapes.{size, watches}
 use Rattle.tree.specs.Tree.{processOf}
 use Rattle.layout.proofs.Layouts.{few-bounds, nodes-are, part-within}
+use Rattle.tree.proofs.Views.{kind-below}
 use Rattle.tree.proofs.NodeSizes.{size-within}
-use Rattle.plan.proofs.Reading.{node-read, kind-known}
+use Rattle.plan.proofs.Reading.{node-read}
 use Rattle.plan.proofs.Watching.{watches-told}
-use Rattle.packing.proofs.Words.{mark-fits}
+use Rattle.packing.proofs.Words.{bit-small}
 use Rattle.plan.proofs.Plans.{forms-fit, node-packed}
 use borrow.Author.Needs.{needs}
 use Rattle.plan.proofs.node_word.Statement.{statement}
@@ -56,7 +57,7 @@ kind : (c : tie.After-part-at) → c .part-at .result .kind < 11
 kind c =
     let start = c .before .before .before in
     subst (λ (p : Part). p .kind < 11) (sym (read c))
-    (kind-known (start .args .s .now) (start .pre .checked) (start .args .k) (omega (arith, start .pre .known, nodes-are (start .pre .laid))))
+    (kind-below (start .args .s .now) (start .pre .checked) (start .args .k) (omega (arith, start .pre .known, nodes-are (start .pre .laid))))
 
 few : (c : tie.Start) → c .args .k < mostNodes
 few c = omega (arith, c .pre .known, few-bounds (c .args .c) (c .pre .laid .few) .1 .1 .1)
@@ -80,13 +81,14 @@ forms-of-requires : tie.Need-forms-of-requires
 forms-of-requires c κs = kind (c .before .before .before .before .before .before .before .before)
 
 pack-node-requires : tie.Need-pack-node-requires
-pack-node-requires c κs = (
-  rw (c .forms-of .ensures) (forms-fit _ (kind (c .before .before .before .before .before .before .before .before .before))),
-  (
-    omega (arith, c .before .before .before .pack-fields .ensures),
-    rw (c .before .mark .ensures) (mark-fits _ (omega (arith, kind (c .before .before .before .before .before .before .before .before .before))) (c .before .before .has-watching .result)),
-  ),
-)
+pack-node-requires c κs =
+    let known = kind (c .before .before .before .before .before .before .before .before .before) in (
+      rw (c .forms-of .ensures) (forms-fit _ known),
+      (
+        omega (arith, c .before .before .before .pack-fields .ensures),
+        omega (arith, c .before .mark .ensures, bit-small (c .before .before .has-watching .result), known),
+      ),
+    )
 
 -- the mark, by the words of the nodes before
 marks :
@@ -110,7 +112,7 @@ returns c =
     let parts = c .before .before .before .before .before .before .before .before .before .children-of .ensures in
     let read-first = ap firstChild (read (c .before .before .before .before .before .before .before .before .before .before)) in
     rw (c .pack-node .ensures, c .before .forms-of .ensures, c .before .before .mark .ensures, c .before .before .before .before .pack-fields .ensures, read (c .before .before .before .before .before .before .before .before .before .before))
-    (node-packed s k (kind-known s ok k known) (omega (arith, few start)) _ _ _ _
+    (node-packed s k (kind-below s ok k known) (omega (arith, few start)) _ _ _ _
     (omega (arith, parts .0, read-first)) (field-is (c .before .before .before .before .before .before .before))
     (λ h.
     let e =

@@ -14,7 +14,7 @@ use Rattle.residual.specs.Nodes.{NodeIn, inFront, inRear, left}
 use Rattle.residual.proofs.Sights.{signalAt}
 use Rattle.residual.proofs.Residuals.{some-bytes}
 use Rattle.instants.specs.Contracts.{RearAsked, RearWaits}
-use Rattle.instants.proofs.Deciding.{Found, found-in, Part, front-part, rear-part, rear-found, stays, signal-known, shuts, moving-rear, waiting-rear}
+use Rattle.instants.proofs.Deciding.{Found, found-in, Part, front-part, rear-part, rear-found, stays, signal-known, shuts, rear-decides}
 use borrow.Fn.Kinds.{In}
 use borrow.Fn.PlainCycle.{Measures, is, falls, and}
 use Rattle.instants.proofs.suspension.is_suspended.Reads as is-suspended
@@ -141,7 +141,7 @@ module _ (t : ℕ) where
   returns-3 c =
       let start = c .before .before .before .before .before .before .before in
       sym
-      (moving-rear (found start) (some-part (c .before .before .before)) (shown (c .before .before))
+      (rear-decides (found start) (some-part (c .before .before .before)) (shown (c .before .before))
       (waits (c .before) (not-true _ (c .if4 .taken))))
 
   find-front-requires : lts.Need-find-front-requires (R t) (at t) is-suspended.Post
@@ -168,7 +168,9 @@ module _ (t : ℕ) where
       let args = start .args in
       c .is-suspended .ensures
       ∙ ap (λ (f : Front). suspended (left (args .program .now) (f .child) (partIn f (args .state .now))) (args .values .now)) (c .before .before .find-front .ensures)
-      ∙ waiting-rear (found start) (some-part (rear .before .before)) (shown (rear .before)) (waits rear (not-false _ (c .before .before .before .if4 .left)))
+      ∙ sym
+      (rear-decides (found start) (some-part (rear .before .before)) (shown (rear .before))
+      (waits rear (not-false _ (c .before .before .before .if4 .left))))
 
 module _ (t : ℕ) where
   -- the other part of a parallel

@@ -20,11 +20,8 @@ returns c = sym (front-none _ _ _ (c .before .before .args .len) (c .before .for
 word-at-requires : tie.Need-word-at-requires
 word-at-requires c κs = search needs
 
-size-in-requires : tie.Need-size-in-requires
-size-in-requires c κs = search needs
-
-add-middle : tie.Need-add-middle
-add-middle c = search needs
+middle-in-requires : tie.Need-middle-in-requires
+middle-in-requires c κs = search needs
 
 b-in-requires : tie.Need-b-in-requires
 b-in-requires c κs = search needs
@@ -57,8 +54,7 @@ find-front-spec =
     form-at-requires
     returns
     word-at-requires
-    size-in-requires
-    add-middle
+    middle-in-requires
     b-in-requires
     returns-2
     first-in-requires

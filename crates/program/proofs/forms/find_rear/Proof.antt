@@ -8,18 +8,15 @@ use Rattle.program.proofs.forms.find_rear.Tie as tie
 word-at-requires : tie.Need-word-at-requires
 word-at-requires c κs = search needs
 
-size-in-requires : tie.Need-size-in-requires
-size-in-requires c κs = search needs
-
-add-middle : tie.Need-add-middle
-add-middle c = search needs
+middle-in-requires : tie.Need-middle-in-requires
+middle-in-requires c κs = search needs
 
 b-in-requires : tie.Need-b-in-requires
 b-in-requires c κs = search needs
 
 returns : tie.Need-returns
 unfolding rearOf
-returns c = rw (eq-eqb _ beside (c .before .if1 .taken)) (cc (c .b-in .ensures, c .before .before .size-in .ensures, c .before .before .before .word-at .ensures))
+returns c = rw (eq-eqb _ beside (c .before .if1 .taken)) (cc)
 
 first-in-requires : tie.Need-first-in-requires
 first-in-requires c κs = search needs
@@ -33,8 +30,7 @@ find-rear-spec =
     tie.close
     (tie.spec
     word-at-requires
-    size-in-requires
-    add-middle
+    middle-in-requires
     b-in-requires
     returns
     first-in-requires
