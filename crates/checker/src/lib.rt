@@ -2,7 +2,7 @@
 use book::Book;
 use layout::Script;
 use prelude::Refusal;
-use table::PairTable;
+use pairs::table::PairTable;
 ghost use mathlib.Core.Path.{_≡_};
 ghost use Prim.Native.Nat.{_≤_};
 ghost use Rattle.book.specs.Load.{bookOf};

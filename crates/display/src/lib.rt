@@ -2,8 +2,8 @@
 // bytes that are written down in hexadecimal.
 pub mod hex; // hex.rt: lines of hexadecimal digits
 
-use answers::Report;
-use answers::Verdict;
+use results::Report;
+use results::Verdict;
 use libc::STDOUT_FILENO;
 
 pub fn say(text: &[u8]) {

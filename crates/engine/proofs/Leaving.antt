@@ -23,7 +23,7 @@ use Rattle.language.proofs.Stopping.{run-few}
 use Rattle.layout.specs.declared.Script.{Script}
 use Rattle.layout.specs.Layout.{layoutOf, nameCount}
 use Rattle.layout.specs.Entries.{nameOf}
-use Rattle.reach.specs.Checked.{Checked, Levelled}
+use Rattle.scope.specs.Checked.{Checked, Levelled}
 use Rattle.script.proofs.Theorems.{accepted-exactly}
 use Rattle.tree.specs.Tree.{namesOf, tree}
 use Rattle.moves.specs.Contracts.{mostSteps}
@@ -31,10 +31,10 @@ use Rattle.runner.specs.declared.Ran.{Ran}
 use Rattle.plan.specs.Plan.{seesIn}
 use Rattle.runner.proofs.Outcomes.{written-is}
 use Rattle.checker.specs.Refusals.{checkRefusal}
-use Rattle.call.specs.Refusals.{callRefusal, runRefusal}
-use Rattle.call.proofs.Passing.{run-accepted, run-bounds}
-use Rattle.call.proofs.Writes.{tree-writes}
-use Rattle.answers.specs.Reports.{reportBy}
+use Rattle.arguments.specs.Refusals.{callRefusal, runRefusal}
+use Rattle.arguments.proofs.Passing.{run-accepted, run-bounds}
+use Rattle.arguments.proofs.Writes.{tree-writes}
+use Rattle.results.specs.Reports.{reportBy}
 use Rattle.engine.specs.Answers.{runOf, Left, leftBy, refusedLeft, left}
 use Rattle.engine.specs.Contracts.{CanStart, runFor, Returns}
 

@@ -12,11 +12,11 @@ use Rattle.language.specs.Calls.{Stop, starts, givenBack, reach, run}
 use Rattle.language.proofs.Naming.{run-alike}
 use Rattle.layout.specs.Layout.{layoutOf, nameCount, nodeCount}
 use Rattle.layout.proofs.Layouts.{few-bounds}
-use Rattle.reach.specs.Checked.{Checked}
+use Rattle.scope.specs.Checked.{Checked}
 use Rattle.tree.specs.Tree.{namesOf, tree}
 use Rattle.program.specs.Program as program
 use Rattle.plan.specs.Plan.{ProgramOf}
-use Rattle.call.proofs.Writes.{tree-writes}
+use Rattle.arguments.proofs.Writes.{tree-writes}
 use Rattle.residual.specs.Nodes.{left}
 use Rattle.residual.proofs.Residuals.{zeros}
 use Rattle.moves.specs.declared.counts.Counts.{Counts}

@@ -12,11 +12,11 @@ use Rattle.language.specs.Calls.{Run, starts, readable, run}
 use Rattle.tree.specs.Tree.{namesOf, tree}
 use Rattle.runner.specs.Outcome.{words}
 use Rattle.runner.specs.Contracts.{endingNumber}
-use Rattle.answers.specs.declared.Verdict.{Verdict}
-use Rattle.answers.specs.declared.Report.{Report}
-use Rattle.answers.specs.Reports.{verdictBy, refusedReport, reportBy}
+use Rattle.results.specs.declared.Verdict.{Verdict}
+use Rattle.results.specs.declared.Report.{Report}
+use Rattle.results.specs.Reports.{verdictBy, refusedReport, reportBy}
 use Rattle.checker.specs.Refusals.{checkRefusal}
-use Rattle.call.specs.Refusals.{runRefusal}
+use Rattle.arguments.specs.Refusals.{runRefusal}
 
 -- 'Check returns number, place, W, T.' 'A refusal's other returned numbers are 0; 0 means not refused.'
 unfoldable pub verdict : List ℕ → List ℕ → Verdict

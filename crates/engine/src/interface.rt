@@ -1,10 +1,10 @@
 // The two calls for C. A slice is a pointer and then a length in elements. An `out` of another length than 4 or 6 is left
 // untouched, and nothing else happens.
-use answers::words::put_report;
-use answers::words::put_verdict;
+use results::words::put_report;
+use results::words::put_verdict;
 ghost use mathlib.Core.Path.{_≡_};
 ghost use Rattle.engine.specs.Answers.{verdict, left};
-ghost use Rattle.answers.specs.Words.{verdictWords, reportWords};
+ghost use Rattle.results.specs.Words.{verdictWords, reportWords};
 ghost use Rattle.engine.specs.Interface.{whereAsked};
 
 // `out` becomes number, place, W, T.

@@ -1,10 +1,10 @@
 // The two calls on a level book and a script file. They take any bytes and numbers.
 pub mod interface; // interface.rt: the calls for C
 
-use answers::Report;
-use answers::Verdict;
-use answers::refused;
-use answers::report_of;
+use results::Report;
+use results::Verdict;
+use results::refused;
+use results::report_of;
 use book::Book;
 use layout::Script;
 use moves::counts::Counts;
@@ -71,7 +71,7 @@ pub fn run(
     if p.refusal.number != 0 {
         return refused(p.refusal);
     }
-    let refusal = call::call_refusal(script, p.script, p.book.count, reader, values, limit);
+    let refusal = arguments::call_refusal(script, p.script, p.book.count, reader, values, limit);
     if refusal.number != 0 {
         return refused(refusal);
     }

@@ -4,7 +4,7 @@ use mathlib.Core.List.{List}
 use Prim.Native.Nat.{ℕ, _≤_, _<_}
 use native.Mathlib.Omega.{arith}
 use lib.IntN.{ℤ}
-use Rattle.arithmetic.specs.Values.{negation}
+use Rattle.values.specs.Values.{negation}
 use Rattle.language.specs.Steps.{evaluate, value}
 use Rattle.packing.specs.Packing.{kindIn, operandIn, laterIn}
 use Rattle.program.specs.Program.{nameCount, expressionWord, expressionOf}

@@ -30,7 +30,7 @@ fn leaf_value(values: &[i32], w: usize) -> i32
     ensures { λ r. ⌜ r ≡ leafValue (now (values .entry)) w ⌝ }
 {
     if packing::kind_in(w) == kinds::CONSTANT {
-        return signed::value_of_word(packing::constant_in(w) as u32);
+        return values::words::value_of_word(packing::constant_in(w) as u32);
     }
     let x = packing::operand_in(w);
     values[x]
@@ -41,21 +41,21 @@ fn operate(kind: usize, a: i32, b: i32) -> i32
     ensures { λ r. ⌜ r ≡ applied kind a b ⌝ }
 {
     if kind == kinds::ADD {
-        return arithmetic::add(a, b);
+        return values::arithmetic::add(a, b);
     }
     if kind == kinds::SUBTRACT {
-        return arithmetic::subtract(a, b);
+        return values::arithmetic::subtract(a, b);
     }
     if kind == kinds::MULTIPLY {
-        return arithmetic::multiply(a, b);
+        return values::arithmetic::multiply(a, b);
     }
     if kind == kinds::DIVIDE {
-        return arithmetic::divide(a, b);
+        return values::arithmetic::divide(a, b);
     }
     if kind == kinds::LESS {
-        return comparison::less(a, b);
+        return values::comparison::less(a, b);
     }
-    comparison::equal(a, b)
+    values::comparison::equal(a, b)
 }
 
 // The value of expression e as an operand. Most operands are constants and registers: they need no further call.
@@ -82,7 +82,7 @@ pub fn value_of(program: &[usize; WORDS], values: &[i32], e: usize) -> i32
     }
     let a = operand(program, values, packing::operand_in(w));
     if kind == kinds::NOT {
-        return comparison::not(a);
+        return values::comparison::not(a);
     }
     let b = operand(program, values, packing::later_in(w));
     operate(kind, a, b)

@@ -1,7 +1,7 @@
 // Level books: the levels, the bottom and the top, the tables of joins and meets.
 use crate::say;
 use book::Book;
-use table::PairTable;
+use pairs::table::PairTable;
 ghost use Prim.Native.Nat.{_<_, _≤_};
 ghost use Rattle.book.specs.LevelBook.{mostLevels};
 
@@ -11,7 +11,7 @@ fn say_row(t: &PairTable, n: usize, i: usize)
 {
     let mut j: usize = 0;
     while j < n {
-        say(b" ", table::level_at(t, i, j));
+        say(b" ", pairs::table::level_at(t, i, j));
         j += 1;
     }
     display::say_byte(b'\n');

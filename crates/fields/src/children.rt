@@ -1,6 +1,6 @@
 // The children of a node, by the table of roles.
 use crate::roles;
-use layout::entries::Part;
+use layout::parts::Part;
 ghost use mathlib.Core.Path.{_≡_};
 ghost use Rattle.fields.specs.Fields.{firstChild, secondChild};
 

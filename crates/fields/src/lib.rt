@@ -5,7 +5,7 @@ pub mod children; // children.rt: the children of a node
 use crate::roles::expression_role;
 use crate::roles::node_role;
 use layout::Script;
-use layout::entries::word_at;
+use layout::parts::word_at;
 ghost use mathlib.Core.Path.{_≡_};
 ghost use Prim.Native.Nat.{_+_, _<_};
 ghost use Rattle.layout.specs.Layout.{Laid};

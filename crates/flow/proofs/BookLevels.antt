@@ -8,7 +8,7 @@ use native.Mathlib.Omega.{arith}
 use Rattle.prelude.specs.Search.{lesser}
 use Rattle.prelude.proofs.Bools.{by-cases}
 use Rattle.book.specs.LevelBook.{mostLevels, atOrBelow}
-use Rattle.table.specs.Table.{kept}
+use Rattle.pairs.specs.Table.{kept}
 use Rattle.lattice.proofs.Theorems.{as-level-own}
 use Rattle.levels.specs.declared.Flow.{Flow}
 use Rattle.levels.specs.declared.Own.{Own}

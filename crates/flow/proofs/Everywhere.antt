@@ -17,7 +17,7 @@ use Rattle.layout.specs.Layout.{layoutOf, nodeCount}
 use Rattle.layout.specs.Entries.{partOf, node}
 use Rattle.fields.specs.Fields.{firstChild, secondChild}
 use Rattle.tree.specs.Tree.{namesOf, processOf, tree}
-use Rattle.reach.specs.Checked.{Checked}
+use Rattle.scope.specs.Checked.{Checked}
 use Rattle.layout.proofs.Layouts.{few-bounds}
 use Rattle.fields.specs.Roles.{childCount}
 use Rattle.levels.specs.Kinds.{childrenOf}

@@ -4,12 +4,12 @@ use mathlib.Core.Path.{_≡_, sym, ap, ap₂, _∙_, subst}
 use mathlib.Core.List.{List}
 use Prim.Native.Nat.{ℕ, _<_}
 use native.Mathlib.Omega.{arith}
-use Rattle.table.specs.Table.{kept}
+use Rattle.pairs.specs.Table.{kept}
 use Rattle.lattice.specs.Lattice.{Lattice}
 use Rattle.language.specs.Levels.{expLevel}
 use Rattle.layout.specs.declared.Script.{Script}
-use Rattle.layout.specs.declared.entries.Name.{Name}
-use Rattle.layout.specs.declared.entries.Part.{Part}
+use Rattle.layout.specs.declared.parts.Name.{Name}
+use Rattle.layout.specs.declared.parts.Part.{Part}
 use Rattle.layout.specs.Layout.{nameCount}
 use Rattle.layout.specs.Entries.{nameOf, partOf}
 use Rattle.tree.specs.Tree.{namesOf, expressionOf}

@@ -10,7 +10,7 @@ use lib.Dec.{eqb}
 use Rattle.prelude.specs.Search.{lesser}
 use Rattle.prelude.proofs.Bools.{by-cases}
 use Rattle.book.specs.LevelBook.{atOrBelow}
-use Rattle.table.specs.Table.{kept}
+use Rattle.pairs.specs.Table.{kept}
 use Rattle.language.specs.Syntax.{Proc}
 use Rattle.language.specs.Levels.{writeLevel, testLevel}
 use Rattle.layout.specs.declared.Script.{Script}

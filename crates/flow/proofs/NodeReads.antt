@@ -6,8 +6,8 @@ use mathlib.Core.List.{List}
 use Prim.Native.Nat.{ℕ, _<_}
 use native.Mathlib.Omega.{arith}
 use Rattle.book.specs.LevelBook.{mostLevels, atOrBelow}
-use Rattle.table.specs.Table.{kept}
-use Rattle.layout.specs.declared.entries.Part.{Part}
+use Rattle.pairs.specs.Table.{kept}
+use Rattle.layout.specs.declared.parts.Part.{Part}
 use Rattle.layout.specs.Entries.{partOf, node}
 use Rattle.fields.specs.Fields.{firstChild, secondChild}
 use Rattle.layout.specs.Layout.{layoutOf}

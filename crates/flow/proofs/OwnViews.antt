@@ -7,8 +7,8 @@ use Prim.Native.Nat.{ℕ, _<_}
 use native.Mathlib.Omega.{arith}
 use Rattle.lattice.specs.Lattice.{Lattice}
 use Rattle.layout.specs.declared.Script.{Script}
-use Rattle.layout.specs.declared.entries.Name.{Name}
-use Rattle.layout.specs.declared.entries.Part.{Part}
+use Rattle.layout.specs.declared.parts.Name.{Name}
+use Rattle.layout.specs.declared.parts.Part.{Part}
 use Rattle.layout.specs.Layout.{nameCount, expressionCount}
 use Rattle.layout.specs.Entries.{nameOf, partOf, node}
 use Rattle.tree.specs.Tree.{namesOf, processOf}

@@ -5,13 +5,13 @@ use mathlib.Core.Bool.{cond}
 use mathlib.Core.List.{List, [], _∷_}
 use Prim.Native.Nat.{ℕ, _<_}
 use lib.Dec.{eqb}
-use Rattle.layout.specs.declared.entries.Part.{Part}
+use Rattle.layout.specs.declared.parts.Part.{Part}
 use Rattle.layout.specs.Layout.{nodeCount}
 use Rattle.fields.specs.Roles.{nodeRows, roleIn, child, childCount}
 use Rattle.layout.specs.Entries.{partOf, node}
 use Rattle.fields.specs.Fields.{firstChild, secondChild}
 use Rattle.tree.specs.Tree.{processOf}
-use Rattle.reach.specs.Checked.{Checked}
+use Rattle.scope.specs.Checked.{Checked}
 use Rattle.tree.proofs.Views.{NodeView, aNil, anAssign, aLet, anIf, aWhile, aSequence, anEmit, aLocal, aWatching, aWhen, aParallel, node-view}
 use Rattle.levels.specs.Kinds.{kindOf, childrenOf}
 

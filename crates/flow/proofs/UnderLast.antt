@@ -16,11 +16,11 @@ use Rattle.fields.specs.Roles.{nodeRows, roleIn, expression, child, childCount}
 use Rattle.layout.specs.Entries.{partOf, node}
 use Rattle.fields.specs.Fields.{fieldCount, fieldOf, valueOf}
 use Rattle.uses.specs.Uses.{usedBy, used}
-use Rattle.reach.specs.Checked.{Checked}
+use Rattle.scope.specs.Checked.{Checked}
 use Rattle.layout.proofs.Layouts.{few-parts}
-use Rattle.faults.proofs.Holding.{holds-expression, right-field}
+use Rattle.entries.proofs.Holding.{holds-expression, right-field}
 use Rattle.uses.proofs.Used.{used-of}
-use Rattle.reach.proofs.Joining.{used-earlier, user}
+use Rattle.scope.proofs.Joining.{used-earlier, user}
 use Rattle.tree.proofs.Views.{NodeView, aNil, anAssign, aLet, anIf, aWhile, aSequence, anEmit, aLocal, aWatching, aWhen, aParallel, node-view, role}
 use Rattle.flow.specs.Flow.{Under, itself, inFirst, inSecond}
 use Rattle.flow.proofs.Shapes.{firstIn, secondIn, first-is, second-is}

@@ -8,16 +8,16 @@ use Rattle.book.specs.declared.Book.{Book}
 use Rattle.order.specs.Order as orders
 use Rattle.order.specs.Order.{Relation, leastUpper, greatestLower, LevelLattice}
 use Rattle.book.specs.LevelBook.{mostLevels, atOrBelow}
-use Rattle.table.specs.Table.{Keeps}
+use Rattle.pairs.specs.Table.{Keeps}
 use Rattle.lattice.specs.Lattice.{Lattice, latticeOf}
 use Rattle.language.specs.Levels.{expLevel, writeLevel, testLevel, need}
 use Rattle.layout.specs.declared.Script.{Script}
-use Rattle.layout.specs.declared.entries.Part.{Part}
+use Rattle.layout.specs.declared.parts.Part.{Part}
 use Rattle.layout.specs.Layout.{expressionsAt, expressionCount, nodeCount, layoutOf, Laid}
 use Rattle.layout.specs.Entries.{partOf, node}
 use Rattle.fields.specs.Fields.{firstChild, secondChild}
 use Rattle.tree.specs.Tree.{namesOf, expressionOf, processOf, tree}
-use Rattle.reach.specs.Checked.{Checked, Levelled}
+use Rattle.scope.specs.Checked.{Checked, Levelled}
 use Rattle.levels.specs.declared.Flow.{Flow}
 use Rattle.levels.specs.declared.Own.{Own}
 use Rattle.fields.specs.Roles.{childCount}

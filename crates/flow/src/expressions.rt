@@ -1,9 +1,9 @@
 // The level of an expression.
 use crate::kinds;
-use layout::entries::name_at;
-use layout::entries::part_at;
-use table::PairTable;
-use table::level_at;
+use layout::parts::name_at;
+use layout::parts::part_at;
+use pairs::table::PairTable;
+use pairs::table::level_at;
 ghost use Prim.Native.Nat.{_<_};
 ghost use Rattle.layout.specs.Layout.{expressionCount};
 ghost use Rattle.flow.specs.Flow.{Levels, Reads, LevelAt};

@@ -7,7 +7,7 @@ mod walk; // walk.rt: the walk over the nodes
 use book::Book;
 use layout::Script;
 use levels::Flow;
-use table::PairTable;
+use pairs::table::PairTable;
 ghost use Rattle.flow.specs.Flow.{levelsOf, Ready, Joins, Meets, FlowOf};
 
 // The write level and the test level of a checked script, and the smallest node whose need fails, or the number of

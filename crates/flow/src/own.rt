@@ -1,11 +1,11 @@
 // What a node brings itself.
 use crate::expressions::level_of;
-use layout::entries::Part;
-use layout::entries::name_at;
+use layout::parts::Part;
+use layout::parts::name_at;
 use levels::Own;
 use levels::kinds;
 use levels::kinds::is_either;
-use table::PairTable;
+use pairs::table::PairTable;
 ghost use Rattle.flow.specs.Flow.{Levels, Reads, IsNode, OwnOf};
 
 // What the node of part p brings itself.

@@ -3,9 +3,9 @@ use crate::own;
 use book::Book;
 use fields::children::children_of;
 use fields::roles::child_count;
-use layout::entries::part_at;
+use layout::parts::part_at;
 use levels::Flow;
-use table::PairTable;
+use pairs::table::PairTable;
 ghost use Prim.Native.Nat.{_<_};
 ghost use Rattle.flow.specs.Flow.{Levels, Walks, FlowAt};
 

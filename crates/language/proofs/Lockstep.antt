@@ -9,7 +9,7 @@ use mathlib.Core.List.{List}
 use mathlib.Core.Logic.{_⊎_, inl, inr, ⊎-map}
 use lib.IntN.{ℤ}
 use Rattle.prelude.proofs.Bools.{by-cases, by-both}
-use Rattle.arithmetic.specs.Values.{holds, negation}
+use Rattle.values.specs.Values.{holds, negation}
 use Rattle.language.specs.Syntax.{Names, Exp, constant, register, binary, negated, Occurs, here, left, right, under, Proc, nil, assign, letIn, ifThenElse, while, sequence, emit, local, watching, when, parallel, isNil}
 use Rattle.language.specs.Steps.{held, present, apply, evaluate, value, test, Output, silent, assigned, emitted, Outcome, inside, suspended, move, change, step}
 use Rattle.language.specs.Calls.{Line, System, lineFor, calledFor, output, next}

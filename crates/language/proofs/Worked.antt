@@ -3,7 +3,7 @@ use mathlib.Core.Path.{refl}
 use Rattle.prelude.specs.Search.{firstFrom, first, any, all}
 use Rattle.prelude.specs.Table.{table}
 use Rattle.order.specs.Order.{leastUpper, top}
-use Rattle.arithmetic.specs.Values.{clamped, quotient}
+use Rattle.values.specs.Values.{clamped, quotient}
 use Rattle.language.specs.Syntax.{isNil}
 use Rattle.language.specs.Levels.{expLevel, writeLevel, testLevel, need, needs}
 use Rattle.language.specs.Steps.{evaluate, value, suspended, move, change, instantStart, step}

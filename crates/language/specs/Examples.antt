@@ -7,7 +7,7 @@ use mathlib.Core.Path.{_≡_}
 use lib.Dec.{eqb, ltb, leb}
 use lib.IntN.{ℤ, pos, negsuc}
 use Rattle.lattice.specs.Lattice.{Lattice, bookLattice}
-use Rattle.arithmetic.specs.Values.{sum, quotient}
+use Rattle.values.specs.Values.{sum, quotient}
 use Rattle.language.specs.Syntax.{Names, Exp, constant, register, Proc, nil, assign, letIn, ifThenElse, while, sequence, emit, local, watching, when, parallel}
 use Rattle.language.specs.Levels.{writeLevel, testLevel, needs}
 use Rattle.language.specs.Calls.{Line, Ending, finished, spent, logFull, Run, starts, readable, run}

@@ -5,7 +5,7 @@ use mathlib.Core.List.{List}
 use lib.IntN.{ℤ, pos}
 use lib.ListN.{getD, set, length}
 use Rattle.prelude.specs.Table.{table}
-use Rattle.arithmetic.specs.Values.{sum, difference, product, quotient, holds, lessThan, equalTo, negation}
+use Rattle.values.specs.Values.{sum, difference, product, quotient, holds, lessThan, equalTo, negation}
 use Rattle.language.specs.Syntax.{Names, Operator, add, subtract, multiply, divide, less, equal, Exp, constant, register, binary, negated, Proc, nil, assign, letIn, ifThenElse, while, sequence, emit, local, watching, when, parallel, isNil}
 
 -- The values: one number for each name. The report's store S is what its registers hold; a signal is in the report's

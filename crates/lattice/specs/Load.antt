@@ -7,7 +7,7 @@ use Rattle.book.specs.declared.Loaded.{Loaded}
 use Rattle.order.specs.Order.{leastUpper, greatestLower}
 use Rattle.book.specs.LevelBook.{count, rows, atOrBelow}
 use Rattle.book.specs.Load.{answer, noBook, bookOf}
-use Rattle.table.specs.Table.{Keeps}
+use Rattle.pairs.specs.Table.{Keeps}
 use Rattle.lattice.specs.Refusals.{refusal, isAccepted}
 
 -- "A refusal's other returned numbers are 0"

@@ -3,14 +3,14 @@
 use book::Book;
 use book::Loaded;
 use book::sets;
-use table::PairTable;
+use pairs::table::PairTable;
 ghost use mathlib.Core.Path.{_≡_};
 ghost use Prim.Native.Nat.{_≤_};
 ghost use Rattle.prelude.specs.Search.{all};
 ghost use Rattle.prelude.specs.Sets.{IsSet};
 ghost use Rattle.order.specs.Order.{top, bottom};
 ghost use Rattle.book.specs.LevelBook.{mostLevels, atOrBelow};
-ghost use Rattle.table.specs.Table.{Square};
+ghost use Rattle.pairs.specs.Table.{Square};
 ghost use Rattle.lattice.specs.Load.{Loads};
 
 // Checks a level book of any bytes. Where it is not refused, `join` and `meet` then keep the least common upper

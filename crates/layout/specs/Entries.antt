@@ -5,8 +5,8 @@ use mathlib.Core.Path.{_≡_}
 use Prim.Native.Nat.{ℕ, _+_, _*_, _≤_}
 use lib.Dec.{eqb, ltb}
 use lib.ListN.{getD, length}
-use Rattle.layout.specs.declared.entries.Name.{Name}
-use Rattle.layout.specs.declared.entries.Part.{Part}
+use Rattle.layout.specs.declared.parts.Name.{Name}
+use Rattle.layout.specs.declared.parts.Part.{Part}
 use Rattle.layout.specs.Layout.{wordAt, expressionsAt, nameCount, expressionCount}
 
 -- 'Name, 4 bytes: kind (0 register, 1 signal), level, owner.'

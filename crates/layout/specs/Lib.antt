@@ -2,3 +2,4 @@
 pub mod Layout
 pub mod Entries
 pub mod Files
+pub mod Places

@@ -1,5 +1,7 @@
 // The layout of a script file by value, the limits of 01, and the entries that stand in it.
-pub mod entries; // entries.rt: names, and the parts: expressions and nodes
+pub mod parts; // parts.rt: names, and the parts: expressions and nodes
+pub mod tail; // tail.rt: the layout from the tail, refusals 4 and 5
+pub mod places; // places.rt: refusals by number and place
 
 // The counts of a script file, and the offset of its parts: the expressions, then the nodes. Names start at 0.
 pub struct Script {

@@ -3,12 +3,12 @@ pub mod kinds; // kinds.rt: the kinds of nodes that the levels tell apart
 
 use crate::kinds::is_either;
 use book::Book;
-use table::PairTable;
-use table::level_at;
+use pairs::table::PairTable;
+use pairs::table::level_at;
 ghost use mathlib.Core.Path.{_≡_};
 ghost use Prim.Native.Nat.{_<_};
 ghost use Rattle.book.specs.LevelBook.{mostLevels, atOrBelow};
-ghost use Rattle.table.specs.Table.{kept};
+ghost use Rattle.pairs.specs.Table.{kept};
 ghost use Rattle.levels.specs.Nodes.{OwnWithin, FlowWithin, writeFrom, testFrom, bothFrom, ownNeed, pairNeed, flowFrom, PairWithin, pairFrom};
 
 // What a node brings itself: D, which is the level of its expression or signal, and the level of its name. What it has

@@ -35,7 +35,7 @@ pub fn note(program: &[usize; WORDS], log: &mut [u32], at: Counts, x: usize, val
     if log.len() / 4 <= lines {
         return Noted { fits: false, lines };
     }
-    let word = signed::word_of(value);
+    let word = values::words::word_of(value);
     let step = (at.steps + 1) as u32;
     put_line(log, 4 * lines, step, at.instants as u32, x as u32, word);
     Noted {

@@ -16,7 +16,7 @@ use Rattle.book.specs.LevelBook.{mostLevels, atOrBelow}
 use Rattle.order.specs.Rows.{InOrder, converseRows}
 use Rattle.order.proofs.Duals.{dual, upside-down}
 use Rattle.pairs.specs.Refusals.{lacksUpper, firstLacking}
-use Rattle.table.specs.Table.{kept, Keeps}
+use Rattle.pairs.specs.Table.{kept, Keeps}
 use Rattle.pairs.specs.Bounds.{Swept, Paired}
 use Rattle.pairs.proofs.Orders.{least-swap, least-own}
 use Rattle.pairs.proofs.Sweeps.{swept-same}

@@ -7,7 +7,7 @@ use native.Mathlib.Decide.{ℕ-discrete}
 use native.Mathlib.Omega.{arith}
 use lib.ListN.{getD, set, length, length-set, replicate, length-replicate, getD-replicate}
 use lib.Seq.{getD-set-same, getD-set-other}
-use Rattle.table.specs.Table.{kept, Square}
+use Rattle.pairs.specs.Table.{kept, Square}
 
 -- the table after `t[i][j] = v`
 abbrev pub put : List (List ℕ) → ℕ → ℕ → ℕ → List (List ℕ)

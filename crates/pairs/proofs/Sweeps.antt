@@ -12,7 +12,7 @@ use Rattle.prelude.proofs.Searches.{first-is, first-none, first-same, any-same}
 use Rattle.order.specs.Order.{Relation, missed, isLeastUpper, leastUpper}
 use Rattle.book.specs.LevelBook.{mostLevels}
 use Rattle.pairs.specs.Refusals.{lacksUpper}
-use Rattle.table.specs.Table.{kept, Square}
+use Rattle.pairs.specs.Table.{kept, Square}
 use Rattle.pairs.specs.Bounds.{Swept}
 use Rattle.pairs.proofs.Stores.{put, put-same, put-other, put-square}
 

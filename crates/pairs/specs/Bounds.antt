@@ -6,7 +6,7 @@ use Prim.Native.Nat.{ℕ, _<_, _*_}
 use Rattle.prelude.specs.Search.{first}
 use Rattle.order.specs.Order.{Relation, leastUpper, greatestLower}
 use Rattle.book.specs.LevelBook.{mostLevels}
-use Rattle.table.specs.Table.{kept, Keeps}
+use Rattle.pairs.specs.Table.{kept, Keeps}
 use Rattle.pairs.specs.Refusals.{lacksUpper, firstLacking}
 
 -- What one sweep over the pairs finds: the first place of a pair that lacks a least common upper level;

@@ -1,13 +1,15 @@
 // The pairs of a book's levels: the join and the meet of each, found once and kept; refusal 3.
+pub mod table; // table.rt: a level for each pair of levels
+
 use book::Book;
 use book::sets;
 use order::converse;
-use table::PairTable;
+use crate::table::PairTable;
 ghost use mathlib.Core.Path.{_≡_};
 ghost use Prim.Native.Nat.{_<_};
 ghost use Rattle.book.specs.LevelBook.{mostLevels, atOrBelow};
 ghost use Rattle.order.specs.Rows.{InOrder};
-ghost use Rattle.table.specs.Table.{Square};
+ghost use Rattle.pairs.specs.Table.{Square};
 ghost use Rattle.pairs.specs.Bounds.{Swept, Paired};
 
 // Finds the least common upper level of each pair and keeps it at both entries of the pair, and each level at its own.

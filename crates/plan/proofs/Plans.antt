@@ -12,8 +12,8 @@ use borrow.Author.Tests.{eqb-true, ltb-true, le-leb, lt-leb}
 use Rattle.prelude.specs.Search.{all, any, firstFrom}
 use Rattle.prelude.specs.Search as search-for
 use Rattle.prelude.proofs.Searches.{all-elim}
-use Rattle.layout.specs.declared.entries.Name.{Name}
-use Rattle.layout.specs.declared.entries.Part.{Part}
+use Rattle.layout.specs.declared.parts.Name.{Name}
+use Rattle.layout.specs.declared.parts.Part.{Part}
 use Rattle.layout.specs.Entries.{nameOf, session, partOf, node}
 use Rattle.fields.specs.Fields.{firstChild, secondChild}
 use Rattle.language.specs.Shapes.{size, watches}

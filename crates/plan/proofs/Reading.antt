@@ -5,7 +5,7 @@ use Prim.Native.Nat.{ℕ, _+_, _<_}
 use native.Mathlib.Omega.{arith}
 use Rattle.book.specs.declared.Book.{Book}
 use Rattle.layout.specs.declared.Script.{Script}
-use Rattle.layout.specs.declared.entries.Part.{Part}
+use Rattle.layout.specs.declared.parts.Part.{Part}
 use Rattle.layout.specs.Layout.{nameCount, Laid}
 use Rattle.layout.specs.Entries.{partOf, node}
 use Rattle.layout.proofs.Layouts.{name-within, names-are, expressions-are}

@@ -13,12 +13,12 @@ use Rattle.layout.specs.Layout.{layoutOf, nameCount, nodeCount}
 use Rattle.layout.specs.Entries.{nameOf, session, isSession, node}
 use Rattle.fields.specs.Fields.{fieldCount}
 use Rattle.uses.specs.Uses.{used}
-use Rattle.reach.specs.Reach.{inReach}
-use Rattle.reach.specs.Checked.{Checked}
+use Rattle.scope.specs.Reach.{inReach}
+use Rattle.scope.specs.Checked.{Checked}
 use Rattle.tree.specs.Tree.{processOf}
 use Rattle.layout.proofs.Layouts.{few-bounds}
-use Rattle.faults.proofs.Naming.{owned}
-use Rattle.reach.proofs.Reaching.{within-below, body-of, child-used}
+use Rattle.entries.proofs.Naming.{owned}
+use Rattle.scope.proofs.Reaching.{within-below, body-of, child-used}
 use Rattle.tree.proofs.Views.{UsesName, NewName, NodeView, aNil, anAssign, aLet, anIf, aWhile, aSequence, anEmit, aLocal, aWatching, aWhen, aParallel, node-view}
 
 module _ (s : List ℕ) (ok : Checked s) where

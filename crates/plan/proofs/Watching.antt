@@ -8,13 +8,13 @@ use native.Mathlib.Omega.{arith}
 use lib.Dec.{eqb, ltb}
 use borrow.Author.Tests.{eqb-true, ltb-true, lt-ltb}
 use Rattle.language.specs.Shapes.{watches}
-use Rattle.layout.specs.declared.entries.Part.{Part}
+use Rattle.layout.specs.declared.parts.Part.{Part}
 use Rattle.layout.specs.Layout.{nodeCount}
 use Rattle.layout.specs.Entries.{partOf, node}
 use Rattle.fields.specs.Roles.{nodeRows, roleIn, unused}
 use Rattle.fields.specs.Fields.{fieldCount, fieldOf, firstChild, secondChild}
-use Rattle.faults.proofs.Holding.{right-field, holds-unused}
-use Rattle.reach.specs.Checked.{Checked}
+use Rattle.entries.proofs.Holding.{right-field, holds-unused}
+use Rattle.scope.specs.Checked.{Checked}
 use Rattle.tree.specs.Tree.{processOf}
 use Rattle.tree.proofs.Views.{NodeView, aNil, anAssign, aLet, anIf, aWhile, aSequence, anEmit, aLocal, aWatching, aWhen, aParallel, node-view, role}
 use Rattle.plan.specs.Plan.{watchesBefore, watchesBy, KeepsNodes}

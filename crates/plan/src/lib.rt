@@ -64,7 +64,7 @@ fn node_word(
     requires { ⌜ CanPack (now s) c (now sizes) (now words) k ⌝ }
     ensures { λ r. ⌜ NodePacked (now (s .entry)) k r ⌝ }
 {
-    let p = layout::entries::part_at(s, c.offset, c.expressions + k);
+    let p = layout::parts::part_at(s, c.offset, c.expressions + k);
     let parts = fields::children::children_of(p);
     let first = parts.first % Script::MAX_NODES;
     let b = field_b(p.kind, p.b, parts.second);
@@ -78,7 +78,7 @@ fn expression_word(s: &[u8], c: Script, e: usize) -> usize
     requires { ⌜ Laid (now s) c × (e < c .expressions) ⌝ }
     ensures { λ r. ⌜ ExpressionPacked (now (s .entry)) e r ⌝ }
 {
-    let p = layout::entries::part_at(s, c.offset, e);
+    let p = layout::parts::part_at(s, c.offset, e);
     if p.kind == kinds::CONSTANT {
         return packing::pack_expression(kinds::CONSTANT, p.b, p.c);
     }
@@ -91,9 +91,9 @@ fn name_word(s: &[u8], b: Book, reader: usize, x: usize) -> usize
     requires { ⌜ CanPackName (now s) reader x ⌝ }
     ensures { λ r. ⌜ NamePacked (now (s .entry)) (seesIn b (now (s .entry)) reader) x r ⌝ }
 {
-    let n = layout::entries::name_at(s, x);
+    let n = layout::parts::name_at(s, x);
     let seen = book::at_or_below(b, n.level, reader);
-    packing::pack_name(n.level, n.kind, n.owner == layout::entries::SESSION, seen)
+    packing::pack_name(n.level, n.kind, n.owner == layout::parts::SESSION, seen)
 }
 
 // The words of the names.

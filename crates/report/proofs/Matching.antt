@@ -9,7 +9,7 @@ use mathlib.Core.List.{List}
 use lib.IntN.{ℤ, pos}
 use lib.ListN.{set}
 use Rattle.prelude.proofs.Bools.{by-cases}
-use Rattle.arithmetic.specs.Values.{holds}
+use Rattle.values.specs.Values.{holds}
 use Rattle.language.specs.Syntax.{Names, Exp, Occurs, Proc, nil, assign, letIn, ifThenElse, while, sequence, emit, local, watching, when, parallel}
 use Rattle.language.specs.NameKinds.{Kind, var, sig, same, put, isOf}
 use Rattle.language.specs.Scope.{Declared}

@@ -14,7 +14,7 @@ use lib.ListN.{set, length, length-set}
 use lib.Seq.{getD-set-same, getD-set-other}
 use borrow.Author.Tests.{eq-eqb, ne-eqb, eqb-true}
 use Rattle.prelude.proofs.Bools.{fails, by-cases}
-use Rattle.arithmetic.specs.Values.{holds}
+use Rattle.values.specs.Values.{holds}
 use Rattle.language.specs.Syntax.{Names}
 use Rattle.language.specs.NameKinds.{Kind, var, sig, same, put, isOf}
 use Rattle.language.specs.Typing.{Environment}

@@ -6,7 +6,7 @@ use mathlib.Core.Path.{_≡_, refl, sym, subst, ap, ap₂, _∙_}
 use mathlib.Core.Bool.{Bool, true, false, cond}
 use mathlib.Core.Logic.{inl, inr}
 use lib.IntN.{ℤ}
-use Rattle.arithmetic.specs.Values.{negation}
+use Rattle.values.specs.Values.{negation}
 use Rattle.language.specs.Syntax.{Exp, constant, register, binary, negated, Occurs, here, left, right, under, Proc}
 use Rattle.language.specs.NameKinds.{Kind, var, sig, same, put}
 use Rattle.language.specs.Steps.{apply, evaluate}

@@ -8,7 +8,7 @@ use mathlib.Core.Option.{none, some}
 use mathlib.Core.Logic.{⊎-elim}
 use mathlib.Core.List.{List, [], _++_, Option·toList}
 use lib.ListN.{length}
-use Rattle.arithmetic.specs.Values.{holds}
+use Rattle.values.specs.Values.{holds}
 use Rattle.language.specs.Syntax.{Names, Proc, nil, isNil}
 use Rattle.language.specs.NameKinds.{Kind, var, sig, put}
 use Rattle.language.specs.Typing.{Environment, environment}

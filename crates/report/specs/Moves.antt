@@ -8,7 +8,7 @@ use mathlib.Core.Option.{none, some}
 use lib.IntN.{ℤ}
 use Rattle.language.specs.Syntax.{Exp, Proc, nil, assign, letIn, ifThenElse, while, sequence, emit, local, watching, when, parallel}
 use Rattle.language.specs.NameKinds.{var, sig, put}
-use Rattle.arithmetic.specs.Values.{holds}
+use Rattle.values.specs.Values.{holds}
 use Rattle.language.specs.Typing.{Environment}
 use Rattle.language.specs.Steps.{evaluate, Output, silent, assigned, emitted}
 use Rattle.report.specs.Names.{Substituted}

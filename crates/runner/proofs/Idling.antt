@@ -12,7 +12,7 @@ use lib.Seq.{ext-getD}
 use Rattle.prelude.proofs.Bools.{and-second, by-cases}
 use Rattle.prelude.proofs.Searches.{none-of-any}
 use Rattle.prelude.proofs.Tables.{length-table, table-at}
-use Rattle.arithmetic.specs.Values.{holds}
+use Rattle.values.specs.Values.{holds}
 use Rattle.language.specs.Syntax.{Names, Proc}
 use Rattle.language.specs.Steps.{held, present, suspended, change, instantStart}
 use Rattle.program.specs.Program.{nodeCount, namesOf, processOf}

@@ -12,13 +12,13 @@ use Rattle.prelude.proofs.Refusing.{passes-test, past-test, passes-both, or-els
 use Rattle.layout.specs.Layout.{tailIsRight, countsAreRight, layoutOf}
 use Rattle.layout.specs.Entries.{nameOf}
 use Rattle.layout.proofs.Layouts.{few-bounds, laid}
-use Rattle.faults.specs.Faults.{faultRefusal}
-use Rattle.faults.proofs.Sounding.{Faultless, faultless, sound, no-fault}
+use Rattle.entries.specs.Faults.{faultRefusal}
+use Rattle.entries.proofs.Sounding.{Faultless, faultless, sound, no-fault}
 use Rattle.uses.specs.Uses.{useRefusal}
 use Rattle.uses.proofs.Counting.{each-once, none-loose}
-use Rattle.reach.specs.Reach.{reachRefusal}
-use Rattle.reach.specs.Checked.{Checked, Levelled}
-use Rattle.reach.proofs.Refusing.{all-in-reach, none-outside}
+use Rattle.scope.specs.Reach.{reachRefusal}
+use Rattle.scope.specs.Checked.{Checked, Levelled}
+use Rattle.scope.proofs.Refusing.{all-in-reach, none-outside}
 use Rattle.script.specs.Refusals.{entryRefusal, refusal, isAccepted}
 
 module _ (s : List ℕ) (levels : ℕ) where

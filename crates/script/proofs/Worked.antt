@@ -4,9 +4,9 @@ use mathlib.Core.Path.{_≡_, refl}
 use mathlib.Core.Bool.{true}
 use Rattle.prelude.specs.Search.{firstFrom, first, any, all, count}
 use Rattle.prelude.specs.Course.{course, entry}
-use Rattle.faults.specs.Faults.{holds, faultRefusal}
+use Rattle.entries.specs.Faults.{holds, faultRefusal}
 use Rattle.uses.specs.Uses.{used, timesUsed, useRefusal}
-use Rattle.reach.specs.Reach.{within, inBody, isOutOfReach, reachRefusal}
+use Rattle.scope.specs.Reach.{within, inBody, isOutOfReach, reachRefusal}
 use Rattle.script.specs.Refusals.{entryRefusal, refusal}
 use Rattle.script.specs.Examples.{files, allComeOut}
 

@@ -5,9 +5,9 @@ use Prim.Native.Nat.{ℕ}
 use Rattle.prelude.specs.declared.Refusal.{Refusal}
 use Rattle.prelude.specs.Refusals.{refusedBy, passes, orElse}
 use Rattle.layout.specs.Layout.{tailIsRight, countsAreRight, layoutOf}
-use Rattle.faults.specs.Faults.{faultRefusal}
+use Rattle.entries.specs.Faults.{faultRefusal}
 use Rattle.uses.specs.Uses.{useRefusal}
-use Rattle.reach.specs.Reach.{reachRefusal}
+use Rattle.scope.specs.Reach.{reachRefusal}
 
 -- rows 6 to 8, 9 and 10
 unfoldable pub entryRefusal : List ℕ → ℕ → Refusal

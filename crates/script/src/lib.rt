@@ -1,8 +1,8 @@
 // The script file: any bytes in; out comes a checked script, or a refusal.
 use layout::Script;
 use prelude::Refusal;
-use refusals::places::refused;
-use refusals::tail;
+use layout::places::refused;
+use layout::tail;
 ghost use mathlib.Core.Path.{_≡_};
 ghost use Rattle.layout.specs.Layout.{Laid};
 ghost use Rattle.script.specs.Refusals.{entryRefusal, refusal};
@@ -19,7 +19,7 @@ fn entry_refusal(s: &[u8], c: Script, levels: usize) -> Refusal
     requires { ⌜ Laid (now s) c ⌝ }
     ensures { λ r. ⌜ r ≡ entryRefusal (now (s .entry)) levels ⌝ }
 {
-    let fault = faults::refusal(s, c, levels);
+    let fault = entries::refusal(s, c, levels);
     if fault.number != 0 {
         return fault;
     }
@@ -27,7 +27,7 @@ fn entry_refusal(s: &[u8], c: Script, levels: usize) -> Refusal
     if loose.number != 0 {
         return loose;
     }
-    reach::refusal(s, c)
+    scope::refusal(s, c)
 }
 
 fn refusal(s: &[u8], levels: usize) -> Refusal

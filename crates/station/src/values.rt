@@ -17,7 +17,7 @@ fn value_at(bytes: &[u8], at: usize) -> i32
     requires { ⌜ at + 4 ≤ length (now bytes) ⌝ }
     ensures { λ r. ⌜ r ≡ valueAt (now (bytes .entry)) at ⌝ }
 {
-    signed::value_of_word(word_at(bytes, at))
+    values::words::value_of_word(word_at(bytes, at))
 }
 
 // Reads the values and answers how many there are: as many as there is room for if they are more, or if the last has fewer

@@ -28,20 +28,20 @@ use Rattle.report.proofs.Starts.{begun-begins}
 use Rattle.report.proofs.Theorems as report
 use Rattle.layout.specs.Layout.{nameCount}
 use Rattle.layout.specs.Entries.{isSessionName}
-use Rattle.reach.specs.Checked.{Checked}
+use Rattle.scope.specs.Checked.{Checked}
 use Rattle.script.specs.Refusals as scripts
 use Rattle.tree.specs.Tree.{namesOf, tree}
 use Rattle.tree.proofs.Theorems.{tree-scoped, tree-named}
 use Rattle.runner.specs.Outcome.{lineWords}
-use Rattle.answers.specs.declared.Verdict.{Verdict}
+use Rattle.results.specs.declared.Verdict.{Verdict}
 use Rattle.checker.specs.Refusals.{checkRefusal}
-use Rattle.call.specs.Refusals.{runRefusal}
-use Rattle.answers.specs.Reports.{verdictBy}
+use Rattle.arguments.specs.Refusals.{runRefusal}
+use Rattle.results.specs.Reports.{verdictBy}
 use Rattle.engine.specs.Answers.{verdict, runOf, Left, leftBy, left}
 use Rattle.theorems.specs.Records.{stampedUpTo}
 use Rattle.theorems.specs.Results.{session, CheckAgrees, RunAgrees, RunReported, StartEqual, NothingShows, DemandThree}
 use Rattle.checker.proofs.Passing.{Accepted, checked, accepted, accepts}
-use Rattle.call.proofs.Passing.{Started, run-accepted}
+use Rattle.arguments.proofs.Passing.{Started, run-accepted}
 use Rattle.theorems.proofs.Records.{record-of, stamped-words}
 
 module _ (b s : List ℕ) where

@@ -8,8 +8,8 @@ use lib.ListN.{length, replicate}
 use Rattle.layout.specs.Entries.{session}
 use Rattle.layout.specs.Files.{name, part, all, file}
 use Rattle.levels.specs.Kinds.{nil, assign, ifThenElse, while, sequence, emit, watching, when, parallel}
-use Rattle.answers.specs.declared.Verdict.{Verdict}
-use Rattle.answers.specs.declared.Report.{Report}
+use Rattle.results.specs.declared.Verdict.{Verdict}
+use Rattle.results.specs.declared.Report.{Report}
 use Rattle.engine.specs.Answers.{Left, verdict, left}
 
 -- 'Book 02 0003 0002 (hexadecimal): level 0 is L, 1 is H; the letter shows a name's level.'

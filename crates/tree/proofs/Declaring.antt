@@ -19,10 +19,10 @@ use Rattle.fields.specs.Roles.{nodeRows, roleIn, child}
 use Rattle.fields.specs.Fields.{fieldCount, fieldOf, valueOf}
 use Rattle.uses.specs.Uses.{used}
 use Rattle.uses.proofs.Used.{used-of, used-child}
-use Rattle.reach.specs.Reach.{within}
-use Rattle.reach.specs.Checked.{Checked}
-use Rattle.reach.proofs.Joining.{used-once}
-use Rattle.reach.proofs.Reaching.{within-self, within-step, within-cases, within-below, within-up}
+use Rattle.scope.specs.Reach.{within}
+use Rattle.scope.specs.Checked.{Checked}
+use Rattle.scope.proofs.Joining.{used-once}
+use Rattle.scope.proofs.Reaching.{within-self, within-step, within-cases, within-below, within-up}
 use Rattle.tree.specs.Tree.{processOf}
 use Rattle.tree.specs.Results.{TreeNamed}
 use Rattle.tree.proofs.Scoping.{tree-session}

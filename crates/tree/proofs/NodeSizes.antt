@@ -22,12 +22,12 @@ use Rattle.layout.proofs.Layouts.{few-bounds, few-parts}
 use Rattle.fields.specs.declared.Field.{Field}
 use Rattle.fields.specs.Roles.{nodeRows, roleIn, expression, child}
 use Rattle.fields.specs.Fields.{fieldCount, fieldOf, valueOf}
-use Rattle.faults.specs.Faults.{holds}
-use Rattle.faults.proofs.Holding.{holds-expression, holds-child, right-field}
+use Rattle.entries.specs.Faults.{holds}
+use Rattle.entries.proofs.Holding.{holds-expression, holds-child, right-field}
 use Rattle.uses.specs.Uses.{allFields, usedBy, used, timesUsed}
 use Rattle.uses.proofs.Used.{used-of, used-child}
-use Rattle.reach.specs.Checked.{Checked}
-use Rattle.reach.proofs.Joining.{used-earlier}
+use Rattle.scope.specs.Checked.{Checked}
+use Rattle.scope.proofs.Joining.{used-earlier}
 use Rattle.language.specs.Shapes.{size}
 use Rattle.tree.specs.Tree.{processOf, tree, childSize, KeepsSizes}
 use Rattle.tree.proofs.Views.{NodeView, aNil, anAssign, aLet, anIf, aWhile, aSequence, anEmit, aLocal, aWatching, aWhen, aParallel, node-view, role}

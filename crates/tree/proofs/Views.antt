@@ -20,14 +20,14 @@ use Rattle.layout.proofs.Layouts.{few-parts}
 use Rattle.fields.specs.Roles as roles
 use Rattle.fields.specs.Roles.{expressionRows, nodeRows, roleIn, isUse, isNew}
 use Rattle.fields.specs.Fields.{fieldCount, fieldOf}
-use Rattle.faults.specs.Faults.{kindFor}
-use Rattle.faults.proofs.Holding.{holds-expression, holds-child, right-field, right-kind}
-use Rattle.faults.proofs.Naming.{named-use, named-new}
+use Rattle.entries.specs.Faults.{kindFor}
+use Rattle.entries.proofs.Holding.{holds-expression, holds-child, right-field, right-kind}
+use Rattle.entries.proofs.Naming.{named-use, named-new}
 use Rattle.uses.specs.Uses.{used}
 use Rattle.uses.proofs.Used.{used-of, used-child, used-expression}
-use Rattle.reach.specs.Reach.{inReach, isOutOfReach, missesName}
-use Rattle.reach.specs.Checked.{Checked}
-use Rattle.reach.proofs.Reaching.{opens-of, reach-used}
+use Rattle.scope.specs.Reach.{inReach, isOutOfReach, missesName}
+use Rattle.scope.specs.Checked.{Checked}
+use Rattle.scope.proofs.Reaching.{opens-of, reach-used}
 use Rattle.tree.specs.Tree.{constantOf, expressionsFrom, noExpression, expressionOf, processesFrom, processOf}
 
 -- the kind of a binary expression

@@ -12,7 +12,7 @@ use mir.Val.{toZ}
 use Rattle.prelude.specs.Course.{entry}
 use Rattle.language.specs.Syntax.{Names, add, subtract, multiply, divide, less, equal, Exp, constant, register, binary, negated, Proc, nil, assign, letIn, ifThenElse, while, sequence, emit, local, watching, when, parallel}
 use Rattle.language.specs.Shapes.{size}
-use Rattle.layout.specs.declared.entries.Part.{Part}
+use Rattle.layout.specs.declared.parts.Part.{Part}
 use Rattle.layout.specs.Layout.{nodeCount}
 use Rattle.layout.specs.Entries.{nameOf, isSession, partOf, node}
 use Rattle.fields.specs.declared.Field.{Field}

@@ -2,13 +2,13 @@
 use fields::field_at;
 use fields::roles;
 use layout::Script;
-use layout::entries::Part;
+use layout::parts::Part;
 ghost use mathlib.Core.Path.{_≡_};
 ghost use Prim.Native.Nat.{_+_, _<_};
 ghost use Rattle.layout.specs.Layout.{Laid};
 ghost use Rattle.layout.specs.Entries.{node};
 ghost use Rattle.fields.specs.Fields.{fieldCount, fieldOf};
-ghost use Rattle.reach.specs.Checked.{Checked};
+ghost use Rattle.scope.specs.Checked.{Checked};
 ghost use Rattle.language.specs.Shapes.{size};
 ghost use Rattle.tree.specs.Tree.{processOf, childSize, KeepsSizes};
 

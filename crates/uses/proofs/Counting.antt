@@ -8,7 +8,7 @@ use native.Mathlib.Omega.{arith}
 use borrow.Author.Tests.{eqb-true, eq-eqb, not-false}
 use Rattle.prelude.specs.Refusals.{notRefused, passes}
 use Rattle.layout.specs.Layout.{nodeCount, partCount}
-use Rattle.refusals.proofs.Placing.{passes-parts, past-parts}
+use Rattle.layout.proofs.Placing.{passes-parts, past-parts}
 use Rattle.uses.specs.Uses.{timesUsed, isLoose, useRefusal}
 
 module _ (s : List ℕ) (some : 1 ≤ nodeCount s) where

@@ -8,7 +8,7 @@ use lib.ListN.{getD, length}
 use Rattle.prelude.specs.declared.Refusal.{Refusal}
 use Rattle.prelude.specs.Search.{count}
 use Rattle.layout.specs.Layout.{mostParts, expressionCount, partCount}
-use Rattle.refusals.specs.Places.{atFirstPart}
+use Rattle.layout.specs.Places.{atFirstPart}
 use Rattle.fields.specs.declared.Field.{Field}
 use Rattle.fields.specs.Roles.{expression, child}
 use Rattle.fields.specs.Fields.{fieldCount, fieldOf}

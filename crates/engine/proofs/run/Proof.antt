@@ -11,7 +11,7 @@ use Rattle.book.specs.Load.{bookOf}
 use Rattle.layout.specs.Layout.{layoutOf}
 use Rattle.checker.specs.Refusals.{checkRefusal}
 use Rattle.checker.proofs.Passing.{accepted, checked}
-use Rattle.call.specs.Refusals.{callRefusal, runRefusal}
+use Rattle.arguments.specs.Refusals.{callRefusal, runRefusal}
 use Rattle.engine.specs.Answers.{Left}
 use Rattle.engine.proofs.Leaving.{refused-left, by-check, by-call, can-start, Leaves, leaves}
 use borrow.Author.Needs.{needs}

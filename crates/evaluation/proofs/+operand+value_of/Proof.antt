@@ -4,9 +4,9 @@ use mathlib.Core.List.{List}
 use Prim.Native.Nat.{ℕ, _+_, _*_, _<_}
 use native.Mathlib.Omega.{arith}
 use lib.IntN.{ℤ}
-use Rattle.arithmetic.specs.Values.{negation}
+use Rattle.values.specs.Values.{negation}
 use Rattle.language.specs.Steps.{value}
-use Rattle.arithmetic.proofs.Bits.{given-back}
+use Rattle.values.proofs.Bits.{given-back}
 use Rattle.packing.specs.Packing.{kindIn, operandIn, laterIn}
 use Rattle.program.specs.Program.{expressionOf}
 use Rattle.evaluation.specs.Evaluation.{applied, Evaluable}
@@ -19,7 +19,7 @@ use Rattle.evaluation.proofs.+operand+value_of.Lts-operand as operand-l
 use Rattle.evaluation.proofs.value_of.Reads as value-of
 use Rattle.evaluation.proofs.value_of.Kinds as value-of-kinds
 use Rattle.evaluation.proofs.+operand+value_of.Lts-value_of as lts
-use Rattle.comparison.proofs.not.Reads as not-reads
+use Rattle.values.proofs.comparison.not.Reads as not-reads
 use Rattle.evaluation.proofs.leaf_value.Reads as leaf-value-reads
 use Rattle.evaluation.proofs.operate.Reads as operate-reads
 use Rattle.packing.proofs.kind_in.Reads as kind-in-reads

@@ -1,7 +1,7 @@
 -- `is_present`: a value is 0 where its bits are.
 use lib.IntN.{pos}
 use lib.ListN.{getD}
-use Rattle.arithmetic.proofs.Bits.{test-by-bits}
+use Rattle.values.proofs.Bits.{test-by-bits}
 use borrow.Author.Needs.{needs}
 use Rattle.evaluation.proofs.is_present.Statement.{statement}
 use Rattle.evaluation.proofs.is_present.Tie as tie

@@ -6,7 +6,7 @@ use lib.ListN.{length}
 use mir.Syntax.{w32}
 use mir.Val.{toZ}
 use borrow.Author.Tests.{eq-eqb, ne-eqb}
-use Rattle.arithmetic.proofs.Bits.{given-back}
+use Rattle.values.proofs.Bits.{given-back}
 use Rattle.language.specs.Steps.{held}
 use Rattle.packing.specs.Packing.{kindIn, operandIn}
 use borrow.Author.Needs.{needs, fits-under}

@@ -8,10 +8,10 @@ use mir.Val.{SFits, hbits}
 use mir.Facts.{toZ-ofZ}
 use Rattle.language.specs.Syntax.{Operator, add, subtract, multiply, divide, less, equal}
 use Rattle.language.specs.Steps.{apply}
-use Rattle.arithmetic.proofs.Signed.{readBack}
+use Rattle.values.proofs.Signed.{readBack}
 use Rattle.program.specs.Program.{operatorOf}
 use Rattle.evaluation.specs.Evaluation.{applied}
-use Rattle.arithmetic.proofs.Bits.{given-back}
+use Rattle.values.proofs.Bits.{given-back}
 use borrow.Author.Needs.{needs}
 use Rattle.evaluation.proofs.operate.Statement.{statement}
 use Rattle.evaluation.proofs.operate.Tie as tie

@@ -1,7 +1,7 @@
 -- `test_holds`: a value is 0 where its bits are.
 use mathlib.Core.Path.{ap, _∙_}
-use Rattle.arithmetic.specs.Values.{holds}
-use Rattle.arithmetic.proofs.Bits.{test-by-bits}
+use Rattle.values.specs.Values.{holds}
+use Rattle.values.proofs.Bits.{test-by-bits}
 use borrow.Author.Needs.{needs}
 use Rattle.evaluation.proofs.test_holds.Statement.{statement}
 use Rattle.evaluation.proofs.test_holds.Tie as tie

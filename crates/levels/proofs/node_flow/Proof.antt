@@ -7,7 +7,7 @@ use Prim.Native.Nat.{ℕ, _<_}
 use Rattle.prelude.specs.Search.{lesser}
 use Rattle.prelude.proofs.Bools.{by-cases, and-intro, and-second}
 use Rattle.book.specs.LevelBook.{mostLevels, atOrBelow}
-use Rattle.table.specs.Table.{kept}
+use Rattle.pairs.specs.Table.{kept}
 use Rattle.levels.specs.declared.Flow.{Flow}
 use Rattle.levels.specs.declared.Own.{Own}
 use Rattle.levels.specs.Kinds.{hasWrite}

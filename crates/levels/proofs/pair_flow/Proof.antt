@@ -3,7 +3,7 @@ use mathlib.Core.Path.{sym, ap₂, _∙_, subst}
 use mathlib.Core.Bool.{Bool}
 use Prim.Native.Nat.{_<_}
 use Rattle.book.specs.LevelBook.{mostLevels, atOrBelow}
-use Rattle.table.specs.Table.{kept}
+use Rattle.pairs.specs.Table.{kept}
 use Rattle.levels.specs.declared.Flow.{Flow}
 use Rattle.levels.specs.Nodes.{FlowWithin, testFrom, flowFrom}
 use Rattle.levels.proofs.pair_flow.Statement.{statement}

@@ -4,7 +4,7 @@ use mathlib.Core.Bool.{cond}
 use Prim.Native.Nat.{_<_}
 use native.Mathlib.Omega.{arith}
 use lib.Dec.{leb}
-use Rattle.layout.specs.declared.entries.Part.{Part}
+use Rattle.layout.specs.declared.parts.Part.{Part}
 use Rattle.layout.specs.Layout.{mostNodes, nodeCount}
 use Rattle.layout.specs.Entries.{partOf, node}
 use Rattle.fields.specs.Fields.{firstChild, secondChild}

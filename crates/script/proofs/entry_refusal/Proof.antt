@@ -6,8 +6,8 @@ use borrow.Author.Tests.{eq-eqb, ne-eqb}
 use Rattle.prelude.specs.Refusals.{passes}
 use Rattle.prelude.proofs.Refusing.{or-else-next, or-else-first}
 use Rattle.layout.proofs.Layouts.{few-bounds, nodes-are}
-use Rattle.faults.specs.Faults.{faultRefusal}
-use Rattle.faults.proofs.Sounding.{faultless, sound}
+use Rattle.entries.specs.Faults.{faultRefusal}
+use Rattle.entries.proofs.Sounding.{faultless, sound}
 use Rattle.uses.specs.Uses.{useRefusal}
 use Rattle.uses.proofs.Counting.{each-once}
 use Rattle.script.specs.Refusals.{entryRefusal}

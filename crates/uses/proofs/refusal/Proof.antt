@@ -7,7 +7,7 @@ use lib.Dec.{eqb}
 use Rattle.prelude.proofs.Searches.{first-same}
 use Rattle.layout.specs.Layout.{mostExpressions, mostNodes}
 use Rattle.layout.proofs.Layouts.{few-bounds}
-use Rattle.refusals.proofs.Placing.{over-parts}
+use Rattle.layout.proofs.Placing.{over-parts}
 use Rattle.uses.specs.Uses.{isLoose, useRefusal}
 use borrow.Author.Needs.{needs}
 use Rattle.uses.proofs.refusal.Statement.{statement}

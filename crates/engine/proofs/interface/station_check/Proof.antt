@@ -1,6 +1,6 @@
 -- `station_check`: the answer's words are stored, where there is room for exactly these.
 use mathlib.Core.Path.{ap, _∙_}
-use Rattle.answers.specs.Words.{verdictWords}
+use Rattle.results.specs.Words.{verdictWords}
 use Rattle.engine.proofs.Asking.{asked, not-asked}
 use Rattle.engine.proofs.interface.station_check.Statement.{statement}
 use Rattle.engine.proofs.interface.station_check.Tie as tie

@@ -1,6 +1,6 @@
 -- `station_run`: the run's report is stored, where there is room for exactly its words.
 use mathlib.Core.Path.{ap, _∙_}
-use Rattle.answers.specs.Words.{reportWords}
+use Rattle.results.specs.Words.{reportWords}
 use Rattle.engine.proofs.Asking.{asked, not-asked}
 use Rattle.engine.proofs.interface.station_run.Statement.{statement}
 use Rattle.engine.proofs.interface.station_run.Tie as tie

@@ -10,10 +10,10 @@ use borrow.Fn.PlainCycle.{Measures, is, falls, and}
 use Rattle.flow.proofs.expressions.level_of.Reads as level-of
 use Rattle.flow.proofs.expressions.level_of.Kinds as level-of-kinds
 use Rattle.flow.proofs.expressions.+level_of.Lts-level_of as level-of-lts
-use Rattle.table.proofs.level_at.Reads as level-at-reads
+use Rattle.pairs.proofs.table.level_at.Reads as level-at-reads
 use Rattle.layout.proofs.Layouts.{name-within, part-within}
-use Rattle.layout.proofs.entries.name_at.Reads as name-at-reads
-use Rattle.layout.proofs.entries.part_at.Reads as part-at-reads
+use Rattle.layout.proofs.parts.name_at.Reads as name-at-reads
+use Rattle.layout.proofs.parts.part_at.Reads as part-at-reads
 use Rattle.flow.proofs.expressions.+level_of.{statement}
 use Rattle.flow.proofs.expressions.+level_of.Tie.{close}
 

@@ -3,7 +3,7 @@ use mathlib.Core.Path.{ap, _∙_}
 use native.Mathlib.Omega.{arith}
 use borrow.Author.Needs.{fits-under}
 use Rattle.book.specs.LevelBook.{atOrBelow}
-use Rattle.table.specs.Table.{kept}
+use Rattle.pairs.specs.Table.{kept}
 use Rattle.layout.specs.Layout.{Laid, layoutOf}
 use Rattle.layout.specs.Entries.{partOf}
 use Rattle.layout.proofs.Layouts.{few-bounds, part-within}
@@ -23,7 +23,7 @@ use Rattle.levels.proofs.node_flow.Reads as node-flow-reads
 use Rattle.flow.proofs.own.own_levels.Reads as own-levels-reads
 use Rattle.levels.proofs.pair_flow.Reads as pair-flow-reads
 use Rattle.fields.proofs.children.children_of.Reads as children-of-reads
-use Rattle.layout.proofs.entries.part_at.Reads as part-at-reads
+use Rattle.layout.proofs.parts.part_at.Reads as part-at-reads
 use Rattle.flow.proofs.walk.+flow_at.{statement}
 use Rattle.flow.proofs.walk.+flow_at.Tie.{close}
 

@@ -9,7 +9,7 @@ use mir.Syntax.{w32}
 use mir.Val.{SFits, ofZ}
 use mir.Facts.{toZ-ofZ}
 use borrow.Author.Tests.{lt-ltb, le-ltb, not-true, not-false}
-use Rattle.arithmetic.proofs.Signed.{readBack}
+use Rattle.values.proofs.Signed.{readBack}
 use Rattle.moves.specs.Moves.{putWords, putLine}
 use borrow.Author.Needs.{needs}
 use Rattle.moves.proofs.log.note.Statement.{statement}

@@ -1,0 +1,30 @@
+// What is wrong with a name, an expression or a node by itself: refusals 6, 7 and 8.
+mod names; // names.rt: refusal 6
+mod parts; // parts.rt: refusals 7 and 8
+
+use layout::Script;
+use prelude::Refusal;
+use layout::places::refused;
+ghost use mathlib.Core.Path.{_≡_};
+ghost use Rattle.layout.specs.Layout.{Laid};
+ghost use Rattle.entries.specs.Faults.{faultRefusal};
+
+// Rows 6 to 8, each over all its entries.
+pub fn refusal(s: &[u8], c: Script, levels: usize) -> Refusal
+    requires { ⌜ Laid (now s) c ⌝ }
+    ensures { λ r. ⌜ r ≡ faultRefusal (now (s .entry)) levels ⌝ }
+{
+    let name = names::first_wrong_name(s, c, levels);
+    if name < c.names {
+        return refused(6, name);
+    }
+    let expression = parts::first_wrong_part(s, c, 0, c.expressions);
+    if expression < c.expressions {
+        return refused(7, expression);
+    }
+    let node = parts::first_wrong_part(s, c, c.expressions, c.nodes);
+    if node < c.nodes {
+        return refused(8, node);
+    }
+    refused(0, 0)
+}

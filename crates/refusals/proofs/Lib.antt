@@ -1,2 +1,0 @@
--- Laws that the proofs of several crates use.
-pub mod Placing

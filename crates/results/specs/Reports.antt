@@ -1,0 +1,17 @@
+-- 'Check returns number, place, W, T.' 'Run returns how it ended, steps, instants, lines.' 'A refusal's other returned
+-- numbers are 0; 0 means not refused.'
+use Prim.Native.Nat.{ℕ}
+use Rattle.prelude.specs.declared.Refusal.{Refusal}
+use Rattle.results.specs.declared.Verdict.{Verdict}
+use Rattle.results.specs.declared.Report.{Report}
+
+abbrev pub verdictBy : Refusal → ℕ → ℕ → Verdict
+verdictBy r w t = record { number = r .number; place = r .place; write = w; test = t }
+
+abbrev pub refusedReport : Refusal → Report
+refusedReport r =
+    record { number = r .number; place = r .place; ending = 0; steps = 0; instants = 0; lines = 0 }
+
+abbrev pub reportBy : ℕ → ℕ → ℕ → ℕ → Report
+reportBy ending steps instants lines =
+    record { number = 0; place = 0; ending = ending; steps = steps; instants = instants; lines = lines }

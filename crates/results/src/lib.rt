@@ -1,0 +1,52 @@
+// What the two calls answer, and the words of it for C.
+pub mod words; // words.rt: the answers' words for C
+
+use prelude::Refusal;
+ghost use mathlib.Core.Path.{_≡_};
+ghost use Prim.Native.Nat.{_^_, _<_};
+ghost use Rattle.results.specs.Reports.{refusedReport, reportBy};
+
+// What check answers: number and place of the refusal, W and T.
+pub struct Verdict {
+    pub number: u32,
+    pub place: u32,
+    pub write: u32,
+    pub test: u32,
+}
+
+// What run answers: number and place of the refusal, how the run ended, and what it counted.
+pub struct Report {
+    pub number: u32,
+    pub place: u32,
+    pub ending: u32,
+    pub steps: u32,
+    pub instants: u32,
+    pub lines: u32,
+}
+
+pub fn refused(r: Refusal) -> Report
+    ensures { λ a. ⌜ a ≡ refusedReport r ⌝ }
+{
+    Report {
+        number: r.number,
+        place: r.place,
+        ending: 0,
+        steps: 0,
+        instants: 0,
+        lines: 0,
+    }
+}
+
+pub fn report_of(ending: u32, steps: u32, instants: u32, lines: usize) -> Report
+    requires { ⌜ lines < 2 ^ 32 ⌝ }
+    ensures { λ a. ⌜ a ≡ reportBy ending steps instants lines ⌝ }
+{
+    Report {
+        number: 0,
+        place: 0,
+        ending,
+        steps,
+        instants,
+        lines: lines as u32,
+    }
+}

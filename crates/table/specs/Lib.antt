@@ -1,2 +1,0 @@
--- Tables of the pairs of levels.
-pub mod Table

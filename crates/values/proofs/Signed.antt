@@ -1,0 +1,174 @@
+-- Values of 32 bits, worked in 64: every exact result fits 64 bits, and what the machine reads back is the number.
+-- Assumes nothing.
+use mathlib.Core.Path.{_≡_, refl, sym, ap, _∙_, subst}
+use mathlib.Core.Bool.{Bool, true, false, false≢true}
+use Prim.Native.Nat.{ℕ, zero, suc, _+_, _*_, _/_, _^_, _≤_, _<_}
+use native.Mathlib.Nat.{le-refl, le-suc, le-trans, lt-of-le-of-lt, mul-le-mul, div-le-self}
+use native.Mathlib.Omega.{arith}
+use lib.Dec.{T, ltb, lit<}
+use lib.IntN.{ℤ, pos, negsuc, negℤ, natAbs, subℕ, _+ℤ_, _-ℤ_, _*ℤ_}
+use lib.Signed.{mag, ltZ, quotZ, natAbs-le}
+use mir.Syntax.{Width, w32, w64}
+use mir.Val.{SFits, hbits, toZ, ofZ}
+use mir.Facts.{sfits-lit, sfits-widen, toZ-ofZ}
+use borrow.Author.Tests.{ltb-true, ltb-false, eqb-true, eq-eqb}
+use Rattle.prelude.proofs.Bools.{fails, by-cases}
+use Rattle.values.specs.Values.{leastValue, greatestValue, clamped, isZero, quotient, sameValue}
+
+-- a signed local holds bits: what is read back from them
+abbrev pub readBack : Width → ℤ → ℤ
+readBack w z = toZ w (ofZ w z)
+
+-- a value after `as i64`
+abbrev pub widened : ℤ → ℤ
+widened z = readBack w64 (readBack w32 z)
+
+module _ {z : ℤ} (f : SFits w32 z) where
+  pub widens : SFits w64 (readBack w32 z)
+  widens = subst (SFits w64) (sym (toZ-ofZ f)) (sfits-widen tt f)
+
+  widened-is : widened z ≡ z
+  widened-is = toZ-ofZ widens ∙ toZ-ofZ f
+
+  pub widened-fits : SFits w32 (widened z)
+  widened-fits = subst (SFits w32) (sym widened-is) f
+
+-- how large the exact results are
+natural-difference-size : (a b : ℕ) {k : ℕ} → a ≤ k → b ≤ k → natAbs (subℕ a b) ≤ k
+natural-difference-size a b {k} h i =
+    by-cases (λ (z : ℤ). natAbs z ≤ k) (ltb a b) (λ t. omega (arith, ltb-true a b t)) (λ t. omega arith)
+
+sum-size : (a b : ℤ) {k : ℕ} → natAbs a ≤ k → natAbs b ≤ k → natAbs (a +ℤ b) ≤ k + k
+sum-size (pos a) (pos b) h i = omega arith
+sum-size (pos a) (negsuc b) h i = natural-difference-size a (suc b) (omega arith) (omega arith)
+sum-size (negsuc a) (pos b) h i = natural-difference-size b (suc a) (omega arith) (omega arith)
+sum-size (negsuc a) (negsuc b) h i = omega arith
+
+negated-size : (b : ℤ) {k : ℕ} → natAbs b ≤ k → natAbs (negℤ b) ≤ k
+negated-size (pos zero) h = h
+negated-size (pos (suc n)) h = h
+negated-size (negsuc n) h = h
+
+product-size : (a b : ℤ) {k : ℕ} → natAbs a ≤ k → natAbs b ≤ k → natAbs (a *ℤ b) ≤ k * k
+product-size (pos a) (pos b) h i = mul-le-mul h i
+product-size (pos a) (negsuc b) h i = negated-size (pos (a * suc b)) (mul-le-mul h i)
+product-size (negsuc a) (pos b) h i = negated-size (pos (suc a * b)) (mul-le-mul h i)
+product-size (negsuc a) (negsuc b) h i = mul-le-mul h i
+
+quotient-size : (a b : ℤ) {k : ℕ} → natAbs a ≤ k → natAbs (quotZ a b) ≤ k
+quotient-size (pos a) (pos b) h = le-trans (div-le-self a b) h
+quotient-size (pos a) (negsuc b) h = negated-size (pos (a / suc b)) (le-trans (div-le-self a (suc b)) h)
+quotient-size (negsuc a) (pos b) h = negated-size (pos (suc a / b)) (le-trans (div-le-self (suc a) b) h)
+quotient-size (negsuc a) (negsuc b) h = le-trans (div-le-self (suc a) (suc b)) h
+
+mag-size : (z : ℤ) → mag z ≤ natAbs z
+mag-size (pos n) = le-refl n
+mag-size (negsuc n) = le-suc n
+
+fits-64 : {z : ℤ} {k : ℕ} → natAbs z ≤ k → T (ltb k (2 ^ hbits w64)) → SFits w64 z
+fits-64 {z} h t = record { sfits = lt-of-le-of-lt (le-trans (mag-size z) h) (lit< t) }
+
+value-size : {z : ℤ} → SFits w32 z → natAbs z ≤ 2 ^ hbits w32
+value-size {z} f = natAbs-le z (f .sfits)
+
+module _ (a b : ℤ) (fa : SFits w32 a) (fb : SFits w32 b) where
+  pub sum-fits : SFits w64 (a +ℤ b)
+  sum-fits = fits-64 (sum-size a b (value-size fa) (value-size fb)) tt
+
+  pub difference-fits : SFits w64 (a -ℤ b)
+  difference-fits = fits-64 (sum-size a (negℤ b) (value-size fa) (negated-size b (value-size fb))) tt
+
+  pub product-fits : SFits w64 (a *ℤ b)
+  product-fits = fits-64 (product-size a b (value-size fa) (value-size fb)) tt
+
+  pub quotient-fits : SFits w64 (quotZ a b)
+  quotient-fits = fits-64 (quotient-size a b (value-size fa)) tt
+
+-- `clamp`, called with an operation's result on two widened values, gives the clamped result on the values
+module _ (op : ℤ → ℤ → ℤ) (exact : (a b : ℤ) → SFits w32 a → SFits w32 b → SFits w64 (op a b)) where
+  module _ {a b : ℤ} (fa : SFits w32 a) (fb : SFits w32 b) where
+    exact-is : readBack w64 (op (widened a) (widened b)) ≡ op a b
+    exact-is = toZ-ofZ (exact _ _ (widened-fits fa) (widened-fits fb)) ∙ (λ i. op (widened-is fa i) (widened-is fb i))
+
+    pub clamped-result :
+        {r : ℤ} → mag r < 2 ^ hbits w32 → r ≡ clamped (readBack w64 (op (widened a) (widened b))) →
+        readBack w32 r ≡ clamped (op a b)
+    clamped-result f e = toZ-ofZ {w = w32} (record { sfits = f }) ∙ e ∙ ap clamped exact-is
+
+-- the tests that `clamp` makes, and what follows of each outcome
+within : (x : ℤ) → ltZ x leastValue ≡ false → ltZ greatestValue x ≡ false → mag x < 2 ^ hbits w32
+within (pos a) s t = omega (arith, ltb-false 2147483647 a t)
+within (negsuc a) s t = omega (arith, ltb-false 2147483647 a s)
+
+module _ {x : ℤ} (f : SFits w64 x) where
+  test-low : {t : Bool} → ltZ (readBack w64 x) leastValue ≡ t → ltZ x leastValue ≡ t
+  test-low e = ap (λ (z : ℤ). ltZ z leastValue) (sym (toZ-ofZ f)) ∙ e
+
+  test-high : {t : Bool} → ltZ greatestValue (readBack w64 x) ≡ t → ltZ greatestValue x ≡ t
+  test-high e = ap (ltZ greatestValue) (sym (toZ-ofZ f)) ∙ e
+
+  pub too-low : ltZ (readBack w64 x) leastValue ≡ true → leastValue ≡ clamped x
+  unfolding clamped
+  too-low s = rw (test-low s)
+
+  module _ (s : ltZ (readBack w64 x) leastValue ≡ false) where
+    pub too-high : ltZ greatestValue (readBack w64 x) ≡ true → greatestValue ≡ clamped x
+    unfolding clamped
+    too-high t = rw (test-low s, test-high t)
+
+    module _ (t : ltZ greatestValue (readBack w64 x) ≡ false) where
+      pub in-range-fits : SFits w32 (readBack w64 x)
+      in-range-fits = subst (SFits w32) (sym (toZ-ofZ f)) (record { sfits = within x (test-low s) (test-high t) })
+
+      pub in-range : readBack w32 (readBack w64 x) ≡ clamped x
+      unfolding clamped
+      in-range = toZ-ofZ in-range-fits ∙ toZ-ofZ f ∙ rw (test-low s, test-high t)
+
+-- the machine's order is that of the values that it reads back; its equality is that of the bits
+pub less-as-read :
+    {a b : ℤ} → SFits w32 a → SFits w32 b → (t : Bool) → ltZ (readBack w32 a) (readBack w32 b) ≡ t → ltZ a b ≡ t
+less-as-read fa fb t e = (λ i. ltZ (sym (toZ-ofZ fa) i) (sym (toZ-ofZ fb) i)) ∙ e
+
+by-bits : {a b : ℤ} → SFits w32 a → SFits w32 b → ofZ w32 a ≡ ofZ w32 b → a ≡ b
+by-bits fa fb e = sym (toZ-ofZ fa) ∙ ap (toZ w32) e ∙ toZ-ofZ fb
+
+same-itself : (a : ℤ) → sameValue a a ≡ true
+same-itself (pos n) = eq-eqb n n refl
+same-itself (negsuc n) = eq-eqb n n refl
+
+pub same-is : (a b : ℤ) → sameValue a b ≡ true → a ≡ b
+same-is (pos m) (pos n) e = ap pos (eqb-true m n e)
+same-is (pos m) (negsuc n) e = absurd (false≢true e)
+same-is (negsuc m) (pos n) e = absurd (false≢true e)
+same-is (negsuc m) (negsuc n) e = ap negsuc (eqb-true m n e)
+
+pub same-by-bits : {a b : ℤ} → SFits w32 a → SFits w32 b → ofZ w32 a ≡ ofZ w32 b → sameValue a b ≡ true
+same-by-bits {a} fa fb e = ap (sameValue a) (sym (by-bits fa fb e)) ∙ same-itself a
+
+pub other-by-bits : (a b : ℤ) → (ofZ w32 a ≡ ofZ w32 b → ⊥) → sameValue a b ≡ false
+other-by-bits a b h = fails (sameValue a b) (λ e. h (ap (ofZ w32) (same-is a b e)))
+
+pub zero-by-bits : {a : ℤ} → SFits w32 a → ofZ w32 a ≡ 0 → isZero a ≡ true
+zero-by-bits f e = ap isZero (by-bits {b = pos 0} f (sfits-lit tt) e)
+
+pub nonzero-by-bits : (a : ℤ) → (ofZ w32 a ≡ 0 → ⊥) → isZero a ≡ false
+nonzero-by-bits (pos zero) h = absurd (h refl)
+nonzero-by-bits (pos (suc n)) h = refl
+nonzero-by-bits (negsuc n) h = refl
+
+-- what division asks of a widened divisor
+bits-above : (b : ℤ) → SFits w32 b → (ofZ w32 b ≡ 0 → ⊥) → 0 < ofZ w64 b
+bits-above (pos zero) f h = absurd (h refl)
+bits-above (pos (suc n)) f h = omega arith
+bits-above (negsuc n) f h = omega (arith, f .sfits)
+
+pub divisor-above : {b : ℤ} → SFits w32 b → (ofZ w32 b ≡ 0 → ⊥) → 0 < ofZ w64 (readBack w32 b)
+divisor-above {b} f h = subst (λ (z : ℤ). 0 < ofZ w64 z) (sym (toZ-ofZ f)) (bits-above b f h)
+
+pub quotient-by-zero : (a : ℤ) {b : ℤ} → SFits w32 b → ofZ w32 b ≡ 0 → pos 0 ≡ quotient a b
+unfolding quotient
+quotient-by-zero a f e = rw (zero-by-bits f e)
+
+pub quotient-clamped : (a b : ℤ) → (ofZ w32 b ≡ 0 → ⊥) → clamped (quotZ a b) ≡ quotient a b
+unfolding quotient
+quotient-clamped a b h = rw (nonzero-by-bits b h)

@@ -1,0 +1,25 @@
+-- `subtract`: the difference is exact in 64 bits, and `clamp` clamps it.
+use lib.IntN.{_-ℤ_}
+use borrow.Author.Needs.{needs}
+use Rattle.values.proofs.Signed.{widens, widened-fits, difference-fits, clamped-result}
+use Rattle.values.proofs.arithmetic.subtract.Statement.{statement}
+use Rattle.values.proofs.arithmetic.subtract.Tie as tie
+
+cast-clamp : tie.Need-cast-clamp
+cast-clamp c = search widens
+
+cast-clamp-2 : tie.Need-cast-clamp-2
+cast-clamp-2 c = search widens
+
+sub-clamp : tie.Need-sub-clamp
+sub-clamp c = search (difference-fits, widened-fits)
+
+clamp-requires : tie.Need-clamp-requires
+clamp-requires c κs = search needs
+
+returns : tie.Need-returns
+returns c =
+    clamped-result _-ℤ_ difference-fits (c .before .fits .a) (c .before .fits .b) (c .clamp .ok) (c .clamp .ensures)
+
+pub subtract-spec : {M : Type 1} → statement M
+subtract-spec = tie.close (tie.spec cast-clamp cast-clamp-2 sub-clamp clamp-requires returns)
