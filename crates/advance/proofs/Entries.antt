@@ -20,7 +20,8 @@ use Rattle.program.proofs.Fronts.{front-form}
 use Rattle.residual.specs.Residual.{own}
 use Rattle.residual.specs.Nodes.{left, inFront}
 use Rattle.residual.proofs.Sights.{alone-within, beside-above, Sight, sees-nothing, sees-itself, sees-alone, sees-before, sees-watched, sees-guarded, sees-beside}
-use Rattle.moves.specs.Contracts.{isWriter, IsWriter}
+use Rattle.moves.specs.Contracts.{IsWriter}
+use Rattle.language.specs.Kinds.{hasWrite}
 use Rattle.moves.proofs.OwnMoves.{writer-is}
 use Rattle.advance.specs.Contracts.{ownNext, Leads, ownMove, Follows}
 
@@ -59,10 +60,10 @@ own-part f st h =
     ∙ ap (λ i. getD st i 0) (omega arith)
 
 -- an assignment or an emission is next
-pub writes-both : (tag kind : ℕ) → (eqb tag 0 && isWriter kind) ≡ true → IsWriter kind × (tag ≡ 0)
+pub writes-both : (tag kind : ℕ) → (eqb tag 0 && hasWrite kind) ≡ true → IsWriter kind × (tag ≡ 0)
 writes-both tag kind e = (
-  writer-is kind (and-right (eqb tag 0) (isWriter kind) e),
-  eqb-true tag 0 (and-left (eqb tag 0) (isWriter kind) e),
+  writer-is kind (and-right (eqb tag 0) (hasWrite kind) e),
+  eqb-true tag 0 (and-left (eqb tag 0) (hasWrite kind) e),
 )
 
 -- one whose move is next has it as its form

@@ -9,7 +9,7 @@ ghost use lib.Dec.{eqb};
 ghost use Prim.Native.Nat.{_<_};
 ghost use Rattle.program.specs.Program.{mostNodes, kindAt};
 ghost use Rattle.residual.specs.Nodes.{NodeIn};
-ghost use Rattle.moves.specs.Contracts.{isWriter};
+ghost use Rattle.language.specs.Kinds.{hasWrite};
 ghost use Rattle.advance.specs.Contracts.{ownNext, Follows};
 
 // Nothing, since the node is nil or suspended; or its part in front takes its place, since it stands alone; or that part is
@@ -23,7 +23,7 @@ pub enum Next {
 // Node k, whose own byte is `tag`, is an assignment or an emission, and that is next.
 fn writes_next(program: &[usize; WORDS], k: usize, tag: u8) -> bool
     requires { ⌜ k < mostNodes ⌝ }
-    ensures { λ r. ⌜ r ≡ (eqb tag 0 && isWriter (kindAt (now (program .entry)) k)) ⌝ }
+    ensures { λ r. ⌜ r ≡ (eqb tag 0 && hasWrite (kindAt (now (program .entry)) k)) ⌝ }
 {
     if tag != forms::WRITTEN {
         return false;

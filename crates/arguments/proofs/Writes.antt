@@ -7,7 +7,7 @@ use native.Mathlib.Omega.{arith}
 use Rattle.language.specs.Syntax.{Proc}
 use Rattle.language.proofs.Naming.{WritesOnly}
 use Rattle.layout.specs.Layout.{layoutOf, nameCount, nodeCount}
-use Rattle.scope.specs.Checked.{Checked}
+use Rattle.script.specs.Checked.{Checked}
 use Rattle.tree.specs.Tree.{processOf, tree}
 use Rattle.layout.proofs.Layouts.{few-bounds}
 use Rattle.tree.proofs.Views.{NodeView, aNil, anAssign, aLet, anIf, aWhile, aSequence, anEmit, aLocal, aWatching, aWhen, aParallel, node-view}

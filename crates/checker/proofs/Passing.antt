@@ -13,7 +13,7 @@ use Rattle.lattice.specs.Lattice.{bookLattice}
 use Rattle.language.specs.Levels.{needs}
 use Rattle.layout.specs.Layout.{nodeCount}
 use Rattle.script.specs.Refusals as scripts
-use Rattle.scope.specs.Checked.{Checked}
+use Rattle.script.specs.Checked.{Checked}
 use Rattle.tree.specs.Tree.{namesOf, tree}
 use Rattle.script.proofs.Theorems.{accepted-exactly}
 use Rattle.flow.specs.Flow.{firstFailing}

@@ -23,7 +23,7 @@ use Rattle.language.proofs.Stopping.{run-few}
 use Rattle.layout.specs.declared.Script.{Script}
 use Rattle.layout.specs.Layout.{layoutOf, nameCount}
 use Rattle.layout.specs.Entries.{nameOf}
-use Rattle.scope.specs.Checked.{Checked, Levelled}
+use Rattle.script.specs.Checked.{Checked, Levelled}
 use Rattle.script.proofs.Theorems.{accepted-exactly}
 use Rattle.tree.specs.Tree.{namesOf, tree}
 use Rattle.moves.specs.Contracts.{mostSteps}

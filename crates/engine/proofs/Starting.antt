@@ -12,7 +12,7 @@ use Rattle.language.specs.Calls.{Stop, starts, givenBack, reach, run}
 use Rattle.language.proofs.Naming.{run-alike}
 use Rattle.layout.specs.Layout.{layoutOf, nameCount, nodeCount}
 use Rattle.layout.proofs.Layouts.{few-bounds}
-use Rattle.scope.specs.Checked.{Checked}
+use Rattle.script.specs.Checked.{Checked}
 use Rattle.tree.specs.Tree.{namesOf, tree}
 use Rattle.program.specs.Program as program
 use Rattle.plan.specs.Plan.{ProgramOf}

@@ -1,6 +1,6 @@
 // What the names hold, and the values of expressions.
 use program::WORDS;
-use program::kinds;
+use language::expression_kinds;
 ghost use mathlib.Core.Path.{_≡_};
 ghost use Prim.Native.Nat.{_<_};
 ghost use lib.ListN.{length};
@@ -29,7 +29,7 @@ fn leaf_value(values: &[i32], w: usize) -> i32
     requires { ⌜ (0 < kindIn w → operandIn w < length (now values)) ⌝ }
     ensures { λ r. ⌜ r ≡ leafValue (now (values .entry)) w ⌝ }
 {
-    if packing::kind_in(w) == kinds::CONSTANT {
+    if packing::kind_in(w) == expression_kinds::CONSTANT {
         return values::words::value_of_word(packing::constant_in(w) as u32);
     }
     let x = packing::operand_in(w);
@@ -40,19 +40,19 @@ fn leaf_value(values: &[i32], w: usize) -> i32
 fn operate(kind: usize, a: i32, b: i32) -> i32
     ensures { λ r. ⌜ r ≡ applied kind a b ⌝ }
 {
-    if kind == kinds::ADD {
+    if kind == expression_kinds::ADD {
         return values::arithmetic::add(a, b);
     }
-    if kind == kinds::SUBTRACT {
+    if kind == expression_kinds::SUBTRACT {
         return values::arithmetic::subtract(a, b);
     }
-    if kind == kinds::MULTIPLY {
+    if kind == expression_kinds::MULTIPLY {
         return values::arithmetic::multiply(a, b);
     }
-    if kind == kinds::DIVIDE {
+    if kind == expression_kinds::DIVIDE {
         return values::arithmetic::divide(a, b);
     }
-    if kind == kinds::LESS {
+    if kind == expression_kinds::LESS {
         return values::comparison::less(a, b);
     }
     values::comparison::equal(a, b)
@@ -64,7 +64,7 @@ fn operand(program: &[usize; WORDS], values: &[i32], e: usize) -> i32
     ensures { λ r. ⌜ r ≡ value (expressionOf (now (program .entry)) e) (now (values .entry)) ⌝ }
 {
     let w = program::expression_at(program, e);
-    if packing::kind_in(w) <= kinds::REGISTER {
+    if packing::kind_in(w) <= expression_kinds::REGISTER {
         return leaf_value(values, w);
     }
     value_of(program, values, e)
@@ -77,11 +77,11 @@ pub fn value_of(program: &[usize; WORDS], values: &[i32], e: usize) -> i32
 {
     let w = program::expression_at(program, e);
     let kind = packing::kind_in(w);
-    if kind <= kinds::REGISTER {
+    if kind <= expression_kinds::REGISTER {
         return leaf_value(values, w);
     }
     let a = operand(program, values, packing::operand_in(w));
-    if kind == kinds::NOT {
+    if kind == expression_kinds::NOT {
         return values::comparison::not(a);
     }
     let b = operand(program, values, packing::later_in(w));

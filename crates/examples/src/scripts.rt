@@ -2,7 +2,7 @@
 use crate::say;
 use layout::Script;
 ghost use Rattle.layout.specs.Layout.{Laid};
-ghost use Rattle.scope.specs.Checked.{Checked};
+ghost use Rattle.script.specs.Checked.{Checked};
 
 fn say_script(file: &[u8], c: Script)
     requires { ⌜ Laid (now file) c × Checked (now file) ⌝ }

@@ -10,10 +10,10 @@ use Rattle.prelude.proofs.Bools.{by-cases}
 use Rattle.book.specs.LevelBook.{mostLevels, atOrBelow}
 use Rattle.pairs.specs.Table.{kept}
 use Rattle.lattice.proofs.Theorems.{as-level-own}
-use Rattle.levels.specs.declared.Flow.{Flow}
-use Rattle.levels.specs.declared.Own.{Own}
-use Rattle.levels.specs.Kinds.{hasTest, hasWrite}
-use Rattle.levels.specs.Nodes.{writeFrom, testFrom, ownNeed, flowFrom, OwnWithin, FlowWithin}
+use Rattle.flow.specs.declared.nodes.Flow.{Flow}
+use Rattle.flow.specs.declared.nodes.Own.{Own}
+use Rattle.language.specs.Kinds.{hasTest, hasWrite}
+use Rattle.flow.specs.Nodes.{writeFrom, testFrom, ownNeed, flowFrom, OwnWithin, FlowWithin}
 use Rattle.flow.specs.Flow.{Levels, lattice, Ordered, Joins, Meets}
 
 module _ {l : Levels} (o : Ordered l) where

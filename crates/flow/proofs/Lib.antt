@@ -10,3 +10,4 @@ pub mod NodeReads
 pub mod UnderLast
 pub mod Everywhere
 pub mod Theorems
+pub mod ByKind

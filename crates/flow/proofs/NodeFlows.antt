@@ -19,15 +19,15 @@ use Rattle.layout.specs.Entries.{partOf, node}
 use Rattle.fields.specs.Fields.{firstChild, secondChild}
 use Rattle.tree.specs.Tree.{namesOf, processOf}
 use Rattle.layout.proofs.Layouts.{nodes-are}
-use Rattle.levels.specs.declared.Flow.{Flow}
-use Rattle.levels.specs.declared.Own.{Own}
-use Rattle.levels.specs.Kinds as kind
+use Rattle.flow.specs.declared.nodes.Flow.{Flow}
+use Rattle.flow.specs.declared.nodes.Own.{Own}
+use Rattle.language.specs.Kinds as kind
 use Rattle.fields.specs.Roles.{childCount}
-use Rattle.levels.specs.Kinds.{kindOf, hasWrite, hasTest, childrenOf}
-use Rattle.levels.specs.Nodes.{ownOf, writeFrom, testFrom, ownNeed, pairNeed, bothFrom, flowFrom, OwnWithin, FlowWithin}
+use Rattle.language.specs.Kinds.{kindOf, hasWrite, hasTest, childrenOf}
+use Rattle.flow.specs.Nodes.{ownOf, writeFrom, testFrom, ownNeed, pairNeed, bothFrom, flowFrom, OwnWithin, FlowWithin}
 use Rattle.flow.specs.Flow.{Levels, needAt, Smallest, FailsUnder, lattice, Ready, Joins, Meets, FlowAt}
 use Rattle.flow.proofs.BookLevels.{top-is, bottom-is, top-inside, bottom-inside, order-said, join-kept, meet-kept, join-inside, meet-inside, write-inside, test-inside}
-use Rattle.levels.proofs.ByKind.{together, pairHolds, write-by-kind, test-by-kind, need-by-kind}
+use Rattle.flow.proofs.ByKind.{together, pairHolds, write-by-kind, test-by-kind, need-by-kind}
 use Rattle.flow.proofs.Shapes.{Children, none, one, two, kind-is}
 use Rattle.flow.proofs.FailingNodes.{FailsBelow, passes, fails}
 use Rattle.flow.proofs.Least.{smallest-none, smallest-same, smallest-either}

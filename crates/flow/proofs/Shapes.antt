@@ -11,9 +11,9 @@ use Rattle.fields.specs.Roles.{nodeRows, roleIn, child, childCount}
 use Rattle.layout.specs.Entries.{partOf, node}
 use Rattle.fields.specs.Fields.{firstChild, secondChild}
 use Rattle.tree.specs.Tree.{processOf}
-use Rattle.scope.specs.Checked.{Checked}
+use Rattle.script.specs.Checked.{Checked}
 use Rattle.tree.proofs.Views.{NodeView, aNil, anAssign, aLet, anIf, aWhile, aSequence, anEmit, aLocal, aWatching, aWhen, aParallel, node-view}
-use Rattle.levels.specs.Kinds.{kindOf, childrenOf}
+use Rattle.language.specs.Kinds.{kindOf, childrenOf}
 
 module _ (s : List ℕ) (k : ℕ) where
   abbrev part : Part

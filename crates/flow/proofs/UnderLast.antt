@@ -16,7 +16,7 @@ use Rattle.fields.specs.Roles.{nodeRows, roleIn, expression, child, childCount}
 use Rattle.layout.specs.Entries.{partOf, node}
 use Rattle.fields.specs.Fields.{fieldCount, fieldOf, valueOf}
 use Rattle.uses.specs.Uses.{usedBy, used}
-use Rattle.scope.specs.Checked.{Checked}
+use Rattle.script.specs.Checked.{Checked}
 use Rattle.layout.proofs.Layouts.{few-parts}
 use Rattle.entries.proofs.Holding.{holds-expression, right-field}
 use Rattle.uses.proofs.Used.{used-of}

@@ -17,11 +17,11 @@ use Rattle.layout.specs.Layout.{expressionsAt, expressionCount, nodeCount, layo
 use Rattle.layout.specs.Entries.{partOf, node}
 use Rattle.fields.specs.Fields.{firstChild, secondChild}
 use Rattle.tree.specs.Tree.{namesOf, expressionOf, processOf, tree}
-use Rattle.scope.specs.Checked.{Checked, Levelled}
-use Rattle.levels.specs.declared.Flow.{Flow}
-use Rattle.levels.specs.declared.Own.{Own}
+use Rattle.script.specs.Checked.{Checked, Levelled}
+use Rattle.flow.specs.declared.nodes.Flow.{Flow}
+use Rattle.flow.specs.declared.nodes.Own.{Own}
 use Rattle.fields.specs.Roles.{childCount}
-use Rattle.levels.specs.Nodes.{ownOf, OwnWithin, FlowWithin}
+use Rattle.flow.specs.Nodes.{ownOf, OwnWithin, FlowWithin}
 
 -- row 11: 'a need above fails', at 'first node': node k has its need
 abbrev pub needAt : Lattice ℕ → List ℕ → ℕ → Bool

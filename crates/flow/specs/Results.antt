@@ -11,7 +11,7 @@ use Rattle.lattice.specs.Lattice.{Lattice, bookLattice}
 use Rattle.language.specs.Levels.{needs}
 use Rattle.layout.specs.Layout.{nodeCount}
 use Rattle.tree.specs.Tree.{namesOf, tree}
-use Rattle.scope.specs.Checked.{Checked}
+use Rattle.script.specs.Checked.{Checked}
 use Rattle.flow.specs.Flow.{needAt, firstFailing, lattice, levelsOf, Ordered, Joins, Meets}
 
 -- The needs of a checked script hold exactly when every node of the file has its own, so exactly when no node is the

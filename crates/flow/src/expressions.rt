@@ -1,5 +1,5 @@
 // The level of an expression.
-use crate::kinds;
+use language::expression_kinds;
 use layout::parts::name_at;
 use layout::parts::part_at;
 use pairs::table::PairTable;
@@ -14,15 +14,15 @@ pub fn level_of(s: &[u8], offset: usize, bottom: usize, join: &PairTable, e: usi
     ensures { λ r. ⌜ ((l : Levels) → Reads (now (s .entry)) offset bottom (now (join .entry)) l → LevelAt l (now (s .entry)) e r) ⌝ }
 {
     let part = part_at(s, offset, e);
-    if part.kind == kinds::CONSTANT {
+    if part.kind == expression_kinds::CONSTANT {
         return bottom;
     }
-    if part.kind == kinds::REGISTER {
+    if part.kind == expression_kinds::REGISTER {
         let name = name_at(s, part.a);
         return name.level;
     }
     let left = level_of(s, offset, bottom, join, part.a);
-    if part.kind == kinds::NOT {
+    if part.kind == expression_kinds::NOT {
         return left;
     }
     let right = level_of(s, offset, bottom, join, part.b);

@@ -1,12 +1,13 @@
 // Write level, test level and refusal 11: one walk over the tree of a checked script.
-mod kinds; // kinds.rt: the kinds of expressions
 mod expressions; // expressions.rt: the level of an expression
 mod own; // own.rt: what a node brings itself
 mod walk; // walk.rt: the walk over the nodes
+pub mod nodes; // nodes.rt: what a node has, from what its children have
+pub mod groups; // groups.rt: the groups of kinds that the levels tell apart
 
 use book::Book;
 use layout::Script;
-use levels::Flow;
+use crate::nodes::Flow;
 use pairs::table::PairTable;
 ghost use Rattle.flow.specs.Flow.{levelsOf, Ready, Joins, Meets, FlowOf};
 

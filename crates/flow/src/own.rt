@@ -2,9 +2,10 @@
 use crate::expressions::level_of;
 use layout::parts::Part;
 use layout::parts::name_at;
-use levels::Own;
-use levels::kinds;
-use levels::kinds::is_either;
+use crate::nodes::Own;
+use language::process_kinds;
+use crate::groups;
+use crate::groups::is_either;
 use pairs::table::PairTable;
 ghost use Rattle.flow.specs.Flow.{Levels, Reads, IsNode, OwnOf};
 
@@ -13,20 +14,20 @@ pub fn own_levels(s: &[u8], offset: usize, bottom: usize, join: &PairTable, p: P
     requires { ⌜ ((l : Levels) × Reads (now s) offset bottom (now join) l) × IsNode (now s) p ⌝ }
     ensures { λ r. ⌜ ((l : Levels) → Reads (now (s .entry)) offset bottom (now (join .entry)) l → OwnOf l (now (s .entry)) p r) ⌝ }
 {
-    if is_either(p.kind, kinds::ASSIGN, kinds::LET) {
+    if is_either(p.kind, process_kinds::ASSIGN, process_kinds::LET) {
         let name = name_at(s, p.a);
         return Own {
             level: level_of(s, offset, bottom, join, p.b),
             name: name.level,
         };
     }
-    if is_either(p.kind, kinds::IF, kinds::WHILE) {
+    if is_either(p.kind, process_kinds::IF, process_kinds::WHILE) {
         return Own {
             level: level_of(s, offset, bottom, join, p.a),
             name: bottom,
         };
     }
-    if kinds::has_signal(p.kind) {
+    if groups::has_signal(p.kind) {
         let name = name_at(s, p.a);
         return Own {
             level: name.level,

@@ -4,7 +4,7 @@ use book::Book;
 use fields::children::children_of;
 use fields::roles::child_count;
 use layout::parts::part_at;
-use levels::Flow;
+use crate::nodes::Flow;
 use pairs::table::PairTable;
 ghost use Prim.Native.Nat.{_<_};
 ghost use Rattle.flow.specs.Flow.{Levels, Walks, FlowAt};
@@ -35,15 +35,15 @@ pub fn flow_at(
             test: bottom,
             failing: nodes,
         };
-        return levels::node_flow(rows, join, k, p.kind, own, none, true);
+        return crate::nodes::node_flow(rows, join, k, p.kind, own, none, true);
     }
     let children = children_of(p);
     let i = children.first;
     let first = flow_at(s, at, expressions, nodes, rows, top, bottom, join, meet, i);
     if count == 1 {
-        return levels::node_flow(rows, join, k, p.kind, own, first, true);
+        return crate::nodes::node_flow(rows, join, k, p.kind, own, first, true);
     }
     let j = children.second;
     let second = flow_at(s, at, expressions, nodes, rows, top, bottom, join, meet, j);
-    levels::pair_flow(rows, join, meet, k, p.kind, own, first, second)
+    crate::nodes::pair_flow(rows, join, meet, k, p.kind, own, first, second)
 }

@@ -24,7 +24,8 @@ use Rattle.program.specs.Forms.{itself}
 use Rattle.residual.specs.Residual.{own, firstOf, secondOf, residual}
 use Rattle.moves.specs.Moves.{Live, Silent}
 use Rattle.residual.specs.Nodes.{Valued, At, left}
-use Rattle.moves.specs.Contracts.{Unmoved, IsSilent, isWriter, IsWriter, WriterAt, Written}
+use Rattle.moves.specs.Contracts.{Unmoved, IsSilent, IsWriter, WriterAt, Written}
+use Rattle.language.specs.Kinds.{hasWrite}
 use Rattle.residual.proofs.Residuals.{zeros, own-set-at, some-bytes}
 use Rattle.residual.proofs.Sights.{MovesItself, not-itself, alone-within, beside-above, Sight, sees-nothing, sees-itself, sees-alone, sees-before, sees-watched, sees-guarded, sees-beside, own-put, length-put, first-put}
 
@@ -93,7 +94,7 @@ is-itself (sees-guarded e x a i r) q = absurd (omega (arith, e, q))
 is-itself (sees-beside e o g p i j r) q = absurd (omega (arith, beside-above e, q))
 
 -- assignments and emissions
-pub writer-is : (kind : ℕ) → isWriter kind ≡ true → IsWriter kind
+pub writer-is : (kind : ℕ) → hasWrite kind ≡ true → IsWriter kind
 writer-is kind e =
     elim (ℕ-discrete kind 1) [
       | yes q ↦ inl q
@@ -101,10 +102,10 @@ writer-is kind e =
     ]
 
 -- let, if, while and local are left
-pub is-silent : {kind : ℕ} → MovesItself kind → isWriter kind ≡ false → IsSilent kind
+pub is-silent : {kind : ℕ} → MovesItself kind → hasWrite kind ≡ false → IsSilent kind
 is-silent {kind} m e =
-    let a : kind ≡ 1 → ⊥ = λ q. true≢false (sym (ap isWriter q) ∙ e) in
-    let b : kind ≡ 6 → ⊥ = λ q. true≢false (sym (ap isWriter q) ∙ e) in
+    let a : kind ≡ 1 → ⊥ = λ q. true≢false (sym (ap hasWrite q) ∙ e) in
+    let b : kind ≡ 6 → ⊥ = λ q. true≢false (sym (ap hasWrite q) ∙ e) in
     elim (ℕ-discrete kind 2) [
       | yes e ↦ inl e
       | no c ↦

@@ -8,6 +8,7 @@ use Prim.Native.Nat.{ℕ, suc, _+_, _*_, _/_, _≤_, _<_}
 use lib.Dec.{eqb}
 use lib.IntN.{ℤ}
 use lib.ListN.{set, length}
+use Rattle.language.specs.Kinds.{assign, letIn, ifThenElse, while, emit, local}
 use Rattle.language.specs.Syntax.{Proc, nil}
 use Rattle.language.specs.Steps.{move}
 use Rattle.language.specs.Calls.{Line, System, lineFor, calledFor}
@@ -105,14 +106,11 @@ MovesSilently words k st values st′ values′ = Silent (left words k st) value
 
 -- let, if, while and local are such
 abbrev pub IsSilent : ℕ → Type 0
-IsSilent kind = (kind ≡ 2) ⊎ ((kind ≡ 3) ⊎ ((kind ≡ 4) ⊎ (kind ≡ 7)))
+IsSilent kind = (kind ≡ letIn) ⊎ ((kind ≡ ifThenElse) ⊎ ((kind ≡ while) ⊎ (kind ≡ local)))
 
 -- assignments and emissions call for one
-abbrev pub isWriter : ℕ → Bool
-isWriter kind = eqb kind 1 || eqb kind 6
-
 abbrev pub IsWriter : ℕ → Type 0
-IsWriter kind = (kind ≡ 1) ⊎ (kind ≡ 6)
+IsWriter kind = (kind ≡ assign) ⊎ (kind ≡ emit)
 
 -- a move that gives x this value and leaves nil: an assignment or an emission
 pub record Writes (p : Proc ℕ) (s : List ℤ) (x : ℕ) (v : ℤ) : Type 0 where

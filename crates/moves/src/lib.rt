@@ -5,11 +5,13 @@ mod log; // log.rt: the lines of the log
 use counts::Counts;
 use counts::Moved;
 use counts::Reason;
+use language::process_kinds;
 use program::WORDS;
 use program::forms;
 ghost use mathlib.Core.Path.{_≡_};
 ghost use lib.ListN.{length, replicate};
-ghost use Rattle.moves.specs.Contracts.{Unmoved, MovesSilently, IsSilent, isWriter, WriterAt, Written, CanMoveItself, Makes};
+ghost use Rattle.language.specs.Kinds.{letIn, ifThenElse, while, local, hasWrite};
+ghost use Rattle.moves.specs.Contracts.{Unmoved, MovesSilently, IsSilent, WriterAt, Written, CanMoveItself, Makes};
 
 fn clear(state: &mut [u8])
     ensures { λ _. ⌜ now (state .exit) ≡ replicate (length (now (state .entry))) 0 ⌝ }
@@ -34,7 +36,7 @@ fn clear_body(state: &mut [u8])
 
 // A let sets its name and leaves its body.
 fn move_let(program: &[usize; WORDS], values: &mut [i32], state: &mut [u8], k: usize)
-    requires { ⌜ Unmoved (now program) k (now state) (now values) 2 ⌝ }
+    requires { ⌜ Unmoved (now program) k (now state) (now values) letIn ⌝ }
     ensures { λ _. ⌜ MovesSilently (now (program .entry)) k (now (state .entry)) (now (values .entry)) (now (state .exit)) (now (values .exit)) ⌝ }
 {
     let x = program::a_at(program, k);
@@ -45,7 +47,7 @@ fn move_let(program: &[usize; WORDS], values: &mut [i32], state: &mut [u8], k: u
 
 // A local makes its signal absent and leaves its body.
 fn move_local(program: &[usize; WORDS], values: &mut [i32], state: &mut [u8], k: usize)
-    requires { ⌜ Unmoved (now program) k (now state) (now values) 7 ⌝ }
+    requires { ⌜ Unmoved (now program) k (now state) (now values) local ⌝ }
     ensures { λ _. ⌜ MovesSilently (now (program .entry)) k (now (state .entry)) (now (values .entry)) (now (state .exit)) (now (values .exit)) ⌝ }
 {
     let a = program::a_at(program, k);
@@ -55,7 +57,7 @@ fn move_local(program: &[usize; WORDS], values: &mut [i32], state: &mut [u8], k:
 
 // An if leaves a branch.
 fn move_if(program: &[usize; WORDS], values: &[i32], state: &mut [u8], k: usize)
-    requires { ⌜ Unmoved (now program) k (now state) (now values) 3 ⌝ }
+    requires { ⌜ Unmoved (now program) k (now state) (now values) ifThenElse ⌝ }
     ensures { λ _. ⌜ MovesSilently (now (program .entry)) k (now (state .entry)) (now (values .entry)) (now (state .exit)) (now (values .entry)) ⌝ }
 {
     if evaluation::test_holds(program, values, program::a_at(program, k)) {
@@ -67,7 +69,7 @@ fn move_if(program: &[usize; WORDS], values: &[i32], state: &mut [u8], k: usize)
 
 // A while leaves its body, as it is written, and then itself; or nil.
 fn move_while(program: &[usize; WORDS], values: &[i32], state: &mut [u8], k: usize)
-    requires { ⌜ Unmoved (now program) k (now state) (now values) 4 ⌝ }
+    requires { ⌜ Unmoved (now program) k (now state) (now values) while ⌝ }
     ensures { λ _. ⌜ MovesSilently (now (program .entry)) k (now (state .entry)) (now (values .entry)) (now (state .exit)) (now (values .entry)) ⌝ }
 {
     if evaluation::test_holds(program, values, program::a_at(program, k)) {
@@ -90,11 +92,11 @@ fn move_silently(
     requires { ⌜ IsSilent kind ⌝ }
     ensures { λ _. ⌜ MovesSilently (now (program .entry)) k (now (state .entry)) (now (values .entry)) (now (state .exit)) (now (values .exit)) ⌝ }
 {
-    if kind == 4 {
+    if kind == process_kinds::WHILE {
         move_while(program, values, state, k);
-    } else if kind == 3 {
+    } else if kind == process_kinds::IF {
         move_if(program, values, state, k);
-    } else if kind == 2 {
+    } else if kind == process_kinds::LET {
         move_let(program, values, state, k);
     } else {
         move_local(program, values, state, k);
@@ -103,9 +105,9 @@ fn move_silently(
 
 // An assignment or an emission: its move calls for a line.
 pub fn is_writer(kind: usize) -> bool
-    ensures { λ r. ⌜ r ≡ isWriter kind ⌝ }
+    ensures { λ r. ⌜ r ≡ hasWrite kind ⌝ }
 {
-    kind == 1 || kind == 6
+    kind == process_kinds::ASSIGN || kind == process_kinds::EMIT
 }
 
 // What node k, an assignment or an emission, gives its name.
@@ -113,7 +115,7 @@ fn written(program: &[usize; WORDS], values: &[i32], k: usize, kind: usize) -> i
     requires { ⌜ WriterAt (now program) k (now values) kind ⌝ }
     ensures { λ r. ⌜ Written (now (program .entry)) k (now (values .entry)) r ⌝ }
 {
-    if kind == 6 {
+    if kind == process_kinds::EMIT {
         return 1;
     }
     evaluation::value_of(program, values, program::b_at(program, k))

@@ -19,7 +19,7 @@ use Rattle.layout.specs.Layout.{layoutOf, nameCount, expressionCount, nodeCount
 use Rattle.layout.specs.Entries.{nameOf, partOf, node}
 use Rattle.layout.proofs.Layouts.{few-bounds, names-are, expressions-are, nodes-are}
 use Rattle.fields.specs.Fields.{firstChild, secondChild}
-use Rattle.scope.specs.Checked.{Checked}
+use Rattle.script.specs.Checked.{Checked}
 use Rattle.tree.specs.Tree.{expressionsFrom, noExpression, expressionOf, processesFrom, processOf}
 use Rattle.tree.proofs.Views.{code, code-range, ExpressionView, aConstant, aRegister, aBinary, aNegated, expression-view, UsesName, NodeView, aNil, anAssign, aLet, anIf, aWhile, aSequence, anEmit, aLocal, aWatching, aWhen, aParallel, node-view}
 use Rattle.tree.proofs.NodeSizes.{size-within, whole-size}

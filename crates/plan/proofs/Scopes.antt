@@ -14,7 +14,7 @@ use Rattle.layout.specs.Entries.{nameOf, session, isSession, node}
 use Rattle.fields.specs.Fields.{fieldCount}
 use Rattle.uses.specs.Uses.{used}
 use Rattle.scope.specs.Reach.{inReach}
-use Rattle.scope.specs.Checked.{Checked}
+use Rattle.script.specs.Checked.{Checked}
 use Rattle.tree.specs.Tree.{processOf}
 use Rattle.layout.proofs.Layouts.{few-bounds}
 use Rattle.entries.proofs.Naming.{owned}

@@ -14,7 +14,7 @@ use Rattle.layout.specs.Entries.{partOf, node}
 use Rattle.fields.specs.Roles.{nodeRows, roleIn, unused}
 use Rattle.fields.specs.Fields.{fieldCount, fieldOf, firstChild, secondChild}
 use Rattle.entries.proofs.Holding.{right-field, holds-unused}
-use Rattle.scope.specs.Checked.{Checked}
+use Rattle.script.specs.Checked.{Checked}
 use Rattle.tree.specs.Tree.{processOf}
 use Rattle.tree.proofs.Views.{NodeView, aNil, anAssign, aLet, anIf, aWhile, aSequence, anEmit, aLocal, aWatching, aWhen, aParallel, node-view, role}
 use Rattle.plan.specs.Plan.{watchesBefore, watchesBy, KeepsNodes}

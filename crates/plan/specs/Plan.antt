@@ -13,7 +13,7 @@ use Rattle.layout.specs.declared.Script.{Script}
 use Rattle.layout.specs.Layout.{nameCount, expressionCount, nodeCount, Laid}
 use Rattle.layout.specs.Entries.{nameOf, isSession, partOf, node}
 use Rattle.fields.specs.Fields.{firstChild, secondChild}
-use Rattle.scope.specs.Checked.{Checked, Levelled}
+use Rattle.script.specs.Checked.{Checked, Levelled}
 use Rattle.tree.specs.Tree.{expressionOf, processOf, KeepsSizes}
 use Rattle.program.specs.Program.{nameWord, seenBy, expressionWord, nodeWord, wordCount}
 use Rattle.program.specs.Program as program

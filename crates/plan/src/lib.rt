@@ -3,19 +3,14 @@ use book::Book;
 use fields::children::Children;
 use layout::Script;
 use program::WORDS;
-use program::kinds;
+use language::expression_kinds;
+use language::process_kinds;
 ghost use mathlib.Core.Path.{_≡_};
 ghost use Prim.Native.Nat.{_<_};
 ghost use lib.Dec.{leb};
 ghost use mathlib.Core.Bool.{cond};
 ghost use Rattle.layout.specs.Layout.{mostNodes, Laid};
 ghost use Rattle.plan.specs.Plan.{CanPlan, seesIn, CanPackName, NamePacked, ExpressionPacked, NodePacked, Keeps, CanPack, watchesBefore, watchesBy, ProgramOf};
-
-// The kind of a watching.
-const WATCHING: usize = 8;
-
-// Up to this kind field b is an expression; past it a second child stands there.
-const LET: usize = 2;
 
 fn wide(x: u16) -> usize
     ensures { λ r. ⌜ r ≡ x ⌝ }
@@ -37,17 +32,17 @@ fn has_watching(words: &[usize; WORDS], k: usize, kind: usize, parts: Children) 
     requires { ⌜ k < mostNodes ⌝ }
     ensures { λ r. ⌜ r ≡ watchesBy (now (words .entry)) k kind (parts .first) (parts .second) ⌝ }
 {
-    if kind == WATCHING {
+    if kind == process_kinds::WATCHING {
         return true;
     }
     watches_before(words, k, parts.first) || watches_before(words, k, parts.second)
 }
 
-// Field b: an expression, or the second child.
+// Field b: up to a let an expression, past it the second child.
 fn field_b(kind: usize, b: usize, second: usize) -> usize
     ensures { λ r. ⌜ r ≡ cond (leb kind 2) b second ⌝ }
 {
-    if kind <= LET {
+    if kind <= process_kinds::LET {
         return b;
     }
     second
@@ -79,8 +74,8 @@ fn expression_word(s: &[u8], c: Script, e: usize) -> usize
     ensures { λ r. ⌜ ExpressionPacked (now (s .entry)) e r ⌝ }
 {
     let p = layout::parts::part_at(s, c.offset, e);
-    if p.kind == kinds::CONSTANT {
-        return packing::pack_expression(kinds::CONSTANT, p.b, p.c);
+    if p.kind == expression_kinds::CONSTANT {
+        return packing::pack_expression(expression_kinds::CONSTANT, p.b, p.c);
     }
     packing::pack_expression(p.kind, p.b, p.a)
 }

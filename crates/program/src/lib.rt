@@ -1,7 +1,6 @@
 // A program: what a run goes by of each name, each expression and each node, in one word each. Its meaning is read off the
 // words alone.
 pub mod forms; // forms.rt: the form that a node has come to
-pub mod kinds; // kinds.rt: the kinds of expressions
 
 ghost use mathlib.Core.Path.{_≡_};
 ghost use Prim.Native.Nat.{_<_};

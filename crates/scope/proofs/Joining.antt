@@ -16,7 +16,7 @@ use Rattle.fields.specs.Fields.{fieldCount}
 use Rattle.entries.specs.Faults.{holds}
 use Rattle.entries.proofs.Holding.{holds-expression, holds-child, right-field}
 use Rattle.uses.specs.Uses.{fieldAt, allFields, usedBy, used, timesUsed}
-use Rattle.scope.specs.Checked.{Joined}
+use Rattle.scope.specs.Joined.{Joined}
 
 module _ (s : List ℕ) (q : ℕ) (x : Field) where
   -- what a right field uses comes before its part

@@ -19,7 +19,7 @@ ghost use Rattle.layout.specs.Entries.{isSession};
 ghost use Rattle.fields.specs.Fields.{fieldCount};
 ghost use Rattle.entries.specs.Faults.{Sound};
 ghost use Rattle.scope.specs.Reach.{missesName, isOutOfReach, opens, KeepsReachAt, KeepsReachFrom, reachRefusal};
-ghost use Rattle.scope.specs.Checked.{Joined};
+ghost use Rattle.scope.specs.Joined.{Joined};
 
 // Name x is in the set: bit x.
 fn has(set: u64, x: usize) -> bool

@@ -17,7 +17,7 @@ use Rattle.entries.proofs.Sounding.{Faultless, faultless, sound, no-fault}
 use Rattle.uses.specs.Uses.{useRefusal}
 use Rattle.uses.proofs.Counting.{each-once, none-loose}
 use Rattle.scope.specs.Reach.{reachRefusal}
-use Rattle.scope.specs.Checked.{Checked, Levelled}
+use Rattle.script.specs.Checked.{Checked, Levelled}
 use Rattle.scope.proofs.Refusing.{all-in-reach, none-outside}
 use Rattle.script.specs.Refusals.{entryRefusal, refusal, isAccepted}
 

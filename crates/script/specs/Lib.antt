@@ -3,3 +3,4 @@ pub mod Refusals
 pub mod Load
 pub mod Results
 pub mod Examples
+pub mod Checked

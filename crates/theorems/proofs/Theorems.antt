@@ -28,7 +28,7 @@ use Rattle.report.proofs.Starts.{begun-begins}
 use Rattle.report.proofs.Theorems as report
 use Rattle.layout.specs.Layout.{nameCount}
 use Rattle.layout.specs.Entries.{isSessionName}
-use Rattle.scope.specs.Checked.{Checked}
+use Rattle.script.specs.Checked.{Checked}
 use Rattle.script.specs.Refusals as scripts
 use Rattle.tree.specs.Tree.{namesOf, tree}
 use Rattle.tree.proofs.Theorems.{tree-scoped, tree-named}

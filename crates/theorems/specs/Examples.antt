@@ -7,7 +7,7 @@ use lib.IntN.{ℤ, pos, negsuc}
 use lib.ListN.{length, replicate}
 use Rattle.layout.specs.Entries.{session}
 use Rattle.layout.specs.Files.{name, part, all, file}
-use Rattle.levels.specs.Kinds.{nil, assign, ifThenElse, while, sequence, emit, watching, when, parallel}
+use Rattle.language.specs.Kinds.{nil, assign, ifThenElse, while, sequence, emit, watching, when, parallel}
 use Rattle.results.specs.declared.Verdict.{Verdict}
 use Rattle.results.specs.declared.Report.{Report}
 use Rattle.engine.specs.Answers.{Left, verdict, left}

@@ -20,7 +20,7 @@ use Rattle.fields.specs.Fields.{fieldCount, fieldOf, valueOf}
 use Rattle.uses.specs.Uses.{used}
 use Rattle.uses.proofs.Used.{used-of, used-child}
 use Rattle.scope.specs.Reach.{within}
-use Rattle.scope.specs.Checked.{Checked}
+use Rattle.script.specs.Checked.{Checked}
 use Rattle.scope.proofs.Joining.{used-once}
 use Rattle.scope.proofs.Reaching.{within-self, within-step, within-cases, within-below, within-up}
 use Rattle.tree.specs.Tree.{processOf}

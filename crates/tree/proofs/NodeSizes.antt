@@ -26,7 +26,7 @@ use Rattle.entries.specs.Faults.{holds}
 use Rattle.entries.proofs.Holding.{holds-expression, holds-child, right-field}
 use Rattle.uses.specs.Uses.{allFields, usedBy, used, timesUsed}
 use Rattle.uses.proofs.Used.{used-of, used-child}
-use Rattle.scope.specs.Checked.{Checked}
+use Rattle.script.specs.Checked.{Checked}
 use Rattle.scope.proofs.Joining.{used-earlier}
 use Rattle.language.specs.Shapes.{size}
 use Rattle.tree.specs.Tree.{processOf, tree, childSize, KeepsSizes}

@@ -15,7 +15,7 @@ use Rattle.layout.specs.Layout.{layoutOf, nameCount, expressionCount, nodeCount
 use Rattle.layout.specs.Entries.{nameOf, session, isSession, isSessionName, node}
 use Rattle.layout.proofs.Layouts.{few-bounds}
 use Rattle.scope.specs.Reach.{inReach}
-use Rattle.scope.specs.Checked.{Checked}
+use Rattle.script.specs.Checked.{Checked}
 use Rattle.scope.proofs.Reaching.{reach-last}
 use Rattle.tree.specs.Tree.{namesOf, expressionOf, processOf, tree}
 use Rattle.tree.proofs.Views.{UsesName, NewName, UsesPart, UsesExpression, UsesNode, ExpressionView, aConstant, aRegister, aBinary, aNegated, NodeView, aNil, anAssign, aLet, anIf, aWhile, aSequence, anEmit, aLocal, aWatching, aWhen, aParallel, expression-view, node-view}

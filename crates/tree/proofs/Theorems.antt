@@ -2,7 +2,7 @@
 -- Assumes nothing.
 use mathlib.Core.List.{List}
 use Prim.Native.Nat.{ℕ}
-use Rattle.scope.specs.Checked.{Checked}
+use Rattle.script.specs.Checked.{Checked}
 use Rattle.tree.specs.Results.{TreeScoped, TreeNamed, NodesCounted}
 use Rattle.tree.proofs.Scoping as scoping
 use Rattle.tree.proofs.Declaring as declaring

@@ -26,7 +26,7 @@ use Rattle.entries.proofs.Naming.{named-use, named-new}
 use Rattle.uses.specs.Uses.{used}
 use Rattle.uses.proofs.Used.{used-of, used-child, used-expression}
 use Rattle.scope.specs.Reach.{inReach, isOutOfReach, missesName}
-use Rattle.scope.specs.Checked.{Checked}
+use Rattle.script.specs.Checked.{Checked}
 use Rattle.scope.proofs.Reaching.{opens-of, reach-used}
 use Rattle.tree.specs.Tree.{constantOf, expressionsFrom, noExpression, expressionOf, processesFrom, processOf}
 

@@ -6,7 +6,7 @@ use Rattle.language.specs.NameKinds.{Kind}
 use Rattle.language.specs.Scope.{Scoped, Declared, Once}
 use Rattle.layout.specs.Layout.{nameCount, nodeCount}
 use Rattle.layout.specs.Entries.{isSession, isSessionName}
-use Rattle.scope.specs.Checked.{Checked}
+use Rattle.script.specs.Checked.{Checked}
 use Rattle.language.specs.Shapes.{size}
 use Rattle.tree.specs.Tree.{namesOf, processOf, tree}
 

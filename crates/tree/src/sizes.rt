@@ -8,7 +8,7 @@ ghost use Prim.Native.Nat.{_+_, _<_};
 ghost use Rattle.layout.specs.Layout.{Laid};
 ghost use Rattle.layout.specs.Entries.{node};
 ghost use Rattle.fields.specs.Fields.{fieldCount, fieldOf};
-ghost use Rattle.scope.specs.Checked.{Checked};
+ghost use Rattle.script.specs.Checked.{Checked};
 ghost use Rattle.language.specs.Shapes.{size};
 ghost use Rattle.tree.specs.Tree.{processOf, childSize, KeepsSizes};
 

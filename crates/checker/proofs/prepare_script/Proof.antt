@@ -9,7 +9,7 @@ use Rattle.script.specs.declared.Loaded.{Loaded}
 use Rattle.layout.specs.Layout.{Laid}
 use Rattle.script.specs.Refusals as files
 use Rattle.script.specs.Load.{loaded}
-use Rattle.scope.specs.Checked.{Checked, Levelled}
+use Rattle.script.specs.Checked.{Checked, Levelled}
 use Rattle.layout.proofs.Layouts.{few-bounds, nodes-are}
 use Rattle.script.proofs.Theorems.{loaded-checked}
 use Rattle.flow.specs.Flow.{lattice, levelsOf}

@@ -4,9 +4,9 @@ use mathlib.Core.List.{List}
 use Prim.Native.Nat.{ℕ, _-_}
 use native.Mathlib.Omega.{arith}
 use Rattle.layout.specs.Layout.{nodeCount}
-use Rattle.scope.specs.Checked.{Checked}
+use Rattle.script.specs.Checked.{Checked}
 use Rattle.layout.proofs.Layouts.{few-bounds, nodes-are}
-use Rattle.levels.specs.declared.Flow.{Flow}
+use Rattle.flow.specs.declared.nodes.Flow.{Flow}
 use Rattle.flow.specs.Flow.{Levels, lattice, levelsOf, Ready, Walks, FlowAt, FlowOf}
 use Rattle.flow.proofs.Everywhere.{failing-first}
 use Rattle.flow.proofs.find_flow.Statement.{statement}

@@ -1,7 +1,7 @@
 -- `writes_next`: by the byte, then by the kind.
 use mathlib.Core.Path.{ap, _∙_}
 use borrow.Author.Tests.{eq-eqb, ne-eqb}
-use Rattle.moves.specs.Contracts.{isWriter}
+use Rattle.language.specs.Kinds.{hasWrite}
 use borrow.Author.Needs.{needs}
 use Rattle.advance.proofs.next.writes_next.Statement.{statement}
 use Rattle.advance.proofs.next.writes_next.Tie as tie
@@ -16,7 +16,7 @@ is-writer-requires : tie.Need-is-writer-requires
 is-writer-requires c κs = search needs
 
 returns-2 : tie.Need-returns-2
-returns-2 c = rw (eq-eqb _ 0 (c .before .before .if1 .left)) (c .is-writer .ensures ∙ ap isWriter (c .before .kind-at .ensures))
+returns-2 c = rw (eq-eqb _ 0 (c .before .before .if1 .left)) (c .is-writer .ensures ∙ ap hasWrite (c .before .kind-at .ensures))
 
 pub writes-next-spec : {M : Type 1} → statement M
 writes-next-spec = tie.close (tie.spec returns kind-at-requires is-writer-requires returns-2)

@@ -1,8 +1,8 @@
 -- `own_levels`: by the three tests of the kind.
 use mathlib.Core.Path.{_≡_, sym, _∙_, subst}
 use mathlib.Core.Bool.{true, false}
-use Rattle.levels.specs.Kinds.{hasValue, hasCondition, hasSignal}
-use Rattle.levels.specs.Nodes.{brings}
+use Rattle.language.specs.Kinds.{hasValue, hasCondition, hasSignal}
+use Rattle.flow.specs.Nodes.{brings}
 use Rattle.flow.specs.Flow.{OwnOf}
 use Rattle.layout.proofs.Layouts.{name-within}
 use Rattle.flow.proofs.OwnViews.{value-known, value-brings, condition-known, condition-brings, signal-known, signal-brings, nothing-brings}

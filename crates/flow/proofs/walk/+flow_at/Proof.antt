@@ -7,7 +7,7 @@ use Rattle.pairs.specs.Table.{kept}
 use Rattle.layout.specs.Layout.{Laid, layoutOf}
 use Rattle.layout.specs.Entries.{partOf}
 use Rattle.layout.proofs.Layouts.{few-bounds, part-within}
-use Rattle.levels.specs.Nodes.{bothFrom, pairNeed}
+use Rattle.flow.specs.Nodes.{bothFrom, pairNeed}
 use Rattle.flow.specs.Flow.{Levels, Walks, IsNodeAt}
 use Rattle.flow.proofs.BookLevels.{flow-index}
 use Rattle.flow.proofs.NodeFlows.{PartsAt}
@@ -19,9 +19,9 @@ use Rattle.flow.proofs.walk.flow_at.Reads as flow-at
 use Rattle.flow.proofs.walk.flow_at.Kinds as flow-at-kinds
 use Rattle.flow.proofs.walk.+flow_at.Lts-flow_at as flow-at-lts
 use Rattle.fields.proofs.roles.child_count.Reads as child-count-reads
-use Rattle.levels.proofs.node_flow.Reads as node-flow-reads
+use Rattle.flow.proofs.nodes.node_flow.Reads as node-flow-reads
 use Rattle.flow.proofs.own.own_levels.Reads as own-levels-reads
-use Rattle.levels.proofs.pair_flow.Reads as pair-flow-reads
+use Rattle.flow.proofs.nodes.pair_flow.Reads as pair-flow-reads
 use Rattle.fields.proofs.children.children_of.Reads as children-of-reads
 use Rattle.layout.proofs.parts.part_at.Reads as part-at-reads
 use Rattle.flow.proofs.walk.+flow_at.{statement}

@@ -1,0 +1,19 @@
+-- `both_of`: the two tables have the levels.
+use borrow.Author.Needs.{needs}
+use Rattle.flow.proofs.nodes.both_of.Statement.{statement}
+use Rattle.flow.proofs.nodes.both_of.Tie as tie
+
+level-at-requires : tie.Need-level-at-requires
+level-at-requires c κs = search needs
+
+level-at-requires-2 : tie.Need-level-at-requires-2
+level-at-requires-2 c κs = search needs
+
+lesser-requires : tie.Need-lesser-requires
+lesser-requires c κs = search needs
+
+returns : tie.Need-returns
+returns c = simp (c .before .before .level-at .ensures, c .before .level-at2 .ensures, c .lesser .ensures)
+
+pub both-of-spec : {M : Type 1} → statement M
+both-of-spec = tie.close (tie.spec level-at-requires level-at-requires-2 lesser-requires returns)
