@@ -1,5 +1,4 @@
 -- A book of the right size: 1 to 16 levels, and as many rows.
--- Assumes nothing.
 use mathlib.Core.Path.{_≡_, ap}
 use mathlib.Core.Bool.{true}
 use mathlib.Core.List.{List}

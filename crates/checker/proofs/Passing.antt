@@ -1,5 +1,4 @@
 -- What a check that refuses nothing shows of its book and script.
--- Assumes nothing.
 use mathlib.Core.Path.{_≡_, refl, sym, _∙_}
 use mathlib.Core.Bool.{true}
 use mathlib.Core.List.{List}

@@ -1,5 +1,4 @@
 -- Rows of the table of refusals, one after the other: when they pass.
--- Assumes nothing.
 use mathlib.Core.Path.{_≡_, sym, _∙_}
 use mathlib.Core.Bool.{false, cond}
 use Prim.Native.Nat.{ℕ, _≤_}

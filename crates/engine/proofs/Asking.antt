@@ -1,5 +1,4 @@
 -- Where there is room for exactly the words of an answer the call is made, else all is as before.
--- Assumes nothing.
 use mathlib.Core.Path.{_≡_, sym, _∙_}
 use mathlib.Core.List.{List}
 use Prim.Native.Nat.{ℕ}

@@ -1,5 +1,4 @@
 -- What a right field holds, role by role.
--- Assumes nothing.
 use mathlib.Core.Path.{_≡_}
 use mathlib.Core.Bool.{true, _&&_, _||_}
 use mathlib.Core.List.{List}

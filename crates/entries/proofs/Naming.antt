@@ -1,5 +1,4 @@
 -- What right names and right fields tell: an owned name's declaration, and the name that a field holds.
--- Assumes nothing.
 use mathlib.Core.Path.{_≡_, refl, sym, ap, _∙_}
 use mathlib.Core.Bool.{Bool, true, false, not, _||_}
 use mathlib.Core.List.{List}

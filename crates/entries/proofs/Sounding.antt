@@ -1,5 +1,4 @@
 -- Rows 6 to 8 refuse nothing exactly where names and parts are right.
--- Assumes nothing.
 use mathlib.Core.Path.{_≡_, refl, ap, _∙_}
 use mathlib.Core.Bool.{true, not}
 use mathlib.Core.List.{List}

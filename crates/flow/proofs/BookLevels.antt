@@ -1,5 +1,4 @@
 -- Of levels of a book, what its tables keep and its rows say is what its lattice says, and it is a level of the book.
--- Assumes nothing.
 use mathlib.Core.Path.{_≡_, sym, ap, _∙_, subst}
 use mathlib.Core.Bool.{Bool, cond, _&&_}
 use mathlib.Core.List.{List}

@@ -1,5 +1,4 @@
 -- 01's list by kind is `writeLevel`, `testLevel` and `need` of a process, from what its children have.
--- Assumes nothing.
 use mathlib.Core.Path.{_≡_, refl, ap, _∙_}
 use mathlib.Core.Bool.{Bool, true, false, _&&_}
 use mathlib.Core.List.{List, [], _∷_}

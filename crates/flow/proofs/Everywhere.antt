@@ -1,5 +1,4 @@
 -- The needs of a script hold exactly when every node has its own; the first node whose need fails.
--- Assumes nothing.
 use mathlib.Core.Path.{_≡_, refl, sym, ap, _∙_}
 use mathlib.Core.Bool.{Bool, true, false, not, _&&_}
 use mathlib.Core.List.{List}

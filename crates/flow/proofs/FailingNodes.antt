@@ -1,5 +1,4 @@
 -- The failing nodes under a node: those under its children, and the node itself if its own need fails.
--- Assumes nothing.
 use mathlib.Core.Path.{_≡_, refl, sym, ap, _∙_, subst}
 use mathlib.Core.Bool.{true, false, true≢false}
 use mathlib.Core.List.{List}

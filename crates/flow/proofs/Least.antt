@@ -1,5 +1,4 @@
 -- The smallest number with a property: of no number, of one, of two properties together.
--- Assumes nothing.
 use mathlib.Core.Logic.{_⊎_, inl, inr, ⊎-elim}
 use Prim.Native.Nat.{ℕ, _≤_}
 use native.Mathlib.Omega.{arith}

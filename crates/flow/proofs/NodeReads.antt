@@ -1,5 +1,4 @@
 -- The same laws, where the walk has read a node: what the children's walks ask, and what each number of children gives.
--- Assumes nothing.
 use mathlib.Core.Path.{_≡_, refl, sym, ap, _∙_, subst}
 use mathlib.Core.Bool.{Bool, true}
 use mathlib.Core.List.{List}

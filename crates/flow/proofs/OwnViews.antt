@@ -1,5 +1,4 @@
 -- What a node brings itself, by the three tests of its kind: its expression or signal, and its name.
--- Assumes nothing.
 use mathlib.Core.Path.{_≡_, refl, sym, ap, ap₂, _∙_, subst}
 use mathlib.Core.Bool.{Bool, true, false}
 use mathlib.Core.List.{List}

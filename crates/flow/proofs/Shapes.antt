@@ -1,5 +1,4 @@
 -- A node of a checked file: its kind is that of its process, and its children are those of its process.
--- Assumes nothing.
 use mathlib.Core.Path.{_≡_, refl, sym, ap, ap₂, _∙_, subst}
 use mathlib.Core.Bool.{cond}
 use mathlib.Core.List.{List, [], _∷_}

@@ -1,5 +1,4 @@
 -- The theorems about the flow of scripts. Their statements stand in specs/Results.antt.
--- Assumes nothing.
 use mathlib.Core.Path.{_≡_, refl, sym, ap, _∙_, subst}
 use mathlib.Core.Bool.{true, cond}
 use mathlib.Core.List.{List}

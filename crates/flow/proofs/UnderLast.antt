@@ -1,5 +1,4 @@
 -- Every node of a checked file lies under the last one: each other node is a child of a greater one.
--- Assumes nothing.
 use mathlib.Core.Path.{_≡_, refl, sym, ap, _∙_, subst}
 use mathlib.Core.Bool.{true, false, false≢true}
 use mathlib.Core.List.{List}

@@ -1,6 +1,5 @@
 -- Two systems that agree on the low names take the same step while something low may yet be written; after that,
 -- nothing low changes in either.
--- Assumes nothing.
 use Prim.Native.Nat.{ℕ, suc}
 use mathlib.Core.Path.{_≡_, refl, ap, ap₂, sym, subst, _∙_}
 use mathlib.Core.Bool.{Bool, true, false, cond, not, _&&_, _||_, true≢false}

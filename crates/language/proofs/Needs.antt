@@ -1,5 +1,4 @@
 -- The test `needs` as a statement about each part.
--- Assumes nothing.
 use mathlib.Core.Path.{_≡_}
 use mathlib.Core.Bool.{true, _&&_}
 use Rattle.prelude.proofs.Bools.{and-intro, and-left, and-right}

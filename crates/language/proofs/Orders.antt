@@ -1,5 +1,4 @@
 -- Joins and meets are monotone.
--- Assumes nothing.
 use Rattle.lattice.specs.Lattice.{Lattice, Laws}
 use Rattle.language.specs.Typing.{Below}
 

@@ -1,5 +1,4 @@
 -- What a process may test and write, seen by a reader of the low names; and that every step keeps it so.
--- Assumes nothing.
 use Prim.Native.Nat.{ℕ}
 use mathlib.Core.Path.{_≡_}
 use mathlib.Core.Bool.{Bool, true, false}

@@ -1,5 +1,4 @@
 -- What the names hold after a store, at the start of an instant, and when a run gives its values back.
--- Assumes nothing.
 use Prim.Native.Nat.{ℕ, _≤_}
 use native.Mathlib.Decide.{decLt, ℕ-discrete}
 use native.Mathlib.Omega.{arith}

@@ -1,5 +1,4 @@
 -- The theorems of the level book, for every list of bytes that is not refused.
--- Assumes nothing.
 use mathlib.Core.Path.{_≡_, sym, subst}
 use mathlib.Core.Bool.{true}
 use mathlib.Core.List.{List}

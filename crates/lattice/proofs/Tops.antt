@@ -1,5 +1,4 @@
 -- Where every pair has a least common upper level, one level is above all.
--- Assumes nothing.
 use mathlib.Core.Path.{_≡_, subst}
 use mathlib.Core.Bool.{Bool, true}
 use Prim.Native.Nat.{ℕ, zero, suc, _≤_, _<_}

@@ -1,5 +1,4 @@
 -- What the tests of the tail and of the counts tell: a file that passes both is laid out as its counts say.
--- Assumes nothing.
 use mathlib.Core.Path.{_≡_, refl, ap, _∙_}
 use mathlib.Core.Bool.{true}
 use mathlib.Core.List.{List}

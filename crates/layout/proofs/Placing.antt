@@ -1,5 +1,4 @@
 -- Searches that refuse a file: what they tell where they find a fault, and where they find none.
--- Assumes nothing.
 use mathlib.Core.Path.{_≡_, refl, sym, ap, _∙_, subst}
 use mathlib.Core.Bool.{Bool, true, false, false≢true}
 use mathlib.Core.List.{List}

@@ -1,5 +1,4 @@
 -- Refusal 2: the faults of a level on whole sets of levels, and the order of levels that have none.
--- Assumes nothing.
 use mathlib.Core.Path.{_≡_, refl, sym, ap, _∙_}
 use mathlib.Core.Bool.{Bool, true, false, not, _&&_, true≢false, false≢true}
 use mathlib.Core.List.{List}

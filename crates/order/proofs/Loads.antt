@@ -1,5 +1,4 @@
 -- What each way out of `load` has to show, and what a book that it does not refuse is.
--- Assumes nothing.
 use mathlib.Core.Path.{_≡_, refl, sym, ap, _∙_}
 use mathlib.Core.Bool.{Bool, true, false, cond, not, false≢true}
 use mathlib.Core.List.{List}

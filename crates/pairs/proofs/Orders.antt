@@ -1,5 +1,4 @@
 -- From tests to laws, for any relation R and any number n of levels.
--- Assumes nothing.
 use mathlib.Core.Path.{_≡_, sym, ap, _∙_, subst}
 use mathlib.Core.Bool.{true, not, _&&_, true≢false}
 use Prim.Native.Nat.{ℕ, _<_}

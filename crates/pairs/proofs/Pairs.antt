@@ -1,5 +1,4 @@
 -- The two sweeps together: the place of refusal 3, and the tables that they fill.
--- Assumes nothing.
 use mathlib.Core.Path.{_≡_, refl, sym, _∙_, subst}
 use mathlib.Core.Bool.{Bool}
 use mathlib.Core.List.{List}

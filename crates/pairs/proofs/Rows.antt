@@ -1,5 +1,4 @@
 -- Rows as sets: in an order the least common upper level of a pair is the one whose row is what the two rows share.
--- Assumes nothing.
 use mathlib.Core.Path.{_≡_, sym, ap, _∙_}
 use mathlib.Core.Bool.{true, false, _&&_, true≢false}
 use mathlib.Core.List.{List}

@@ -1,5 +1,4 @@
 -- The sweep over the pairs: what holds when the pairs of all places below p are done.
--- Assumes nothing.
 use mathlib.Core.Path.{_≡_, refl, sym, ap, _∙_, subst}
 use mathlib.Core.Bool.{Bool, true, false, _&&_}
 use mathlib.Core.List.{List}

@@ -1,6 +1,5 @@
 -- How often a test holds: what one number more adds; that it is one number, and which; and a table that counts how
 -- often a function has each value.
--- Assumes nothing.
 use mathlib.Core.Path.{_≡_, refl, sym, ap, _∙_}
 use mathlib.Core.Bool.{Bool, true, false, true≢false}
 use mathlib.Core.Logic.{⊎-elim}

@@ -1,5 +1,4 @@
 -- Tests that refuse, and rows one after the other: what it tells that nothing is refused.
--- Assumes nothing.
 use mathlib.Core.Path.{_≡_, refl, sym, ap, _∙_}
 use mathlib.Core.Bool.{Bool, true, false, cond, not, true≢false, false≢true}
 use Rattle.prelude.specs.declared.Refusal.{Refusal}

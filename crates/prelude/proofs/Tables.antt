@@ -1,5 +1,4 @@
 -- A table of a function's values: what stands in it, and a list that becomes one by stores from the front.
--- Assumes nothing.
 use mathlib.Core.Path.{_≡_, refl, sym, ap, ap₂, _∙_}
 use mathlib.Core.Logic.{⊎-elim}
 use mathlib.Core.List.{List, [], _∷_, _++_}

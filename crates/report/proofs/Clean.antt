@@ -1,6 +1,5 @@
 -- What the scoping of a script leaves true of every residual: where a part with a declaration may be entered again, or
 -- stands beside another part, the declared name is not free outside it.
--- Assumes nothing.
 use Prim.Native.Nat.{ℕ}
 use mathlib.Core.Path.{_≡_, sym, subst₂}
 use mathlib.Core.Bool.{true, false}

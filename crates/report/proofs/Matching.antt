@@ -1,5 +1,4 @@
 -- Each step of the report is the step in place, up to the names of what is declared.
--- Assumes nothing.
 use Prim.Native.Nat.{ℕ, _<_}
 use mathlib.Core.Path.{_≡_, refl, sym, ap, _∙_}
 use mathlib.Core.Bool.{Bool, true, false}

@@ -1,6 +1,5 @@
 -- The values in place, and the store and the signals of the report, that agree through a renaming; and what steps do to
 -- them.
--- Assumes nothing.
 use Prim.Native.Nat.{ℕ, _<_}
 use native.Mathlib.Decide.{ℕ-discrete}
 use native.Mathlib.Omega.{arith}

@@ -1,5 +1,4 @@
 -- The report can always make the next step, with a name that is not in dom(Γ) where it wants one.
--- Assumes nothing.
 use Prim.Native.Nat.{ℕ, suc, _+_, _≤_, _<_}
 use native.Mathlib.Nat.{le-refl}
 use native.Mathlib.Omega.{arith}

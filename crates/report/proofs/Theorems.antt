@@ -1,5 +1,4 @@
 -- A run in place makes the report's steps. The statements stand in specs/Results.antt.
--- Assumes nothing.
 use Prim.Native.Nat.{ℕ, suc, _+_}
 use native.Mathlib.Omega.{arith}
 use mathlib.Core.Path.{_≡_, refl, sym, subst, ap, ap₂, _∙_}

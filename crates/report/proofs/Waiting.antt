@@ -1,5 +1,4 @@
 -- Suspension and instant changes of a process and of the process that a renaming makes of it.
--- Assumes nothing.
 use Prim.Native.Nat.{ℕ}
 use mathlib.Core.Path.{_≡_, sym, ap, _∙_}
 use mathlib.Core.Bool.{Bool}

@@ -1,5 +1,4 @@
 -- What the theorems ask of a script can be met: the example of specs/Examples.antt.
--- Assumes nothing.
 use Prim.Native.Nat.{ℕ, _<_}
 use native.Mathlib.Omega.{arith}
 use mathlib.Core.Path.{_≡_, refl}

@@ -1,5 +1,4 @@
 -- Words stored one after the other into a slice that has room for exactly these.
--- Assumes nothing.
 use mathlib.Core.Path.{_≡_, refl}
 use mathlib.Core.List.{List, [], _∷_}
 use Prim.Native.Nat.{ℕ}

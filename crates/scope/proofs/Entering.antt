@@ -1,5 +1,4 @@
 -- What a field opens, and whether it misses the name that it uses: by one test after the other.
--- Assumes nothing.
 use mathlib.Core.Path.{_≡_, sym, ap, ap₂, _∙_}
 use mathlib.Core.Bool.{Bool, true, false, not, _&&_, _||_}
 use mathlib.Core.List.{List}

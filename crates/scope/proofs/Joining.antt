@@ -1,5 +1,4 @@
 -- What a file whose parts are right and used once tells of its fields: a part is used by one field, of a later part.
--- Assumes nothing.
 use mathlib.Core.Path.{_≡_, refl, sym, _∙_}
 use mathlib.Core.Bool.{true}
 use mathlib.Core.List.{List}

@@ -1,5 +1,4 @@
 -- A table of the names in reach that is filled from the last field to the first: a part is used by a later one.
--- Assumes nothing.
 use mathlib.Core.Path.{_≡_, sym, ap, _∙_, subst}
 use mathlib.Core.Bool.{_||_}
 use mathlib.Core.List.{List}

@@ -1,6 +1,5 @@
 -- The names in reach in a part: those in reach where it is used, and in the body of a declaration the declared name.
 -- So they can be found from the last part down.
--- Assumes nothing.
 use mathlib.Core.Path.{_≡_, refl, sym, ap, _∙_, subst}
 use mathlib.Core.Bool.{Bool, true, false, _&&_, _||_, false≢true}
 use mathlib.Core.List.{List}

@@ -1,5 +1,4 @@
 -- Row 10 refuses nothing exactly where every part uses only names in reach.
--- Assumes nothing.
 use mathlib.Core.Path.{_≡_, refl}
 use mathlib.Core.Bool.{true, false}
 use mathlib.Core.List.{List}

@@ -1,5 +1,4 @@
 -- A file is not refused exactly when it is checked.
--- Assumes nothing.
 use mathlib.Core.Path.{_≡_, refl, ap, _∙_}
 use mathlib.Core.Bool.{true}
 use mathlib.Core.List.{List}

@@ -1,5 +1,4 @@
 -- The theorems about script files. Their statements stand in specs/Results.antt.
--- Assumes nothing.
 use mathlib.Core.Path.{sym, ap, _∙_, subst}
 use mathlib.Core.Bool.{cond}
 use borrow.Author.Tests.{eq-eqb}

@@ -1,5 +1,4 @@
 -- The example files, computed from the definitions.
--- Assumes nothing.
 use mathlib.Core.Path.{_≡_, refl}
 use mathlib.Core.Bool.{true}
 use Rattle.prelude.specs.Search.{firstFrom, first, any, all, count}

@@ -1,5 +1,4 @@
 -- What the ways out of `read_values` have to show.
--- Assumes nothing.
 use mathlib.Core.Path.{_≡_, sym, subst, _∙_}
 use mathlib.Core.Bool.{false, false≢true}
 use mathlib.Core.List.{List}

@@ -1,5 +1,4 @@
 -- The table of examples, computed from the definitions.
--- Assumes nothing.
 use mathlib.Core.Path.{refl}
 use Rattle.prelude.specs.Search.{firstFrom, first, any, all, count}
 use Rattle.prelude.specs.Course.{course, entry}

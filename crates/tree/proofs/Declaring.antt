@@ -1,6 +1,5 @@
 -- In the script of a checked file no name is declared twice: a declaration is its name's owner, and a node lies under one
 -- child of its parent only.
--- Assumes nothing.
 use mathlib.Core.Path.{_≡_, refl, sym, _∙_, subst}
 use mathlib.Core.Bool.{true}
 use mathlib.Core.List.{List}

@@ -1,6 +1,5 @@
 -- The sizes of a checked file's processes: each is one more than those of the node's children, none is above the
 -- node's own place, and the script has all nodes, since each part is used once.
--- Assumes nothing.
 use mathlib.Core.Path.{_≡_, refl, sym, ap, ap₂, _∙_, subst}
 use mathlib.Core.Bool.{true, false, cond}
 use mathlib.Core.List.{List}

@@ -1,5 +1,4 @@
 -- The tree of a checked file is scoped: at each part the names in reach are in scope.
--- Assumes nothing.
 use mathlib.Core.Path.{_≡_, refl, sym, ap, _∙_, subst}
 use mathlib.Core.Bool.{Bool, true, _||_}
 use mathlib.Core.List.{List}

@@ -1,5 +1,4 @@
 -- The theorems about the tree of a checked file. Their statements stand in specs/Results.antt.
--- Assumes nothing.
 use mathlib.Core.List.{List}
 use Prim.Native.Nat.{ℕ}
 use Rattle.script.specs.Checked.{Checked}

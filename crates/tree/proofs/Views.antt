@@ -1,5 +1,4 @@
 -- The expression or process of a number in a checked file, kind by kind, with what is known of its fields.
--- Assumes nothing.
 use mathlib.Core.Path.{_≡_, refl, sym, ap, ap₂, _∙_, subst}
 use mathlib.Core.Bool.{Bool, true, false, cond, _&&_, _||_}
 use mathlib.Core.List.{List}

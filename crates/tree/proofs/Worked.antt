@@ -1,5 +1,4 @@
 -- The example's tree, computed from the definitions.
--- Assumes nothing.
 use mathlib.Core.Path.{_≡_, refl}
 use Rattle.prelude.specs.Course.{course, entry}
 use Rattle.layout.specs.Files.{every}

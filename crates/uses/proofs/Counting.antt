@@ -1,5 +1,4 @@
 -- Row 9 refuses nothing exactly where each part but the last is used once.
--- Assumes nothing.
 use mathlib.Core.Path.{_≡_, refl, ap}
 use mathlib.Core.Bool.{true, not}
 use mathlib.Core.List.{List}

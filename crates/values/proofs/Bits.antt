@@ -1,5 +1,4 @@
 -- Signed values and their words of 32 bits: what the machine works out in 64 bits is the word, and the value.
--- Assumes nothing.
 use mathlib.Core.Path.{_≡_, refl, sym, ap, _∙_, subst}
 use mathlib.Core.Bool.{Bool, true, false, not, true≢false}
 use Prim.Native.Nat.{ℕ, suc, _^_, _≤_, _<_}

@@ -1,5 +1,4 @@
 -- Values of 32 bits, worked in 64: every exact result fits 64 bits, and what the machine reads back is the number.
--- Assumes nothing.
 use mathlib.Core.Path.{_≡_, refl, sym, ap, _∙_, subst}
 use mathlib.Core.Bool.{Bool, true, false, false≢true}
 use Prim.Native.Nat.{ℕ, zero, suc, _+_, _*_, _/_, _^_, _≤_, _<_}
