@@ -7,9 +7,9 @@ ghost use lib.ListN.{length};
 ghost use Rattle.book.specs.LevelBook.{mostLevels, count, row, rows, isSize, sizeIsRight};
 ghost use Rattle.book.specs.Load.{bookOf};
 
-// A book of n levels can have this length.
-fn is_size(n: usize, length: usize) -> bool
-    ensures { λ r. ⌜ r ≡ isSize n length ⌝ }
+// A book of n levels can have this size.
+fn is_size(n: usize, size: usize) -> bool
+    ensures { λ r. ⌜ r ≡ isSize n size ⌝ }
 {
     if n < 1 {
         return false;
@@ -17,7 +17,7 @@ fn is_size(n: usize, length: usize) -> bool
     if Book::MAX_LEVELS < n {
         return false;
     }
-    length == 1 + 2 * n
+    size == 1 + 2 * n
 }
 
 // The length and the number of levels are those of a book.

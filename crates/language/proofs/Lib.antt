@@ -13,4 +13,3 @@ pub mod Lockstep
 pub mod Noninterference
 pub mod Flows
 pub mod Theorems
-pub mod Worked

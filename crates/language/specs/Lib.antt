@@ -12,5 +12,4 @@ pub mod Instants
 pub mod Typing
 pub mod Paths
 pub mod Results
-pub mod Examples
 pub mod Kinds
