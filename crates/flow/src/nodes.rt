@@ -1,5 +1,5 @@
 // What a node has, from what it brings itself and what its children have: 01's list of W, T and the needs.
-
+use crate::groups;
 use crate::groups::is_either;
 use book::Book;
 use language::process_kinds;
