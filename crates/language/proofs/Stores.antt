@@ -85,6 +85,11 @@ module _ {L : Type 0} (names : Names L) (s : List ℤ) where
   unfolding givenBack
   given-back-session x h = mapped _ s x (λ o. rw h (List·getD-eq-default s (pos 0) o)) ∙ rw h
 
+  -- 'owned names 0'
+  pub given-back-owned : (x : ℕ) → names .isSession x ≡ false → held (givenBack names s) x ≡ pos 0
+  unfolding givenBack
+  given-back-owned x h = mapped _ s x (λ o. rw h refl) ∙ rw h
+
 pub instant-low :
     {L : Type 0} (names : Names L) (low : ℕ → Bool) (s t : List ℤ) → LowEqual low s t →
     LowEqual low (instantStart names s) (instantStart names t)
