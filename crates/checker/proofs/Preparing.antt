@@ -1,6 +1,6 @@
 -- What each way out of the check has to show.
 use mathlib.Core.Path.{_≡_, refl, sym, ap, _∙_, subst}
-use mathlib.Core.Bool.{true, false, false≢true}
+use mathlib.Core.Bool.{true, false}
 use mathlib.Core.List.{List}
 use Prim.Native.Nat.{ℕ, _≤_, zero-le}
 use lib.Dec.{ltb}
@@ -21,23 +21,26 @@ use Rattle.flow.specs.declared.nodes.Flow.{Flow}
 use Rattle.flow.specs.Flow.{firstFailing}
 use Rattle.checker.specs.declared.Prepared.{Prepared}
 use Rattle.checker.specs.Refusals.{scriptRefusal, checkRefusal}
-use Rattle.checker.specs.Contracts.{refusedWith, withFlow, Prepares}
+use Rattle.checker.specs.Contracts.{refusedWith, prepared, withFlow, Prepares}
+
+-- what is found, part by part
+module _ {R : Refusal} {𝓛 : Lattice ℕ} {B : Book} {s : List ℕ} {r : Prepared} (p : Prepares R 𝓛 B s r) where
+  pub found-refusal : r .refusal ≡ R
+  found-refusal =
+      ap (λ x. x .refusal) (p .same)
+      ∙ by-cases (λ (x : Prepared). x .refusal ≡ R) (passes R) (λ _. refl) (λ _. refl)
+
+  pub found-book : passes R ≡ true → r .book ≡ B
+  found-book right = ap (λ x. x .book) (p .same) ∙ rw right
+
+  pub found-layout : passes R ≡ true → r .script ≡ layoutOf s
+  found-layout right = ap (λ x. x .script) (p .same) ∙ rw right
 
 -- a refusal
 pub refused-by :
     {𝓛 : Lattice ℕ} {B : Book} {s : List ℕ} {R given : Refusal} → given ≡ R → passes given ≡ false →
     Prepares R 𝓛 B s (refusedWith given)
-refused-by {R = R} e f =
-    let no : passes R ≡ true → ⊥ = λ p. false≢true (sym f ∙ ap passes e ∙ p) in
-    record {
-      refusal = e;
-      book = λ p. absurd (no p);
-      layout = λ p. absurd (no p);
-      none = λ _. (refl, refl);
-      few = (zero-le, zero-le);
-      write = λ p. absurd (no p);
-      test = λ p. absurd (no p);
-    }
+refused-by e f = record { same = ap refusedWith e ∙ sym (rw (ap passes (sym e) ∙ f)); few = (zero-le, zero-le) }
 
 pub by-script :
     (n : ℕ) (𝓛 : Lattice ℕ) (s : List ℕ) {R : Refusal} → R ≡ scripts.refusal s n → passes R ≡ false →
@@ -65,22 +68,20 @@ module _ (n : ℕ) (𝓛 : Lattice ℕ) (B : Book) (s : List ℕ) (right : scrip
   by-none : ltb (found .failing) (script .nodes) ≡ false → notRefused ≡ scriptRefusal n 𝓛 s
   by-none l = sym (rw (right, ← f .failing, ← f .nodes, l))
 
+  -- what is found where no node fails
+  abbrev found-so : Prepared
+  found-so = record { refusal = notRefused; book = B; script = script; write = found .write; test = found .test }
+
+  found-is : found-so ≡ prepared notRefused 𝓛 B s
+  found-is = rw (f .layout, f .write, f .test) refl
+
   pub flow-prepares : Prepares (scriptRefusal n 𝓛 s) 𝓛 B s (withFlow B script (found .write) (found .test) (found .failing))
   flow-prepares =
       by-cases
       (λ (r : Prepared). Prepares (scriptRefusal n 𝓛 s) 𝓛 B s r)
       (ltb (found .failing) (script .nodes))
       (λ l. refused-by (by-flow l) refl)
-      (λ l.
-      record {
-        refusal = by-none l;
-        book = λ _. refl;
-        layout = λ _. f .layout;
-        none = λ p. absurd (false≢true (sym p ∙ ap passes (sym (by-none l))));
-        few = f .few;
-        write = λ _. f .write;
-        test = λ _. f .test;
-      })
+      (λ l. record { same = subst (λ R. found-so ≡ prepared R 𝓛 B s) (by-none l) found-is; few = f .few })
 
 -- under a book that rows 1 to 3 let through
 module _ (b s : List ℕ) (right : books.isAccepted b ≡ true) (B : Book) (same : B ≡ bookOf b)

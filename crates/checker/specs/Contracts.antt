@@ -1,6 +1,6 @@
 -- What a check has found.
 use mathlib.Core.Path.{_≡_}
-use mathlib.Core.Bool.{true, false, cond}
+use mathlib.Core.Bool.{cond}
 use mathlib.Core.List.{List}
 use Prim.Native.Nat.{ℕ, _≤_}
 use lib.Dec.{ltb}
@@ -17,19 +17,29 @@ use Rattle.script.specs.Load.{noScript}
 use Rattle.tree.specs.Tree.{namesOf, tree}
 use Rattle.checker.specs.declared.Prepared.{Prepared}
 
--- The refusal is R; and where it passes, beside it stand the book, the layout of the script, and W and T under the book's
--- lattice. 'A refusal's other returned numbers are 0.'
-pub record Prepares (R : Refusal) (𝓛 : Lattice ℕ) (B : Book) (s : List ℕ) (r : Prepared) : Type 0 where
-  pub refusal : r .refusal ≡ R
-  pub book : passes R ≡ true → r .book ≡ B
-  pub layout : passes R ≡ true → r .script ≡ layoutOf s
-  pub none : passes R ≡ false → (r .write ≡ 0) × (r .test ≡ 0)
-  pub few : (r .write ≤ mostLevels) × (r .test ≤ mostLevels)
-  pub write : passes R ≡ true → r .write ≡ writeLevel 𝓛 (namesOf s) (tree s)
-  pub test : passes R ≡ true → r .test ≡ testLevel 𝓛 (namesOf s) (tree s)
-
+-- 'A refusal's other returned numbers are 0.'
 abbrev pub refusedWith : Refusal → Prepared
 refusedWith r = record { refusal = r; book = noBook; script = noScript; write = 0; test = 0 }
+
+-- What a check finds, where the refusal is R: if R passes, beside it the book, the layout of the script, and W and T under
+-- the book's lattice.
+abbrev pub prepared : Refusal → Lattice ℕ → Book → List ℕ → Prepared
+prepared R 𝓛 B s =
+    cond
+    (passes R)
+    (record {
+      refusal = R;
+      book = B;
+      script = layoutOf s;
+      write = writeLevel 𝓛 (namesOf s) (tree s);
+      test = testLevel 𝓛 (namesOf s) (tree s);
+    })
+    (refusedWith R)
+
+-- and that W and T can be levels
+pub record Prepares (R : Refusal) (𝓛 : Lattice ℕ) (B : Book) (s : List ℕ) (r : Prepared) : Type 0 where
+  pub same : r ≡ prepared R 𝓛 B s
+  pub few : (r .write ≤ mostLevels) × (r .test ≤ mostLevels)
 
 -- row 11: 'a need above fails', 'first node'
 abbrev pub withFlow : Book → Script → ℕ → ℕ → ℕ → Prepared

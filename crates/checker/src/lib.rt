@@ -1,8 +1,8 @@
 // A level book and a script file are checked: refusals 1 to 11.
 use book::Book;
 use layout::Script;
-use prelude::Refusal;
 use pairs::table::PairTable;
+use prelude::Refusal;
 ghost use mathlib.Core.Path.{_≡_};
 ghost use Prim.Native.Nat.{_≤_};
 ghost use Rattle.book.specs.Load.{bookOf};
@@ -65,8 +65,8 @@ fn with_flow(book: Book, script: Script, write: usize, test: usize, failing: usi
 }
 
 // Refusals 4 to 11, under a checked book with its tables of joins and meets.
-fn prepare_script(s: &[u8], book: Book, join: &PairTable, meet: &PairTable) -> Prepared
-    requires { ⌜ Ordered (levelsOf book) × (Joins (levelsOf book) (now join) × Meets (levelsOf book) (now meet)) ⌝ }
+fn prepare_script(s: &[u8], book: Book, join: PairTable, meet: PairTable) -> Prepared
+    requires { ⌜ Ordered (levelsOf book) × (Joins (levelsOf book) join × Meets (levelsOf book) meet) ⌝ }
     ensures { λ r. ⌜ Prepares (scriptRefusal (book .count) (lattice (levelsOf book)) (now (s .entry))) (lattice (levelsOf book)) book (now (s .entry)) r ⌝ }
 {
     let read = script::load(s, book.count);
@@ -81,11 +81,16 @@ fn prepare_script(s: &[u8], book: Book, join: &PairTable, meet: &PairTable) -> P
 pub fn prepare(b: &[u8], s: &[u8]) -> Prepared
     ensures { λ r. ⌜ Prepares (checkRefusal (now (b .entry)) (now (s .entry))) (bookLattice (now (b .entry))) (bookOf (now (b .entry))) (now (s .entry)) r ⌝ }
 {
+    let read = order::load(b);
+    if read.refusal.number != 0 {
+        return refused(read.refusal);
+    }
     let mut join = [[0u8; Book::MAX_LEVELS]; Book::MAX_LEVELS];
     let mut meet = [[0u8; Book::MAX_LEVELS]; Book::MAX_LEVELS];
-    let loaded = lattice::load(b, &mut join, &mut meet);
-    if loaded.refusal.number != 0 {
-        return refused(loaded.refusal);
+    let place = pairs::first_lacking(read.book, &mut join, &mut meet);
+    let lack = pairs::lack_refusal(place);
+    if lack.number != 0 {
+        return refused(lack);
     }
-    prepare_script(s, loaded.book, &join, &meet)
+    prepare_script(s, read.book, join, meet)
 }

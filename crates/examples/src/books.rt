@@ -28,23 +28,28 @@ fn say_table(title: &[u8], t: &PairTable, n: usize)
     }
 }
 
-fn say_book(b: Book, join: &PairTable, meet: &PairTable)
+fn say_book(b: Book, join: PairTable, meet: PairTable)
     requires { ⌜ b .count ≤ mostLevels ⌝ }
 {
     say(b"levels ", b.count);
     say(b" bottom ", lattice::bottom_of(b));
     say(b" top ", lattice::top_of(b));
-    say_table(b"\njoins\n", join, b.count);
-    say_table(b"meets\n", meet, b.count);
+    say_table(b"\njoins\n", &join, b.count);
+    say_table(b"meets\n", &meet, b.count);
 }
 
 pub fn show(file: &[u8]) {
+    let read = order::load(file);
+    if 0 < read.refusal.number {
+        display::say_refusal(read.refusal.number, read.refusal.place);
+        return;
+    }
     let mut join = [[0u8; Book::MAX_LEVELS]; Book::MAX_LEVELS];
     let mut meet = [[0u8; Book::MAX_LEVELS]; Book::MAX_LEVELS];
-    let loaded = lattice::load(file, &mut join, &mut meet);
-    if 0 < loaded.refusal.number {
-        display::say_refusal(loaded.refusal.number, loaded.refusal.place);
-    } else {
-        say_book(loaded.book, &join, &meet);
+    let lack = pairs::lack_refusal(pairs::first_lacking(read.book, &mut join, &mut meet));
+    if 0 < lack.number {
+        display::say_refusal(lack.number, lack.place);
+        return;
     }
+    say_book(read.book, join, meet);
 }

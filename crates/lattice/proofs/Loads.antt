@@ -1,97 +1,70 @@
--- What each way out of `load` has to show.
-use mathlib.Core.Path.{_≡_, refl, sym, ap, _∙_, subst}
+-- A book that is read in order, with what is found of its pairs: whether rows 1 to 3 refuse it, and what the tables keep.
+use mathlib.Core.Path.{_≡_, sym, ap, _∙_, subst}
 use mathlib.Core.Bool.{true, false, false≢true}
 use mathlib.Core.List.{List}
-use Prim.Native.Nat.{ℕ, _*_, _≤_, _<_}
+use Prim.Native.Nat.{ℕ, _*_}
+use native.Mathlib.Decide.{decLt}
 use native.Mathlib.Nat.{le-antisymm}
-use borrow.Author.Tests.{eq-eqb, ne-eqb, lt-ltb, le-ltb}
-use Rattle.prelude.specs.declared.Refusal.{Refusal}
-use Rattle.prelude.specs.Refusals.{refusedBy, notRefused, passes}
+use native.Mathlib.Omega.{arith}
+use borrow.Author.Tests.{eq-eqb, ne-eqb, lt-ltb}
+use Rattle.prelude.specs.Refusals.{passes}
 use Rattle.prelude.proofs.Searches.{first-within}
 use Rattle.book.specs.declared.Loaded.{Loaded}
 use Rattle.book.specs.LevelBook.{mostLevels, count, rows, atOrBelow}
+use Rattle.order.specs.Order.{leastUpper, greatestLower}
 use Rattle.order.specs.Rows.{InOrder}
 use Rattle.order.specs.Refusals as orders
 use Rattle.order.specs.Load as orders-load
-use Rattle.book.specs.Load.{answer, noBook, bookOf}
-use Rattle.order.proofs.Loads.{passing-refusal, passing-order}
-use Rattle.pairs.specs.Refusals.{firstLacking}
+use Rattle.book.specs.Load.{bookOf}
+use Rattle.order.proofs.Loads.{passing-order}
+use Rattle.pairs.specs.Table.{Keeps}
+use Rattle.pairs.specs.Refusals.{firstLacking, lackRefusal}
 use Rattle.pairs.specs.Bounds.{Paired}
 use Rattle.lattice.specs.Refusals.{refusal, isAccepted}
-use Rattle.lattice.specs.Load.{loaded, Loads}
 
--- what the first two refusals leave: the book as it was read, in order
 module _ (s : List ℕ) (r : Loaded) (read : r ≡ orders-load.loaded s) where
+  refusal-read : r .refusal ≡ orders.refusal s
+  unfolding orders-load.loaded
+  refusal-read = ap (λ x. x .refusal) read
+
+  -- refusal 1 or 2
+  pub order-refused : (r .refusal .number ≡ 0 → ⊥) → r .refusal ≡ refusal s
+  unfolding refusal
+  order-refused some =
+      let none : passes (orders.refusal s) ≡ false = ap passes (sym refusal-read) ∙ ne-eqb _ 0 some in
+      refusal-read ∙ sym (rw none)
+
   module _ (zero : r .refusal .number ≡ 0) where
     passes-both : passes (orders.refusal s) ≡ true
-    unfolding orders-load.loaded
-    passes-both = eq-eqb _ 0 (sym (ap (λ x. x .refusal .number) read) ∙ zero)
+    passes-both = ap passes (sym refusal-read) ∙ eq-eqb _ 0 zero
 
-    read-is : r ≡ answer notRefused (bookOf s)
+    pub book-read : r .book ≡ bookOf s
     unfolding orders-load.loaded
-    read-is = read ∙ rw (passes-both, passing-refusal s passes-both)
-
-    book-is : r .book ≡ bookOf s
-    book-is = ap (λ x. x .book) read-is
+    book-read = ap (λ x. x .book) read ∙ rw passes-both
 
     pub in-order : InOrder (r .book .rows) (r .book .count)
-    in-order = subst (λ b. InOrder (b .rows) (b .count)) (sym book-is) (passing-order s passes-both)
+    in-order = subst (λ b. InOrder (b .rows) (b .count)) (sym book-read) (passing-order s passes-both)
 
-  refused-is : passes (orders.refusal s) ≡ false → r ≡ answer (orders.refusal s) noBook
-  unfolding orders-load.loaded
-  refused-is none = read ∙ rw none
-
-  refusal-is : passes (orders.refusal s) ≡ false → refusal s ≡ orders.refusal s
-  unfolding refusal
-  refusal-is none = rw none
-
-  -- a refusal, whatever the tables then are
-  refuses :
-      (x : Refusal) (join meet : List (List ℕ)) (l : Loaded) → passes x ≡ false → refusal s ≡ x → l ≡ answer x noBook →
-      Loads s l join meet
-  unfolding loaded
-  refuses x join meet l none e q =
-      let no : isAccepted s ≡ false = ap passes e ∙ none in
-      record {
-        result = q ∙ sym (rw (no, e));
-        joins = λ yes. absurd (false≢true (sym no ∙ yes));
-        meets = λ yes. absurd (false≢true (sym no ∙ yes));
-      }
-
-  module _ (join meet : List (List ℕ)) where
-    -- refusal 1 or 2
-    pub order-way : (r .refusal .number ≡ 0 → ⊥) → Loads s r join meet
-    unfolding orders-load.loaded
-    order-way some =
-        let none : passes (orders.refusal s) ≡ false = ne-eqb _ 0 (λ e. some (ap (λ x. x .refusal .number) read ∙ e)) in
-        refuses (orders.refusal s) join meet r none (refusal-is none) (refused-is none)
-
-    module _ (zero : r .refusal .number ≡ 0) (p : ℕ) (w : Paired (atOrBelow (r .book .rows)) (r .book .count) join meet p) where
+    module _ {join meet : List (List ℕ)} {p : ℕ} (w : Paired (atOrBelow (r .book .rows)) (r .book .count) join meet p) where
       paired : Paired (atOrBelow (rows s)) (count s) join meet p
-      paired = subst (λ b. Paired (atOrBelow (b .rows)) (b .count) join meet p) (book-is zero) w
+      paired = subst (λ b. Paired (atOrBelow (b .rows)) (b .count) join meet p) book-read w
 
-      lacks : p < mostLevels * mostLevels → refusal s ≡ refusedBy 3 p
+      -- refusal 3, or none
+      pub pairs-refused : lackRefusal p ≡ refusal s
       unfolding refusal
-      lacks l = rw (passes-both zero, sym (paired .first-place), lt-ltb p (mostLevels * mostLevels) l)
+      pairs-refused = ap lackRefusal (paired .first-place) ∙ sym (rw passes-both)
 
-      pub pair-way : p < mostLevels * mostLevels → (x : Loaded) → x ≡ answer (refusedBy 3 p) noBook → Loads s x join meet
-      pair-way l x e = refuses (refusedBy 3 p) join meet x refl (lacks l) e
+      module _ (right : isAccepted s ≡ true) where
+        most : p ≡ mostLevels * mostLevels
+        unfolding firstLacking
+        most =
+            elim (decLt p (mostLevels * mostLevels)) [
+              | yes l ↦ absurd (false≢true (rw (lt-ltb p (mostLevels * mostLevels) l) at (ap passes pairs-refused ∙ right)))
+              | no l ↦ le-antisymm (rw (paired .first-place) (first-within _ _)) (omega arith)
+            ]
 
-      most : mostLevels * mostLevels ≤ p → p ≡ mostLevels * mostLevels
-      unfolding firstLacking
-      most l = le-antisymm (rw (paired .first-place) (first-within _ _)) l
+        pub joins-kept : Keeps join (count s) (leastUpper (atOrBelow (rows s)) (count s))
+        joins-kept = paired .joins most
 
-      lacks-none : mostLevels * mostLevels ≤ p → refusal s ≡ notRefused
-      unfolding refusal
-      lacks-none l = rw (passes-both zero, sym (paired .first-place), le-ltb p (mostLevels * mostLevels) l)
-
-      pub no-way : mostLevels * mostLevels ≤ p → Loads s r join meet
-      unfolding loaded
-      no-way l =
-          let e : refusal s ≡ notRefused = lacks-none l in
-          let yes : isAccepted s ≡ true = ap passes e in
-          record {
-            result = read-is zero ∙ sym (rw (yes, e));
-            joins = λ h. paired .joins (most l);
-            meets = λ h. paired .meets (most l);
-          }
+        pub meets-kept : Keeps meet (count s) (greatestLower (atOrBelow (rows s)) (count s))
+        meets-kept = paired .meets most

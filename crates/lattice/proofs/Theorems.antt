@@ -1,21 +1,17 @@
 -- The theorems of the level book, for every list of bytes that is not refused.
-use mathlib.Core.Path.{_≡_, sym, subst}
+use mathlib.Core.Path.{_≡_, sym}
 use mathlib.Core.Bool.{true}
 use mathlib.Core.List.{List}
 use Prim.Native.Nat.{ℕ, _≤_, _<_}
 use native.Mathlib.Decide.{decLt}
 use native.Mathlib.Omega.{arith}
 use borrow.Author.Tests.{lt-ltb, le-ltb}
-use Rattle.prelude.proofs.Bools.{by-cases}
-use Rattle.book.specs.declared.Loaded.{Loaded}
 use Rattle.order.specs.Order.{Relation, leastUpper, greatestLower, LevelLattice}
 use Rattle.book.specs.LevelBook.{mostLevels, count, rows, atOrBelow}
 use Rattle.lattice.specs.Refusals.{isAccepted}
-use Rattle.book.specs.Load.{bookOf, noBook}
 use Rattle.book.proofs.Sizes.{some, few}
 use Rattle.order.proofs.Duals.{dual}
 use Rattle.pairs.proofs.Orders.{least-uppers}
-use Rattle.lattice.specs.Load.{loaded, Loads}
 use Rattle.lattice.specs.Lattice.{Laws, asLevel, latticeOf, bookLattice}
 use Rattle.lattice.proofs.Passing.{Passing, passing, uppers, lowers}
 use Rattle.lattice.proofs.Tops.{greatest}
@@ -83,18 +79,6 @@ module _ (s : List ℕ) (i j : ℕ) (hi : i < count s) (hj : j < count s) where
   pub meet-at : greatestLower (atOrBelow (rows s)) (count s) i j ≡ bookLattice s .meet i j
   meet-at = sym (rw (lt-ltb i (count s) hi, lt-ltb j (count s) hj))
 
--- A loaded book has no more levels than a book can have, refused or not.
-pub loads-few :
-    (s : List ℕ) (r : Loaded) (join meet : List (List ℕ)) → Loads s r join meet → r .book .count ≤ mostLevels
-unfolding loaded
-loads-few s r join meet w =
-    subst
-    (λ x. x .book .count ≤ mostLevels)
-    (sym (w .result))
-    (by-cases
-    (λ b. b .count ≤ mostLevels)
-    (isAccepted s)
-    {x = bookOf s}
-    {y = noBook}
-    (λ h. few s (passing s h .size))
-    (λ h. omega arith))
+-- A book that passes has no more levels than a book can have.
+pub book-few : (s : List ℕ) → isAccepted s ≡ true → count s ≤ mostLevels
+book-few s h = few s (passing s h .size)

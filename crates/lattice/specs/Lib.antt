@@ -1,5 +1,4 @@
 -- The lattice that a level book gives.
 pub mod Refusals
-pub mod Load
 pub mod Lattice
 pub mod Examples

@@ -1,34 +1,13 @@
-// The lattice of a level book: any bytes in; out comes a checked book with the join and meet of every pair, or a
-// refusal; and the greatest and the least level of all.
+// The lattice of a level book: the greatest and the least level of all; refusals 1 to 3 together, and the laws of a book that
+// they let through.
 use book::Book;
-use book::Loaded;
 use book::sets;
-use pairs::table::PairTable;
 ghost use mathlib.Core.Path.{_≡_};
 ghost use Prim.Native.Nat.{_≤_};
 ghost use Rattle.prelude.specs.Search.{all};
 ghost use Rattle.prelude.specs.Sets.{IsSet};
 ghost use Rattle.order.specs.Order.{top, bottom};
 ghost use Rattle.book.specs.LevelBook.{mostLevels, atOrBelow};
-ghost use Rattle.pairs.specs.Table.{Square};
-ghost use Rattle.lattice.specs.Load.{Loads};
-
-// Checks a level book of any bytes. Where it is not refused, `join` and `meet` then keep the least common upper
-// and the greatest common lower level of every pair.
-pub fn load(s: &[u8], join: &mut PairTable, meet: &mut PairTable) -> Loaded
-    requires { ⌜ Square mostLevels (now join) × Square mostLevels (now meet) ⌝ }
-    ensures { λ r. ⌜ Loads (now (s .entry)) r (now (join .exit)) (now (meet .exit)) ⌝ }
-{
-    let loaded = order::load(s);
-    if loaded.refusal.number != 0 {
-        return loaded;
-    }
-    let place = pairs::first_lacking(loaded.book, join, meet);
-    if place < Book::PLACES {
-        return book::refused(3, place);
-    }
-    loaded
-}
 
 // The levels that each of n levels is at or below.
 fn common(rows: &[u16; Book::MAX_LEVELS], n: usize) -> u16

@@ -1,7 +1,9 @@
 -- 01, the table of refusals, row 3.
-use mathlib.Core.Bool.{Bool, _&&_, _||_}
+use mathlib.Core.Bool.{Bool, cond, _&&_, _||_}
 use Prim.Native.Nat.{ℕ, _*_, _/_, _%_}
 use lib.Dec.{eqb, ltb}
+use Rattle.prelude.specs.declared.Refusal.{Refusal}
+use Rattle.prelude.specs.Refusals.{refusedBy, notRefused}
 use Rattle.prelude.specs.Search.{first}
 use Rattle.order.specs.Order.{Relation, converse, leastUpper}
 use Rattle.book.specs.LevelBook.{mostLevels}
@@ -17,3 +19,7 @@ lacksUpper R n p =
 -- the smallest place is the first by i, then by j
 unfoldable pub firstLacking : Relation → ℕ → ℕ
 firstLacking R n = first (λ p. lacksUpper R n p || lacksUpper (converse R) n p) (mostLevels * mostLevels)
+
+-- row 3, of what is found at this place
+abbrev pub lackRefusal : ℕ → Refusal
+lackRefusal place = cond (ltb place (mostLevels * mostLevels)) (refusedBy 3 place) notRefused

@@ -1,15 +1,17 @@
 // The pairs of a book's levels: the join and the meet of each, found once and kept; refusal 3.
 pub mod table; // table.rt: a level for each pair of levels
 
+use crate::table::PairTable;
 use book::Book;
 use book::sets;
 use order::converse;
-use crate::table::PairTable;
+use prelude::Refusal;
 ghost use mathlib.Core.Path.{_≡_};
 ghost use Prim.Native.Nat.{_<_};
 ghost use Rattle.book.specs.LevelBook.{mostLevels, atOrBelow};
 ghost use Rattle.order.specs.Rows.{InOrder};
 ghost use Rattle.pairs.specs.Table.{Square};
+ghost use Rattle.pairs.specs.Refusals.{lackRefusal};
 ghost use Rattle.pairs.specs.Bounds.{Swept, Paired};
 
 // Finds the least common upper level of each pair and keeps it at both entries of the pair, and each level at its own.
@@ -59,4 +61,20 @@ pub fn first_lacking(b: Book, join: &mut PairTable, meet: &mut PairTable) -> usi
     let lower = sweep(&below, n, meet);
     // The lesser of two places is the first: by i, then by j.
     prelude::lesser(upper, lower)
+}
+
+// Refusal 3, of the place of the first pair that lacks a level.
+pub fn lack_refusal(place: usize) -> Refusal
+    ensures { λ r. ⌜ r ≡ lackRefusal place ⌝ }
+{
+    if place < Book::PLACES {
+        return Refusal {
+            number: 3,
+            place: place as u32,
+        };
+    }
+    Refusal {
+        number: 0,
+        place: 0,
+    }
 }

@@ -1,58 +1,97 @@
--- `prepare`: the book, then the rest under it.
+-- `prepare`: the book and its pairs, then the rest under it.
 use mathlib.Core.Path.{_≡_, sym, ap, _∙_, subst}
-use mathlib.Core.Bool.{true, cond}
+use mathlib.Core.Bool.{true}
 use borrow.Author.Tests.{eq-eqb, ne-eqb}
 use denote.Ref.{now}
 use Rattle.prelude.specs.Refusals.{passes}
-use Rattle.book.specs.declared.Loaded.{Loaded}
+use Rattle.book.specs.LevelBook.{mostLevels}
+use Rattle.book.specs.Load.{bookOf}
 use Rattle.lattice.specs.Refusals as books
-use Rattle.book.specs.Load.{noBook, bookOf}
-use Rattle.lattice.specs.Load.{loaded}
+use Rattle.lattice.proofs.Loads.{order-refused, book-read, in-order, pairs-refused, joins-kept, meets-kept}
 use Rattle.pairs.proofs.Stores.{new-square}
-use Rattle.flow.proofs.Theorems.{callers-ready}
+use Rattle.flow.specs.Flow.{levelsOf, lattice, Ordered, Joins, Meets}
+use Rattle.flow.proofs.Theorems.{books-ordered}
 use Rattle.checker.specs.Contracts.{Prepares}
 use Rattle.checker.proofs.Preparing.{refused-by, by-book, book-prepares}
 use Rattle.checker.proofs.prepare.Statement.{statement}
 use Rattle.checker.proofs.prepare.Tie as tie
 
--- the book's refusal
-book-refusal : (c : tie.After-load) → c .load .result .refusal ≡ books.refusal (now ((c .before .before .before .before .before) .args .b))
-unfolding loaded
-book-refusal c = ap (λ (z : Loaded). z .refusal) (c .load .ensures .result)
-
-book-right : (c : tie.Else1) → books.isAccepted (now ((c .before .before .before .before .before .before .before) .args .b)) ≡ true
-book-right c = ap passes (sym (book-refusal ((c .before .before)))) ∙ eq-eqb _ 0 (c .if1 .left)
-
-book-is : (c : tie.Else1) → c .before .before .load .result .book ≡ bookOf (now ((c .before .before .before .before .before .before .before) .args .b))
-unfolding loaded
-book-is c =
-    ap (λ (z : Loaded). z .book) (c .before .before .load .ensures .result)
-    ∙ ap (λ t. cond t (bookOf (now ((c .before .before .before .before .before .before .before) .args .b))) noBook) (book-right c)
-
 load-requires : tie.Need-load-requires
-load-requires c κs = (new-square 16 0, new-square 16 0)
+load-requires c κs = tt
 
 refused-requires : tie.Need-refused-requires
 refused-requires c κs = tt
 
+-- refusal 1 or 2
 returns : tie.Need-returns
 returns c =
-    let f = ne-eqb _ 0 (c .before .if1 .taken) in
-    subst (Prepares _ _ _ _) (sym (c .refused .ensures)) (refused-by (by-book _ _ (book-refusal ((c .before .before .before))) f) f)
+    let read = c .before .before .before in
+    let some = c .before .if1 .taken in
+    subst (Prepares _ _ _ _) (sym (c .refused .ensures))
+    (refused-by (by-book _ _ (order-refused _ _ (read .load .ensures) some) (ne-eqb _ 0 some)) (ne-eqb _ 0 some))
+
+-- the book that is read, in order
+abbrev read-at : (c : tie.After-meet) → tie.After-load
+read-at c = c .before .before .before .before
+
+first-lacking-requires : tie.Need-first-lacking-requires
+first-lacking-requires c κs = (
+  in-order _ _ (read-at c .load .ensures) (c .before .before .if1 .left),
+  (new-square mostLevels 0, new-square mostLevels 0),
+)
+
+lack-refusal-requires : tie.Need-lack-refusal-requires
+lack-refusal-requires c κs = tt
+
+-- the refusal of its pairs is that of the book
+lack-is :
+    (c : tie.After-lack-refusal) → c .lack-refusal .result ≡ books.refusal (now (read-at (c .before .before) .before .before .before .args .b))
+lack-is c =
+    let m = c .before .before in
+    c .lack-refusal .ensures
+    ∙ pairs-refused _ _ (read-at m .load .ensures) (m .before .before .if1 .left) (c .before .first-lacking .ensures)
+
+refused-requires-2 : tie.Need-refused-requires-2
+refused-requires-2 c κs = tt
+
+-- refusal 3
+returns-2 : tie.Need-returns-2
+returns-2 c =
+    let lack = c .before .before .before in
+    let some = ne-eqb _ 0 (c .before .if2 .taken) in
+    subst (Prepares _ _ _ _) (sym (c .refused2 .ensures)) (refused-by (by-book _ _ (lack-is lack) some) some)
+
+-- the book passes
+right : (c : tie.Else2) → books.isAccepted (now (read-at (c .before .before .before .before) .before .before .before .args .b)) ≡ true
+right c = ap passes (sym (lack-is (c .before .before))) ∙ eq-eqb _ 0 (c .if2 .left)
+
+book-is :
+    (c : tie.Else2) →
+    read-at (c .before .before .before .before) .load .result .book
+    ≡ bookOf (now (read-at (c .before .before .before .before) .before .before .before .args .b))
+book-is c =
+    let m = c .before .before .before .before in
+    book-read _ _ (read-at m .load .ensures) (m .before .before .if1 .left)
 
 prepare-script-requires : tie.Need-prepare-script-requires
 prepare-script-requires c κs =
-    let w = c .before .before .before .before .load .ensures in
-    let right = book-right ((c .before .before)) in
-    (callers-ready .ordered _ _ _ _ w right, callers-ready .tables _ _ _ _ w right)
+    let m = c .before .before .before .before in
+    let found = c .before .before .before .first-lacking .ensures in
+    let joins = joins-kept _ _ (read-at m .load .ensures) (m .before .before .if1 .left) found (right c) in
+    let meets = meets-kept _ _ (read-at m .load .ensures) (m .before .before .if1 .left) found (right c) in (
+      subst (λ b. Ordered (levelsOf b)) (sym (book-is c)) (books-ordered _ (right c)),
+      (
+        subst (λ b. Joins (levelsOf b) (c .before .before .before .first-lacking .last .1 .0)) (sym (book-is c)) joins,
+        subst (λ b. Meets (levelsOf b) (c .before .before .before .first-lacking .last .1 .1 .0)) (sym (book-is c)) meets,
+      ),
+    )
 
-returns-2 : tie.Need-returns-2
-returns-2 c =
-    let e = (c .before .before .before) in
-    book-prepares _ _ (book-right e) _ (book-is e) _
-    (callers-ready .same _ _ _ _ (c .before .before .before .before .before .load .ensures) (book-right e)) _
-    (c .prepare-script .ensures)
+returns-3 : tie.Need-returns-3
+returns-3 c =
+    let e = c .before in
+    book-prepares _ _ (right e) _ (book-is e) _ (ap (λ b. lattice (levelsOf b)) (book-is e)) _ (c .prepare-script .ensures)
 
 pub prepare-spec : {M : Type 1} → statement M
 prepare-spec =
-    tie.close (tie.spec load-requires refused-requires returns prepare-script-requires returns-2)
+    tie.close
+    (tie.spec load-requires refused-requires returns first-lacking-requires lack-refusal-requires refused-requires-2 returns-2 prepare-script-requires returns-3)

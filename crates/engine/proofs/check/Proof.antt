@@ -1,5 +1,5 @@
 -- `check`: what was prepared is the answer.
-use mathlib.Core.Path.{_≡_, refl}
+use mathlib.Core.Path.{_≡_, refl, ap, _∙_}
 use mathlib.Core.Bool.{Bool, true, false}
 use mathlib.Core.List.{List}
 use Prim.Native.Nat.{ℕ}
@@ -21,8 +21,8 @@ answers :
     (b s : List ℕ) (r : Prepared) → Prepares (checkRefusal b s) (bookLattice b) (bookOf b) s r → (t : Bool) →
     passes (checkRefusal b s) ≡ t → verdictBy (r .refusal) (r .write) (r .test) ≡ verdict b s
 unfolding verdict
-answers b s r p true e = rw (p .refusal, e, p .write e, p .test e)
-answers b s r p false e = rw (p .refusal, e, p .none e .0, p .none e .1)
+answers b s r p true e = ap (λ x. verdictBy (x .refusal) (x .write) (x .test)) (p .same) ∙ rw e refl
+answers b s r p false e = ap (λ x. verdictBy (x .refusal) (x .write) (x .test)) (p .same) ∙ rw e refl
 
 prepare-requires : tie.Need-prepare-requires
 prepare-requires c κs = tt

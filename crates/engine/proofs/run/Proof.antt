@@ -11,6 +11,7 @@ use Rattle.book.specs.Load.{bookOf}
 use Rattle.layout.specs.Layout.{layoutOf}
 use Rattle.checker.specs.Refusals.{checkRefusal}
 use Rattle.checker.proofs.Passing.{accepted, checked}
+use Rattle.checker.proofs.Preparing.{found-refusal, found-book, found-layout}
 use Rattle.arguments.specs.Refusals.{callRefusal, runRefusal}
 use Rattle.engine.specs.Answers.{Left}
 use Rattle.engine.proofs.Leaving.{refused-left, by-check, by-call, can-start, Leaves, leaves}
@@ -20,15 +21,15 @@ use Rattle.engine.proofs.run.Tie as tie
 
 -- book and script are not refused
 prepared : (c : tie.Else1) → let a = c .before .before .before .before .before .before .args in passes (checkRefusal (now (a .book)) (now (a .script))) ≡ true
-prepared c = ap passes (sym (c .before .before .prepare .ensures .refusal)) ∙ eq-eqb _ 0 (c .if1 .left)
+prepared c = ap passes (sym (found-refusal (c .before .before .prepare .ensures))) ∙ eq-eqb _ 0 (c .if1 .left)
 
 laid :
     (c : tie.Else1) →
     c .before .before .prepare .result .script ≡ layoutOf (now (c .before .before .before .before .before .before .args .script))
-laid c = c .before .before .prepare .ensures .layout (prepared c)
+laid c = found-layout (c .before .before .prepare .ensures) (prepared c)
 
 book-is : (c : tie.Else1) → c .before .before .prepare .result .book ≡ bookOf (now (c .before .before .before .before .before .before .args .book))
-book-is c = c .before .before .prepare .ensures .book (prepared c)
+book-is c = found-book (c .before .before .prepare .ensures) (prepared c)
 
 -- the refusal of the call
 call-is :
@@ -72,7 +73,7 @@ returns c =
     let f = ne-eqb _ 0 (c .before .if1 .taken) in
     let e =
     refused-left b s (a .reader) (now (a .values)) (a .limit) (now (a .log))
-    (by-check b s (a .reader) (now (a .values)) (a .limit) (c .before .before .before .prepare .ensures .refusal) f) f in
+    (by-check b s (a .reader) (now (a .values)) (a .limit) (found-refusal (c .before .before .before .prepare .ensures)) f) f in
     (c .refused .ensures ∙ ap (λ (l : Left). l .report) e, (ap (λ (l : Left). l .values) e, ap (λ (l : Left). l .log) e))
 
 call-refusal-requires : tie.Need-call-refusal-requires

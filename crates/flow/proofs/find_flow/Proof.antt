@@ -31,7 +31,7 @@ bottom-of-requires c κs = c .before .before .pre .0 .ordered .few
 walks :
     (c : tie.After-bottom-of) →
     let a = c .before .before .before .args in
-    Walks (a .s .now) (a .c .offset) (a .c .expressions) (a .c .nodes) (a .t3 .rows) (c .before .top-of .result) (c .bottom-of .result) (a .join .now) (a .meet .now)
+    Walks (a .s .now) (a .c .offset) (a .c .expressions) (a .c .nodes) (a .t3 .rows) (c .before .top-of .result) (c .bottom-of .result) (a .t4) (a .t5)
     (levelsOf (a .t3))
 walks c =
     let a = c .before .before .before .args in
@@ -46,22 +46,30 @@ walks c =
       top = c .before .top-of .ensures;
     }
 
+-- the start, and where top and bottom are known
+abbrev start : (c : tie.After-bottom-of) → tie.Start
+start c = c .before .before .before
+
 sub-flow-at : tie.Need-sub-flow-at
-sub-flow-at c = omega (arith, few-bounds (c .before .before .before .before .before .before .args .c) (c .before .before .before .before .before .before .pre .0 .laid .few) .1 .1 .0)
+sub-flow-at c =
+    let b = start (c .before .before .before .before .before) in
+    omega (arith, few-bounds (b .args .c) (b .pre .0 .laid .few) .1 .1 .0)
 
 flow-at-requires : tie.Need-flow-at-requires
-flow-at-requires c κs = (
-  (levelsOf (c .before .before .before .before .before .before .args .t3), walks ((c .before .before .before))),
-  omega (arith, few-bounds (c .before .before .before .before .before .before .args .c) (c .before .before .before .before .before .before .pre .0 .laid .few) .1 .1 .0),
-)
+flow-at-requires c κs =
+    let w = c .before .before .before .before .before in
+    let b = start w in
+    ((levelsOf (b .args .t3), walks w), omega (arith, few-bounds (b .args .c) (b .pre .0 .laid .few) .1 .1 .0))
 
 returns : tie.Need-returns
 returns c =
-    let a = c .before .before .before .before .before .before .before .args in
-    flow-of (levelsOf (a .t3)) (a .s .now) (c .flow-at .result) (c .before .before .before .before .before .before .before .pre .0 .checked)
+    let w = c .before .before .before .before .before .before in
+    let a = start w .args in
+    let ready = start w .pre .0 in
+    flow-of (levelsOf (a .t3)) (a .s .now) (c .flow-at .result) (ready .checked)
     (subst (λ k. FlowAt (levelsOf (a .t3)) (a .s .now) k (c .flow-at .result))
-    (ap (λ n. n - 1) (nodes-are (c .before .before .before .before .before .before .before .pre .0 .laid)))
-    (c .flow-at .ensures (levelsOf (a .t3)) (walks ((c .before .before .before .before)))))
+    (ap (λ n. n - 1) (nodes-are (ready .laid)))
+    (c .flow-at .ensures (levelsOf (a .t3)) (walks w)))
 
 pub find-flow-spec : {M : Type 1} → statement M
 find-flow-spec = tie.close (tie.spec top-of-requires bottom-of-requires sub-flow-at flow-at-requires returns)
