@@ -1,2 +1,2 @@
--- The values of expressions, by the plan.
+-- The values of expressions, by the program.
 pub mod Evaluation

@@ -1,4 +1,4 @@
--- The forms of each kind of node, in the order of specs/Residual.antt: what is in front, and what stands around it.
+-- The forms of each kind of node, in the order of residual/specs/Residual.antt: what is in front, and what stands around it.
 use mathlib.Core.Bool.{Bool, cond, _||_}
 use mathlib.Core.List.{List, [], _∷_}
 use Prim.Native.Nat.{ℕ, _+_, _-_, _*_}

@@ -1,3 +1,3 @@
--- The script file: row 10 of the table of refusals, and what a file that is not refused guarantees.
+-- The script file: row 10 of the table of refusals, and what refusals 6 to 9 leave, which it asks.
 pub mod Reach
 pub mod Joined

@@ -1,4 +1,4 @@
--- The script file: rows 4 to 10 of the table of refusals in their order, and what loading a file gives.
+-- The script file: rows 4 to 10 of the table of refusals in their order, what loading a file gives, and what a file that is not refused guarantees.
 pub mod Refusals
 pub mod Load
 pub mod Results
