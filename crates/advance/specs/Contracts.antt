@@ -6,6 +6,7 @@ use Prim.Native.Nat.{ℕ, _-_, _≤_, _<_}
 use lib.Dec.{eqb, leb, ltb}
 use lib.IntN.{ℤ}
 use lib.ListN.{set, length}
+use Rattle.language.specs.Calls.{mostSteps}
 use Rattle.language.specs.Syntax.{Proc, isNil}
 use Rattle.language.specs.Steps.{present, suspended}
 use Rattle.program.specs.Program.{kindAt, aAt}
@@ -20,7 +21,7 @@ use Rattle.moves.specs.declared.counts.Moved.{Moved}
 use Rattle.moves.specs.declared.counts.Moved.the-variants as moved
 use Rattle.moves.specs.declared.counts.Rested.{Rested}
 use Rattle.moves.specs.Moves.{Live, Silent}
-use Rattle.moves.specs.Contracts.{mostSteps, afterMove, IsWriter, CanMove, Makes}
+use Rattle.moves.specs.Contracts.{afterMove, IsWriter, CanMove, Makes}
 use Rattle.advance.specs.declared.next.Next.{Next}
 use Rattle.advance.specs.declared.next.Next.the-variants.{Rests, Inside, Part}
 use Rattle.advance.specs.declared.Turned.{Turned}

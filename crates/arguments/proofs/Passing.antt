@@ -9,6 +9,7 @@ use lib.Dec.{eqb, ltb}
 use lib.IntN.{ℤ, pos}
 use lib.ListN.{length, List·getD-eq-default}
 use borrow.Author.Tests.{eqb-true, ltb-true, ltb-false, not-false}
+use Rattle.language.specs.Calls.{mostSteps}
 use Rattle.prelude.specs.Refusals.{refusedBy, notRefused, passes}
 use Rattle.prelude.proofs.Bools.{and-right, or-second}
 use Rattle.prelude.proofs.Searches.{first-within, first-at-end}
@@ -18,7 +19,6 @@ use Rattle.values.proofs.Signed.{same-is}
 use Rattle.language.specs.Steps.{held}
 use Rattle.layout.specs.Layout.{nameCount}
 use Rattle.tree.specs.Tree.{namesOf}
-use Rattle.moves.specs.Contracts.{mostSteps}
 use Rattle.checker.specs.Refusals.{checkRefusal}
 use Rattle.prelude.proofs.Refusing.{passes-test, passes-both}
 use Rattle.checker.proofs.Rows.{found-passes}

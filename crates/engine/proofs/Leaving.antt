@@ -15,7 +15,7 @@ use Rattle.book.proofs.Sizes.{few-read}
 use Rattle.lattice.specs.Lattice.{bookLattice}
 use Rattle.lattice.proofs.Passing.{passing}
 use Rattle.lattice.proofs.Theorems.{order-at}
-use Rattle.language.specs.Calls.{starts, readable}
+use Rattle.language.specs.Calls.{starts, readable, mostSteps}
 use Rattle.language.specs.Paths.{IsRun}
 use Rattle.language.proofs.Theorems.{runs-agree}
 use Rattle.language.proofs.Naming.{run-alike}
@@ -26,7 +26,6 @@ use Rattle.layout.specs.Entries.{nameOf}
 use Rattle.script.specs.Checked.{Checked, Levelled}
 use Rattle.script.proofs.Theorems.{accepted-exactly}
 use Rattle.tree.specs.Tree.{namesOf, tree}
-use Rattle.moves.specs.Contracts.{mostSteps}
 use Rattle.runner.specs.declared.Ran.{Ran}
 use Rattle.plan.specs.Plan.{seesIn}
 use Rattle.runner.proofs.Outcomes.{written-is}

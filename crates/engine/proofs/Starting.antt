@@ -8,7 +8,7 @@ use native.Mathlib.Omega.{arith}
 use lib.IntN.{ℤ}
 use lib.ListN.{length, replicate}
 use Rattle.language.specs.Syntax.{Proc}
-use Rattle.language.specs.Calls.{Stop, starts, givenBack, reach, run}
+use Rattle.language.specs.Calls.{Stop, starts, givenBack, reach, run, endingNumber}
 use Rattle.language.proofs.Naming.{run-alike}
 use Rattle.layout.specs.Layout.{layoutOf, nameCount, nodeCount}
 use Rattle.layout.proofs.Layouts.{few-bounds}
@@ -23,7 +23,7 @@ use Rattle.moves.specs.declared.counts.Counts.{Counts}
 use Rattle.moves.specs.Moves.{Running}
 use Rattle.runner.specs.declared.Ran.{Ran}
 use Rattle.runner.specs.Outcome.{Outcome, recorded, outcome}
-use Rattle.runner.specs.Contracts.{root, scriptAt, endingNumber, outcomeOf, Runs}
+use Rattle.runner.specs.Contracts.{root, scriptAt, outcomeOf, Runs}
 use Rattle.engine.specs.Contracts.{Returns}
 
 -- nothing has been counted

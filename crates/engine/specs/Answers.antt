@@ -8,10 +8,8 @@ use Rattle.prelude.specs.declared.Refusal.{Refusal}
 use Rattle.prelude.specs.Refusals.{passes}
 use Rattle.lattice.specs.Lattice.{bookLattice}
 use Rattle.language.specs.Levels.{writeLevel, testLevel}
-use Rattle.language.specs.Calls.{Run, starts, readable, run}
+use Rattle.language.specs.Calls.{Run, starts, readable, run, endingNumber, words}
 use Rattle.tree.specs.Tree.{namesOf, tree}
-use Rattle.runner.specs.Outcome.{words}
-use Rattle.runner.specs.Contracts.{endingNumber}
 use Rattle.results.specs.declared.Verdict.{Verdict}
 use Rattle.results.specs.declared.Report.{Report}
 use Rattle.results.specs.Reports.{verdictBy, refusedReport, reportBy}

@@ -5,15 +5,13 @@ use Prim.Native.Nat.{ℕ, _/_, _≤_}
 use lib.IntN.{ℤ}
 use lib.ListN.{length}
 use Rattle.book.specs.declared.Book.{Book}
-use Rattle.language.specs.Calls.{Run, starts, run}
+use Rattle.language.specs.Calls.{Run, starts, run, mostSteps, endingNumber}
 use Rattle.layout.specs.declared.Script.{Script}
 use Rattle.layout.specs.Layout.{nameCount}
 use Rattle.tree.specs.Tree.{namesOf, tree}
 use Rattle.plan.specs.Plan.{CanPlan, seesIn}
-use Rattle.moves.specs.Contracts.{mostSteps}
 use Rattle.runner.specs.declared.Ran.{Ran}
 use Rattle.runner.specs.Outcome.{written}
-use Rattle.runner.specs.Contracts.{endingNumber}
 
 pub record CanStart (s : List ℕ) (c : Script) (b : Book) (reader : ℕ) (values : List ℤ) (limit : ℕ) : Type 0 where
   pub plan : CanPlan s c b reader

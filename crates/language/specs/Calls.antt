@@ -5,6 +5,8 @@ use mathlib.Core.Option.{Option, none, some}
 use mathlib.Core.List.{List, [], _∷_, _++_}
 use lib.IntN.{ℤ, pos}
 use lib.ListN.{length}
+use mir.Syntax.{w32}
+use mir.Val.{ofZ}
 use Rattle.prelude.specs.Table.{table}
 use Rattle.lattice.specs.Lattice.{Lattice}
 use Rattle.language.specs.Syntax.{Names, Proc, isNil}
@@ -17,8 +19,26 @@ pub record Line : Type 0 where
   pub name : ℕ
   pub value : ℤ
 
+-- 'Four words make a line: step, instant, name, value as two's complement.'
+abbrev pub lineWords : Line → List ℕ
+lineWords l = l .step ∷ l .instant ∷ l .name ∷ ofZ w32 (l .value) ∷ []
+
+unfoldable pub words : List Line → List ℕ
+words [] = []
+words (l ∷ ls) = lineWords l ++ words ls
+
+-- 'Run returns how it ended': '0 finished', '1 spent', '2 log full'
 pub data Ending : Type 0 where
   finished spent logFull : Ending
+
+abbrev pub endingNumber : Ending → ℕ
+endingNumber finished = 0
+endingNumber spent = 1
+endingNumber logFull = 2
+
+-- 'a step limit to 1,000,000'
+abbrev pub mostSteps : ℕ
+mostSteps = 1000000
 
 -- a script that runs: what is left of it, the values, and what has been counted
 pub record System (L : Type 0) : Type 0 where
@@ -48,12 +68,16 @@ starts p s = record { process = p; values = s; steps = 0; instants = 0 }
 abbrev pub readable : {L : Type 0} → Lattice L → Names L → L → ℕ → Bool
 readable 𝓛 names reader x = 𝓛 .leq (names .level x) reader
 
+-- the line of a step that gives x this value, after so many steps and instants, if the reader sees x
+abbrev pub lineAt : (ℕ → Bool) → ℕ → ℕ → ℕ → ℤ → Option Line
+lineAt seen steps instants x v =
+    cond (seen x) (some (record { step = suc steps; instant = instants; name = x; value = v })) none
+
 -- The line that a step calls for, from the system before it: 'A line is written for each assignment and emission to a
 -- name at or below the reader's level; a let writes none.'
 module _ {L : Type 0} (seen : ℕ → Bool) (at : System L) where
   abbrev pub lineFor : ℕ → ℤ → Option Line
-  lineFor x v =
-      cond (seen x) (some (record { step = suc (at .steps); instant = at .instants; name = x; value = v })) none
+  lineFor = lineAt seen (at .steps) (at .instants)
 
   unfoldable pub calledFor : Output → Option Line
   calledFor silent = none

@@ -1,17 +1,16 @@
 -- What the functions that make moves ask for and promise.
 use mathlib.Core.Path.{_≡_}
-use mathlib.Core.Bool.{Bool, true, false, cond, _||_}
+use mathlib.Core.Bool.{Bool, true, false}
 use mathlib.Core.Logic.{_⊎_}
-use mathlib.Core.Option.{Option, none, some}
+use mathlib.Core.Option.{Option}
 use mathlib.Core.List.{List}
 use Prim.Native.Nat.{ℕ, suc, _+_, _*_, _/_, _≤_, _<_}
-use lib.Dec.{eqb}
 use lib.IntN.{ℤ}
 use lib.ListN.{set, length}
 use Rattle.language.specs.Kinds.{assign, letIn, ifThenElse, while, emit, local}
 use Rattle.language.specs.Syntax.{Proc, nil}
 use Rattle.language.specs.Steps.{move}
-use Rattle.language.specs.Calls.{Line, System, lineFor, calledFor}
+use Rattle.language.specs.Calls.{Line, System, lineFor, calledFor, mostSteps, lineAt}
 use Rattle.program.specs.Program.{mostNames, nodeCount, kindAt, aAt, seenBy}
 use Rattle.program.specs.Forms.{itself}
 use Rattle.residual.specs.Residual.{own}
@@ -20,10 +19,6 @@ use Rattle.moves.specs.declared.log.Noted.{Noted}
 use Rattle.moves.specs.declared.counts.Counts.{Counts}
 use Rattle.moves.specs.declared.counts.Moved.{Moved}
 use Rattle.moves.specs.Moves.{Running, logAfter, linesAfter, hasRoom, Live, Silent, Comes}
-
--- 'a step limit to 1,000,000'
-abbrev pub mostSteps : ℕ
-mostSteps = 1000000
 
 -- what is counted after a move, with so many lines, and after n instant changes
 abbrev pub afterMove : Counts → ℕ → Counts
@@ -39,10 +34,9 @@ pub record Counted (limit : ℕ) (log : List ℕ) (at : Counts) : Type 0 where
   pub instants : at .instants ≤ at .steps
   pub space : 4 * at .lines ≤ length log
 
--- the line of a step that gives x this value, if the reader sees x
+-- the line of a step that gives x this value, if the program's reader sees x
 abbrev pub lineOf : List ℕ → Counts → ℕ → ℤ → Option Line
-lineOf words at x v =
-    cond (seenBy words x) (some (record { step = suc (at .steps); instant = at .instants; name = x; value = v })) none
+lineOf words at = lineAt (seenBy words) (at .steps) (at .instants)
 
 -- what is asked for a line
 pub record CanNote (log : List ℕ) (at : Counts) (x : ℕ) : Type 0 where

@@ -1,7 +1,8 @@
 // What a run has counted, and why it makes no further move.
 ghost use mathlib.Core.Path.{_≡_};
 ghost use Prim.Native.Nat.{_+_, _<_, _≤_};
-ghost use Rattle.moves.specs.Contracts.{mostSteps, afterMove, afterChanges};
+ghost use Rattle.language.specs.Calls.{mostSteps};
+ghost use Rattle.moves.specs.Contracts.{afterMove, afterChanges};
 
 // The steps, the instants and the lines of a run. What a call returns is copied from each call to the one above: whole
 // words leave no gaps, which would be copied too.

@@ -6,6 +6,7 @@ use Prim.Native.Nat.{ℕ, _+_, _-_, _/_, _≤_, _<_}
 use native.Mathlib.Omega.{arith}
 use lib.IntN.{ℤ}
 use lib.ListN.{length}
+use Rattle.language.specs.Calls.{endingNumber}
 use Rattle.language.specs.Steps.{suspended}
 use Rattle.program.specs.Program.{namesOf, seenBy}
 use Rattle.instants.specs.Contracts.{someSignalPresent}
@@ -19,7 +20,7 @@ use Rattle.moves.proofs.Framing.{waits-some}
 use Rattle.moves.proofs.Advancing.{counted-on, can-on}
 use Rattle.runner.specs.declared.Ran.{Ran}
 use Rattle.runner.specs.Outcome.{Outcome, stopped}
-use Rattle.runner.specs.Contracts.{root, scriptAt, CanRun, InstantMade, endingBy, endingOf, isSuspended, endingNumber, outcomeOf, Runs}
+use Rattle.runner.specs.Contracts.{root, scriptAt, CanRun, InstantMade, endingBy, endingOf, isSuspended, outcomeOf, Runs}
 use Rattle.runner.proofs.Idling.{idle-stays, values-stay, outcome-idle}
 use Rattle.runner.proofs.Outcomes.{outcome-moves, outcome-finished, outcome-spent, outcome-full, outcome-changes}
 

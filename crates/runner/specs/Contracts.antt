@@ -5,7 +5,7 @@ use mathlib.Core.List.{List}
 use Prim.Native.Nat.{ℕ, _-_, _/_, _≤_, _<_}
 use lib.IntN.{ℤ}
 use lib.ListN.{length}
-use Rattle.language.specs.Calls.{Ending, finished, spent, logFull}
+use Rattle.language.specs.Calls.{Ending, finished, spent, logFull, mostSteps, endingNumber}
 use Rattle.program.specs.Program.{nodeCount, namesOf, seenBy}
 use Rattle.residual.specs.Nodes.{NodeIn}
 use Rattle.moves.specs.declared.counts.Counts.{Counts}
@@ -13,7 +13,7 @@ use Rattle.moves.specs.declared.counts.Reason.{Reason}
 use Rattle.moves.specs.declared.counts.Reason.the-variants.{Nil, Suspended, Spent, Full}
 use Rattle.moves.specs.declared.counts.Rested.{Rested}
 use Rattle.moves.specs.Moves.{Running, changed}
-use Rattle.moves.specs.Contracts.{mostSteps, CanMove, nodeAt}
+use Rattle.moves.specs.Contracts.{CanMove, nodeAt}
 use Rattle.advance.specs.Contracts.{Advances}
 use Rattle.runner.specs.declared.Ran.{Ran}
 use Rattle.runner.specs.Outcome.{Outcome, outcome}
@@ -46,12 +46,6 @@ pub record CanChange (words : List ℕ) (st : List ℕ) (values : List ℤ) (at 
 abbrev pub Begins : List ℕ → List ℕ → List ℤ → Counts → List ℕ → List ℤ → Counts → Type 0
 Begins words st values at st′ values′ at′ =
     (log : List ℕ) → scriptAt words st′ values′ log at′ ≡ changed (namesOf words) (scriptAt words st values log at)
-
--- 'Run returns how it ended': '0 finished', '1 spent', '2 log full'
-abbrev pub endingNumber : Ending → ℕ
-endingNumber finished = 0
-endingNumber spent = 1
-endingNumber logFull = 2
 
 -- how a run ends whose script makes no further move for this reason
 abbrev pub endingBy : Reason → Ending

@@ -1,10 +1,8 @@
 -- Where a script that runs comes to, with its log.
-use mathlib.Core.List.{List, [], _∷_, _++_}
+use mathlib.Core.List.{List, [], _∷_}
 use Prim.Native.Nat.{ℕ, suc, _+_, _-_}
 use mathlib.Core.Bool.{Bool}
 use lib.ListN.{length}
-use mir.Syntax.{w32}
-use mir.Val.{ofZ}
 use Rattle.language.specs.Syntax.{Names}
 use Rattle.language.specs.Calls.{Line, Ending, Stop, reach}
 use Rattle.moves.specs.Moves.{Running, system, putLine}
@@ -13,14 +11,6 @@ use Rattle.moves.specs.Moves.{Running, system, putLine}
 unfoldable pub written : List Line → ℕ → List ℕ → List ℕ
 written [] n log = log
 written (l ∷ ls) n log = written ls (suc n) (putLine l n log)
-
--- the words that putLine writes
-abbrev pub lineWords : Line → List ℕ
-lineWords l = l .step ∷ l .instant ∷ l .name ∷ ofZ w32 (l .value) ∷ []
-
-unfoldable pub words : List Line → List ℕ
-words [] = []
-words (l ∷ ls) = lineWords l ++ words ls
 
 -- how it stops, and where
 pub record Outcome (L : Type 0) : Type 0 where

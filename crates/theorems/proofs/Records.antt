@@ -5,9 +5,8 @@ use mathlib.Core.List.{List, [], _∷_, _++_, map}
 use Prim.Native.Nat.{ℕ}
 use lib.Dec.{leb}
 use lib.ListN.{length}
-use Rattle.language.specs.Calls.{Line, Run}
+use Rattle.language.specs.Calls.{Line, Run, lineWords, words}
 use Rattle.language.specs.Results.{upTo}
-use Rattle.runner.specs.Outcome.{lineWords, words}
 use Rattle.engine.specs.Answers.{leftBy}
 use Rattle.theorems.specs.Records.{linesIn, recordOf, stampedUpTo}
 

@@ -18,7 +18,7 @@ use Rattle.lattice.proofs.Theorems.{book-laws}
 use Rattle.language.specs.Syntax.{Names}
 use Rattle.language.specs.Levels.{writeLevel, testLevel}
 use Rattle.language.specs.Scope.{Scoped}
-use Rattle.language.specs.Calls.{Run, starts, readable, run}
+use Rattle.language.specs.Calls.{Run, starts, readable, run, lineWords}
 use Rattle.language.specs.Typing.{Below, Typed}
 use Rattle.language.specs.Results.{LevelsAgree, StartsAgree, RecordsAgree}
 use Rattle.language.proofs.Theorems as language
@@ -31,7 +31,6 @@ use Rattle.script.specs.Checked.{Checked}
 use Rattle.script.specs.Refusals as scripts
 use Rattle.tree.specs.Tree.{namesOf, tree}
 use Rattle.tree.proofs.Theorems.{tree-scoped, tree-named}
-use Rattle.runner.specs.Outcome.{lineWords}
 use Rattle.results.specs.declared.Verdict.{Verdict}
 use Rattle.checker.specs.Refusals.{checkRefusal}
 use Rattle.arguments.specs.Refusals.{runRefusal}

@@ -11,13 +11,12 @@ use Rattle.values.specs.Values.{clamped, quotient}
 use Rattle.language.specs.Syntax.{isNil}
 use Rattle.language.specs.Levels.{expLevel, writeLevel, testLevel, need}
 use Rattle.language.specs.Steps.{evaluate, value, suspended, move, change, instantStart, step}
-use Rattle.language.specs.Calls.{calledFor, givenBack, noted, reach}
+use Rattle.language.specs.Calls.{calledFor, givenBack, noted, reach, words}
 use Rattle.entries.specs.Faults.{holds, faultRefusal}
 use Rattle.uses.specs.Uses.{used, timesUsed, useRefusal}
 use Rattle.scope.specs.Reach.{isOutOfReach, reachRefusal}
 use Rattle.script.specs.Refusals as scripts
 use Rattle.tree.specs.Tree.{expressionOf, processOf}
-use Rattle.runner.specs.Outcome.{words}
 use Rattle.checker.specs.Refusals.{checkRefusal}
 use Rattle.arguments.specs.Refusals.{valuesRefusal, callRefusal, runRefusal}
 use Rattle.engine.specs.Answers.{verdict, left}
