@@ -13,7 +13,7 @@ use Rattle.program.specs.Program.{seenBy}
 use Rattle.program.specs.declared.forms.Front.{Front}
 use Rattle.program.specs.Forms.{itself, before, partIn}
 use Rattle.residual.specs.Nodes.{At, NodeIn, left, inFront}
-use Rattle.residual.specs.Frames.{alone}
+use Rattle.language.specs.Frames.{alone}
 use Rattle.residual.proofs.Sights.{Inside}
 use Rattle.instants.proofs.Deciding.{Found, Part, sees, front-part}
 use Rattle.moves.specs.declared.counts.Counts.{Counts}

@@ -10,7 +10,7 @@ use lib.ListN.{length, take, drop, length-drop, take-append-drop}
 use lib.Seq.{length-take-le, take-length, drop-length, take-append-le, drop-append-le, take-add, drop-drop}
 use Rattle.program.specs.Program.{seenBy}
 use Rattle.program.specs.declared.forms.Front.{Front}
-use Rattle.residual.specs.Frames.{alone}
+use Rattle.language.specs.Frames.{alone}
 use Rattle.residual.specs.Nodes.{Valued, At, left}
 use Rattle.residual.proofs.Sights.{Inside, beside-above, Sight, sees-nothing, sees-itself, sees-alone, sees-before, sees-watched, sees-guarded, sees-beside, length-put, part-put}
 use Rattle.instants.proofs.Deciding.{Found, sees, front-part}

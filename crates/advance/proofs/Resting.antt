@@ -14,7 +14,7 @@ use Rattle.language.specs.Steps.{present, suspended}
 use Rattle.program.specs.declared.forms.Front.{Front}
 use Rattle.program.specs.Forms.{before, guarded, beside, partIn}
 use Rattle.residual.specs.Residual.{own}
-use Rattle.residual.specs.Frames.{besideThe}
+use Rattle.language.specs.Frames.{besideThe}
 use Rattle.residual.specs.Nodes.{inRear, left}
 use Rattle.residual.proofs.Sights.{signalAt, Inside, alone-within, beside-above, Sight, sees-nothing, sees-itself, sees-alone, sees-before, sees-watched, sees-guarded, sees-beside, part-set}
 use Rattle.instants.specs.Contracts.{RearWaits}

@@ -12,7 +12,7 @@ use Rattle.language.specs.Syntax.{Proc}
 use Rattle.program.specs.declared.forms.Front.{Front}
 use Rattle.program.specs.Forms.{itself, guarded, partIn}
 use Rattle.residual.specs.Residual.{own}
-use Rattle.residual.specs.Frames.{Frame, alone, beforeThe, watchedBy, guardedBy, besideThe, Open}
+use Rattle.language.specs.Frames.{Frame, alone, beforeThe, watchedBy, guardedBy, besideThe, Open}
 use Rattle.residual.specs.Nodes.{left, inFront}
 use Rattle.residual.proofs.Sights.{signalAt, Inside, alone-within, beside-above, Sight, sees-nothing, sees-itself, sees-alone, sees-before, sees-watched, sees-guarded, sees-beside, own-put, length-put, part-put}
 use Rattle.moves.specs.declared.counts.Counts.{Counts}

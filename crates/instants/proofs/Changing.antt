@@ -16,7 +16,7 @@ use Rattle.language.specs.Steps.{present, change}
 use Rattle.program.specs.declared.forms.Front.{Front}
 use Rattle.residual.specs.Residual.{own}
 use Rattle.program.specs.Forms.{itself, watched, guarded, beside, rearOf, partIn}
-use Rattle.residual.specs.Frames.{around}
+use Rattle.language.specs.Frames.{around}
 use Rattle.residual.specs.Nodes.{inFront, inRear, left}
 use Rattle.residual.proofs.Sights.{signalAt, own-put, length-put, part-length, part-put}
 use Rattle.instants.proofs.Deciding.{Found, Part, Rear, front-part, rear-part, rear-found, parts-apart, ahead}

@@ -17,7 +17,7 @@ use Rattle.program.specs.declared.forms.Front.{Front}
 use Rattle.program.proofs.Fronts.{front-form, rear-is, parts-meet}
 use Rattle.residual.specs.Residual.{own, residual}
 use Rattle.program.specs.Forms.{itself, watched, guarded, beside, formOf, rearOf, partIn}
-use Rattle.residual.specs.Frames.{Frame, around}
+use Rattle.language.specs.Frames.{Frame, around}
 use Rattle.residual.specs.Nodes.{Valued, At, NodeIn, inFront, inRear, left}
 use Rattle.instants.specs.Contracts.{RearWaits}
 use Rattle.residual.proofs.Sights.{Inside, signalAt, MovesItself, not-itself, alone-within, beside-above, Sight, sees-nothing, sees-itself, sees-alone, sees-before, sees-watched, sees-guarded, sees-beside, sight, part-length}

@@ -13,3 +13,4 @@ pub mod Typing
 pub mod Paths
 pub mod Results
 pub mod Kinds
+pub mod Frames

@@ -15,7 +15,7 @@ use Rattle.language.specs.Syntax.{Proc, nil, assign, letIn, ifThenElse, while, 
 use Rattle.language.specs.Steps.{present, test, value, Outcome, inside, suspended, move}
 use Rattle.language.specs.Calls.{calledFor}
 use Rattle.language.specs.Shapes.{leavesAlone}
-use Rattle.residual.specs.Frames.{Frame, alone, beforeThe, watchedBy, guardedBy, besideThe, around, Open}
+use Rattle.language.specs.Frames.{Frame, alone, beforeThe, watchedBy, guardedBy, besideThe, around, Open}
 use Rattle.moves.specs.Moves.{Running, withProcess, nextLine, hasRoom, moved, Live, Silent, Path, stays, moves, IsSpent, IsFull}
 
 parts : (b c : Bool) → (b && c) ≡ true → (b ≡ true) × (c ≡ true)

@@ -16,7 +16,7 @@ use Rattle.program.proofs.Views.{NodeView, aNil, anAssign, aLet, anIf, aWhile, 
 use Rattle.program.specs.declared.forms.Front.{Front}
 use Rattle.residual.specs.Residual.{own, firstOf, secondOf, residual}
 use Rattle.program.specs.Forms.{nothing, itself, first, second, before, watched, guarded, beside, turned, frontOf, partIn}
-use Rattle.residual.specs.Frames.{Frame, alone, beforeThe, watchedBy, guardedBy, besideThe, around}
+use Rattle.language.specs.Frames.{Frame, alone, beforeThe, watchedBy, guardedBy, besideThe, around}
 use Rattle.residual.proofs.Residuals.{residual-leaves}
 
 -- node k with the bytes st has this part in front, in this frame, whatever the bytes of the part are

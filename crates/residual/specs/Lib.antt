@@ -1,4 +1,3 @@
--- What is left of a running script, by its bytes, and the frames around a part of it.
+-- What is left of a running script, by its bytes.
 pub mod Residual
-pub mod Frames
 pub mod Nodes

@@ -1,13 +1,17 @@
-//! Holds the documents to the repository: what `docs/CLAIMS.md` cites exists, and it cites every must-fail edit.
+//! Holds the documents to the repository: what `docs/CLAIMS.md` cites exists, and it cites every must-fail edit;
+//! `docs/ARCHITECTURE.md` lists the files of the promise.
 
 #[cfg(test)]
 mod citations;
+#[cfg(test)]
+mod promise;
 #[cfg(test)]
 mod sources;
 
 #[cfg(test)]
 mod tests {
     use crate::citations::{citations, Citation};
+    use crate::promise;
     use crate::sources::{all_words, cited, edits, has_word, read};
 
     fn claims() -> Vec<Citation> {
@@ -63,5 +67,12 @@ mod tests {
             "docs/CLAIMS.md leaves out:\n{}",
             missing.join("\n")
         );
+    }
+
+    #[test]
+    fn architecture_lists_the_files_of_the_promise() {
+        let document = read("docs/ARCHITECTURE.md");
+        let listed = promise::listed(promise::section(&document, "## What a reader must believe"));
+        assert_eq!(listed, promise::reached());
     }
 }
