@@ -1,2 +1,3 @@
 -- What run asks besides a book and a script: rows 12 to 14 of 01's table of refusals.
 pub mod Refusals
+pub mod Contracts

@@ -1,6 +1,5 @@
 -- 01, the table of refusals, rows 12 to 14, and what run refuses: rows 1 to 11 as check has them, then these. 'The lowest
 -- number that applies is given.'
-use mathlib.Core.Path.{_≡_}
 use mathlib.Core.Bool.{Bool, cond, not, _&&_, _||_}
 use mathlib.Core.List.{List}
 use Prim.Native.Nat.{ℕ}
@@ -13,16 +12,10 @@ use Rattle.prelude.specs.Refusals.{refusedBy, notRefused, orElse}
 use Rattle.book.specs.LevelBook.{count}
 use Rattle.values.specs.Values.{sameValue}
 use Rattle.language.specs.Steps.{held}
-use Rattle.layout.specs.declared.Script.{Script}
-use Rattle.layout.specs.Layout.{nameCount, Laid}
+use Rattle.layout.specs.Layout.{nameCount}
 use Rattle.tree.specs.Tree.{namesOf}
 use Rattle.moves.specs.Contracts.{mostSteps}
 use Rattle.checker.specs.Refusals.{checkRefusal}
-
--- a file with its layout, and a value for each of its names
-pub record Listed (s : List ℕ) (c : Script) (values : List ℤ) : Type 0 where
-  pub laid : Laid s c
-  pub named : length values ≡ c .names
 
 -- 'values (one signed 32-bit number per name: signals 0 or 1, owned names 0)'
 abbrev pub valueIsRight : List ℕ → List ℤ → ℕ → Bool

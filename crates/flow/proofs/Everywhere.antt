@@ -14,13 +14,13 @@ use Rattle.lattice.specs.Lattice.{Lattice}
 use Rattle.language.specs.Levels.{needs}
 use Rattle.layout.specs.Layout.{layoutOf, nodeCount}
 use Rattle.layout.specs.Entries.{partOf, node}
-use Rattle.fields.specs.Fields.{firstChild, secondChild}
+use Rattle.fields.specs.Children.{firstChild, secondChild, childCount}
 use Rattle.tree.specs.Tree.{namesOf, processOf, tree}
 use Rattle.script.specs.Checked.{Checked}
 use Rattle.layout.proofs.Layouts.{few-bounds}
-use Rattle.fields.specs.Roles.{childCount}
 use Rattle.language.specs.Kinds.{childrenOf}
-use Rattle.flow.specs.Flow.{needAt, firstFailing, Under, itself, inFirst, inSecond, Smallest, FailsUnder}
+use Rattle.flow.specs.Flow.{Under, itself, inFirst, inSecond, Smallest, FailsUnder}
+use Rattle.flow.specs.Needs.{needAt, firstFailing}
 use Rattle.flow.proofs.ByKind.{needsOf, needs-by-kind}
 use Rattle.flow.proofs.Shapes.{Children, none, one, two, children}
 use Rattle.flow.proofs.UnderLast.{under-last}

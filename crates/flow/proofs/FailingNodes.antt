@@ -9,9 +9,9 @@ use Rattle.prelude.specs.Search.{lesser}
 use Rattle.layout.specs.declared.parts.Part.{Part}
 use Rattle.layout.specs.Layout.{nodeCount}
 use Rattle.layout.specs.Entries.{partOf, node}
-use Rattle.fields.specs.Fields.{firstChild, secondChild}
-use Rattle.fields.specs.Roles.{childCount}
-use Rattle.flow.specs.Flow.{Levels, needAt, Under, itself, inFirst, inSecond, Smallest, FailsUnder, lattice}
+use Rattle.fields.specs.Children.{firstChild, secondChild, childCount}
+use Rattle.flow.specs.Flow.{Levels, Under, itself, inFirst, inSecond, Smallest, FailsUnder, lattice}
+use Rattle.flow.specs.Needs.{needAt}
 use Rattle.flow.proofs.Least.{smallest-same, smallest-either}
 
 module _ (l : Levels) (s : List ℕ) (k : ℕ) where

@@ -15,16 +15,16 @@ use Rattle.language.specs.Levels.{writeLevel, testLevel}
 use Rattle.layout.specs.declared.Script.{Script}
 use Rattle.layout.specs.Layout.{nodeCount}
 use Rattle.layout.specs.Entries.{partOf, node}
-use Rattle.fields.specs.Fields.{firstChild, secondChild}
+use Rattle.fields.specs.Children.{firstChild, secondChild, childCount}
 use Rattle.tree.specs.Tree.{namesOf, processOf}
 use Rattle.layout.proofs.Layouts.{nodes-are}
 use Rattle.flow.specs.declared.nodes.Flow.{Flow}
 use Rattle.flow.specs.declared.nodes.Own.{Own}
 use Rattle.language.specs.Kinds as kind
-use Rattle.fields.specs.Roles.{childCount}
 use Rattle.language.specs.Kinds.{kindOf, hasWrite, hasTest, childrenOf}
 use Rattle.flow.specs.Nodes.{ownOf, writeFrom, testFrom, ownNeed, pairNeed, bothFrom, flowFrom, OwnWithin, FlowWithin}
-use Rattle.flow.specs.Flow.{Levels, needAt, Smallest, FailsUnder, lattice, Ready, Joins, Meets, FlowAt}
+use Rattle.flow.specs.Flow.{Levels, Smallest, FailsUnder, lattice, Ready, Joins, Meets, FlowAt}
+use Rattle.flow.specs.Needs.{needAt}
 use Rattle.flow.proofs.BookLevels.{top-is, bottom-is, top-inside, bottom-inside, order-said, join-kept, meet-kept, join-inside, meet-inside, write-inside, test-inside}
 use Rattle.flow.proofs.ByKind.{together, pairHolds, write-by-kind, test-by-kind, need-by-kind}
 use Rattle.flow.proofs.Shapes.{Children, none, one, two, kind-is}

@@ -6,9 +6,9 @@ use Prim.Native.Nat.{ℕ, _<_}
 use lib.Dec.{eqb}
 use Rattle.layout.specs.declared.parts.Part.{Part}
 use Rattle.layout.specs.Layout.{nodeCount}
-use Rattle.fields.specs.Roles.{nodeRows, roleIn, child, childCount}
+use Rattle.fields.specs.Roles.{nodeRows, roleIn, child}
+use Rattle.fields.specs.Children.{childCount, firstChild, secondChild}
 use Rattle.layout.specs.Entries.{partOf, node}
-use Rattle.fields.specs.Fields.{firstChild, secondChild}
 use Rattle.tree.specs.Tree.{processOf}
 use Rattle.script.specs.Checked.{Checked}
 use Rattle.tree.proofs.Views.{NodeView, aNil, anAssign, aLet, anIf, aWhile, aSequence, anEmit, aLocal, aWatching, aWhen, aParallel, node-view}

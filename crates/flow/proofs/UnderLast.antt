@@ -11,7 +11,8 @@ use borrow.Author.Tests.{eqb-true, ltb-true}
 use Rattle.prelude.proofs.Bools.{and-left, by-cases}
 use Rattle.prelude.proofs.Each.{row-of, done, _then_}
 use Rattle.layout.specs.Layout.{expressionCount, nodeCount, partCount}
-use Rattle.fields.specs.Roles.{nodeRows, roleIn, expression, child, childCount}
+use Rattle.fields.specs.Roles.{nodeRows, roleIn, expression, child}
+use Rattle.fields.specs.Children.{childCount}
 use Rattle.layout.specs.Entries.{partOf, node}
 use Rattle.fields.specs.Fields.{fieldCount, fieldOf, valueOf}
 use Rattle.uses.specs.Uses.{usedBy, used}

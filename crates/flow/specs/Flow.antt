@@ -1,35 +1,27 @@
 -- Write level, test level and first failing node of a checked script under a checked book; what the walks ask and give.
 use mathlib.Core.Path.{_≡_}
-use mathlib.Core.Bool.{Bool, false, not}
+use mathlib.Core.Bool.{false}
 use mathlib.Core.List.{List}
 use Prim.Native.Nat.{ℕ, _≤_, _<_}
-use Rattle.prelude.specs.Search.{first}
 use Rattle.book.specs.declared.Book.{Book}
 use Rattle.order.specs.Order as orders
 use Rattle.order.specs.Order.{Relation, leastUpper, greatestLower, LevelLattice}
 use Rattle.book.specs.LevelBook.{mostLevels, atOrBelow}
 use Rattle.pairs.specs.Table.{Keeps}
 use Rattle.lattice.specs.Lattice.{Lattice, latticeOf}
-use Rattle.language.specs.Levels.{expLevel, writeLevel, testLevel, need}
+use Rattle.language.specs.Levels.{expLevel, writeLevel, testLevel}
 use Rattle.layout.specs.declared.Script.{Script}
 use Rattle.layout.specs.declared.parts.Part.{Part}
-use Rattle.layout.specs.Layout.{expressionsAt, expressionCount, nodeCount, layoutOf, Laid}
+use Rattle.layout.specs.Layout.{expressionsAt, expressionCount, nodeCount, layoutOf}
+use Rattle.layout.specs.Contracts.{Laid}
 use Rattle.layout.specs.Entries.{partOf, node}
-use Rattle.fields.specs.Fields.{firstChild, secondChild}
+use Rattle.fields.specs.Children.{firstChild, secondChild, childCount}
 use Rattle.tree.specs.Tree.{namesOf, expressionOf, processOf, tree}
 use Rattle.script.specs.Checked.{Checked, Levelled}
 use Rattle.flow.specs.declared.nodes.Flow.{Flow}
 use Rattle.flow.specs.declared.nodes.Own.{Own}
-use Rattle.fields.specs.Roles.{childCount}
+use Rattle.flow.specs.Needs.{needAt, firstFailing}
 use Rattle.flow.specs.Nodes.{ownOf, OwnWithin, FlowWithin}
-
--- row 11: 'a need above fails', at 'first node': node k has its need
-abbrev pub needAt : Lattice ℕ → List ℕ → ℕ → Bool
-needAt 𝓛 s k = need 𝓛 (namesOf s) (processOf s k)
-
--- the first node whose need fails, or the number of nodes
-abbrev pub firstFailing : Lattice ℕ → List ℕ → ℕ
-firstFailing 𝓛 s = first (λ k. not (needAt 𝓛 s k)) (nodeCount s)
 
 -- node j lies under node k: it is k, or it lies under a child of k
 pub data Under (s : List ℕ) : ℕ → ℕ → Type 0 where

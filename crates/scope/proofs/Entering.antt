@@ -7,7 +7,8 @@ use lib.Dec.{eqb}
 use Rattle.fields.specs.declared.Field.{Field}
 use Rattle.fields.specs.Roles.{child, isUse, isNew}
 use Rattle.fields.specs.Fields.{fieldCount, fieldOf}
-use Rattle.scope.specs.Reach.{inReach, missesName, opens}
+use Rattle.scope.specs.Reach.{inReach, missesName}
+use Rattle.scope.specs.Contracts.{opens}
 use Rattle.scope.proofs.Reaching.{opens-of}
 
 -- the names of a set and those that field f of part q opens

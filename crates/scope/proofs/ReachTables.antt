@@ -13,7 +13,8 @@ use Rattle.layout.specs.Layout.{mostParts, nameCount, partCount}
 use Rattle.layout.specs.Entries.{isSession}
 use Rattle.fields.specs.Fields.{fieldCount}
 use Rattle.uses.specs.Uses.{used, allFields}
-use Rattle.scope.specs.Reach.{inReach, opens, KeepsReachAt, KeepsReachFrom}
+use Rattle.scope.specs.Reach.{inReach}
+use Rattle.scope.specs.Contracts.{opens, KeepsReachAt, KeepsReachFrom}
 use Rattle.scope.specs.Joined.{Joined}
 use Rattle.scope.proofs.Joining.{used-earlier, user, used-once}
 use Rattle.scope.proofs.Reaching.{reach-used, reach-last}

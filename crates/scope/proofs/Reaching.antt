@@ -23,7 +23,8 @@ use Rattle.entries.proofs.Holding.{holds-child, right-field}
 use Rattle.entries.proofs.Naming.{owned, is-new, named-new}
 use Rattle.uses.specs.Uses.{fieldAt, allFields, used}
 use Rattle.uses.proofs.Used.{field-of, used-of, used-child}
-use Rattle.scope.specs.Reach.{within, inBody, inReach, opens}
+use Rattle.scope.specs.Reach.{within, inBody, inReach}
+use Rattle.scope.specs.Contracts.{opens}
 use Rattle.scope.specs.Joined.{Joined}
 use Rattle.scope.proofs.Joining.{used-earlier, used-once}
 

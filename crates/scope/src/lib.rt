@@ -14,11 +14,13 @@ ghost use lib.Dec.{eqb};
 ghost use Prim.Native.Nat.{_+_, _*_, _<_};
 ghost use Rattle.prelude.specs.Search.{first};
 ghost use Rattle.prelude.specs.Sets.{has, IsSet};
-ghost use Rattle.layout.specs.Layout.{Laid, mostNames};
+ghost use Rattle.layout.specs.Layout.{mostNames};
+ghost use Rattle.layout.specs.Contracts.{Laid};
 ghost use Rattle.layout.specs.Entries.{isSession};
 ghost use Rattle.fields.specs.Fields.{fieldCount};
-ghost use Rattle.entries.specs.Faults.{Sound};
-ghost use Rattle.scope.specs.Reach.{missesName, isOutOfReach, opens, KeepsReachAt, KeepsReachFrom, reachRefusal};
+ghost use Rattle.entries.specs.Contracts.{Sound};
+ghost use Rattle.scope.specs.Reach.{missesName, isOutOfReach, reachRefusal};
+ghost use Rattle.scope.specs.Contracts.{opens, KeepsReachAt, KeepsReachFrom};
 ghost use Rattle.scope.specs.Joined.{Joined};
 
 // Name x is in the set: bit x.

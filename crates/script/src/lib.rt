@@ -4,7 +4,7 @@ use prelude::Refusal;
 use layout::places::refused;
 use layout::tail;
 ghost use mathlib.Core.Path.{_≡_};
-ghost use Rattle.layout.specs.Layout.{Laid};
+ghost use Rattle.layout.specs.Contracts.{Laid};
 ghost use Rattle.script.specs.Refusals.{entryRefusal, refusal};
 ghost use Rattle.script.specs.Load.{loaded};
 

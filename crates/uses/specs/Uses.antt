@@ -1,10 +1,8 @@
 -- 01, 'Script file': 'Each expression, and each node but the last, is used exactly once.'
-use mathlib.Core.Path.{_≡_}
 use mathlib.Core.Bool.{Bool, cond, not}
 use mathlib.Core.List.{List}
-use Prim.Native.Nat.{ℕ, _+_, _-_, _*_, _/_, _%_, _<_}
+use Prim.Native.Nat.{ℕ, _+_, _-_, _*_, _/_, _%_}
 use lib.Dec.{eqb}
-use lib.ListN.{getD, length}
 use Rattle.prelude.specs.declared.Refusal.{Refusal}
 use Rattle.prelude.specs.Search.{count}
 use Rattle.layout.specs.Layout.{mostParts, expressionCount, partCount}
@@ -35,14 +33,6 @@ timesUsed s q = count (λ i. eqb (used s i) q) (allFields s)
 
 abbrev pub isLoose : List ℕ → ℕ → Bool
 isLoose s q = not (eqb (timesUsed s q) 1)
-
--- a table that keeps for each part how often it is used, and one that keeps how often the first i fields use it
-abbrev pub KeepsTimes : List ℕ → List ℕ → Type 0
-KeepsTimes s times = (q : ℕ) → q < mostParts → getD times q 0 ≡ timesUsed s q
-
-abbrev pub KeepsTimesTo : List ℕ → ℕ → List ℕ → Type 0
-KeepsTimesTo s i times =
-    (length times ≡ mostParts) × ((q : ℕ) → q < mostParts → getD times q 0 ≡ count (λ k. eqb (used s k) q) i)
 
 -- row 9: 'used not exactly once', of all parts but the last, which is the last node
 unfoldable pub useRefusal : List ℕ → Refusal

@@ -12,9 +12,11 @@ ghost use lib.Dec.{eqb};
 ghost use lib.ListN.{getD};
 ghost use Prim.Native.Nat.{_+_, _*_, _<_, _≤_};
 ghost use Rattle.prelude.specs.Search.{first};
-ghost use Rattle.layout.specs.Layout.{mostParts, Laid};
+ghost use Rattle.layout.specs.Layout.{mostParts};
+ghost use Rattle.layout.specs.Contracts.{Laid};
 ghost use Rattle.fields.specs.Fields.{fieldCount};
-ghost use Rattle.uses.specs.Uses.{usedBy, used, KeepsTimes, KeepsTimesTo, useRefusal};
+ghost use Rattle.uses.specs.Uses.{usedBy, used, useRefusal};
+ghost use Rattle.uses.specs.Contracts.{KeepsTimes, KeepsTimesTo};
 
 // The part that a field uses, or MAX_PARTS.
 fn used_by(c: Script, field: Field) -> usize

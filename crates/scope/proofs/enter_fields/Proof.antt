@@ -8,7 +8,7 @@ use Rattle.prelude.specs.Sets.{has, IsSet}
 use Rattle.layout.specs.Layout.{nameCount}
 use Rattle.layout.proofs.Layouts.{few-bounds, names-are, parts-are, few-parts}
 use Rattle.fields.specs.Fields.{fieldCount}
-use Rattle.scope.specs.Reach.{opens, KeepsReachFrom}
+use Rattle.scope.specs.Contracts.{opens, KeepsReachFrom}
 use Rattle.scope.proofs.ReachTables.{fill-skip, fill-more}
 use borrow.Author.Needs.{needs}
 use Rattle.scope.proofs.enter_fields.Statement.{statement}

@@ -10,7 +10,8 @@ use Rattle.layout.specs.Layout.{mostParts}
 use Rattle.layout.specs.Entries.{isSession}
 use Rattle.layout.proofs.Layouts.{few-bounds, names-are, parts-are, few-parts}
 use Rattle.fields.specs.Fields.{fieldCount}
-use Rattle.scope.specs.Reach.{isOutOfReach, KeepsReachFrom}
+use Rattle.scope.specs.Reach.{isOutOfReach}
+use Rattle.scope.specs.Contracts.{KeepsReachFrom}
 use Rattle.scope.proofs.ReachTables.{right-from, fill-last}
 use borrow.Author.Needs.{needs}
 use Rattle.scope.proofs.first_out_of_reach.Statement.{statement}

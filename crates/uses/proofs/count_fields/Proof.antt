@@ -8,7 +8,8 @@ use lib.ListN.{length-set}
 use Rattle.prelude.proofs.Counts.{count-within, tally-hit, tally-miss}
 use Rattle.layout.proofs.Layouts.{few-bounds}
 use Rattle.fields.specs.Fields.{fieldCount}
-use Rattle.uses.specs.Uses.{used, KeepsTimesTo}
+use Rattle.uses.specs.Uses.{used}
+use Rattle.uses.specs.Contracts.{KeepsTimesTo}
 use borrow.Author.Needs.{needs}
 use Rattle.uses.proofs.count_fields.Statement.{statement}
 use Rattle.uses.proofs.count_fields.Tie as tie

@@ -7,7 +7,8 @@ use Rattle.prelude.proofs.Counts.{tally-none}
 use Rattle.layout.specs.Layout.{mostParts}
 use Rattle.layout.proofs.Layouts.{few-bounds, parts-are}
 use Rattle.fields.specs.Fields.{fieldCount}
-use Rattle.uses.specs.Uses.{timesUsed, KeepsTimesTo}
+use Rattle.uses.specs.Uses.{timesUsed}
+use Rattle.uses.specs.Contracts.{KeepsTimesTo}
 use borrow.Author.Needs.{needs}
 use Rattle.uses.proofs.count_uses.Statement.{statement}
 use Rattle.uses.proofs.count_uses.Tie as tie

@@ -9,7 +9,7 @@ use Rattle.layout.specs.Layout.{nodeCount}
 use Rattle.layout.specs.Entries.{node}
 use Rattle.layout.proofs.Layouts.{few-bounds, nodes-are}
 use Rattle.fields.specs.Fields.{fieldCount, fieldOf}
-use Rattle.tree.specs.Tree.{childSize}
+use Rattle.tree.specs.Contracts.{childSize}
 use Rattle.tree.proofs.NodeSizes.{size-of, size-within, sum-within}
 use borrow.Author.Needs.{needs, fits-under}
 use Rattle.tree.proofs.sizes.size_at.Statement.{statement}
