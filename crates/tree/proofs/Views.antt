@@ -2,7 +2,7 @@
 use mathlib.Core.Path.{_≡_, refl, sym, ap, ap₂, _∙_, subst}
 use mathlib.Core.Bool.{Bool, true, false, cond, _&&_, _||_}
 use mathlib.Core.List.{List}
-use Prim.Native.Nat.{ℕ, _+_, _*_, _≤_, _<_}
+use Prim.Native.Nat.{ℕ, _≤_, _<_}
 use native.Mathlib.Omega.{arith}
 use lib.Dec.{eqb, ltb}
 use lib.ListN.{getD}
@@ -15,7 +15,6 @@ use Rattle.prelude.proofs.Courses.{earlier}
 use Rattle.language.specs.Syntax.{Exp, Operator, add, subtract, multiply, divide, less, equal, constant, register, binary, negated, Proc, nil, assign, letIn, ifThenElse, while, sequence, emit, local, watching, when, parallel}
 use Rattle.layout.specs.Layout.{nameCount, expressionCount, nodeCount, partCount}
 use Rattle.layout.specs.Entries.{nameOf, partOf, node}
-use Rattle.layout.proofs.Layouts.{few-parts}
 use Rattle.fields.specs.Roles as roles
 use Rattle.fields.specs.Roles.{expressionRows, nodeRows, roleIn, isUse, isNew}
 use Rattle.fields.specs.Fields.{fieldCount, fieldOf}
@@ -26,7 +25,7 @@ use Rattle.uses.specs.Uses.{used}
 use Rattle.uses.proofs.Used.{used-of, used-child, used-expression}
 use Rattle.scope.specs.Reach.{inReach, isOutOfReach, missesName}
 use Rattle.script.specs.Checked.{Checked}
-use Rattle.scope.proofs.Reaching.{opens-of, reach-used}
+use Rattle.scope.proofs.Reaching.{reach-used}
 use Rattle.tree.specs.Tree.{constantOf, expressionsFrom, noExpression, expressionOf, processesFrom, processOf}
 
 -- the kind of a binary expression
@@ -162,17 +161,15 @@ module _ (s : List ℕ) (ok : Checked s) where
     brings r r₀ x = eqb r roles.child && (isNew r₀ && eqb (fieldOf s q 0 .value) x)
 
     uses-part :
-        (p r r₀ : ℕ) → used s (fieldCount * q + f) ≡ p → p < q → fieldOf s q f .role ≡ r → fieldOf s q 0 .role ≡ r₀ →
+        (p r r₀ : ℕ) → used s q f ≡ p → p < q → fieldOf s q f .role ≡ r → fieldOf s q 0 .role ≡ r₀ →
         UsesPart s q p (brings r r₀)
     uses-part p r r₀ u before e e₀ =
-        let i : ℕ = fieldCount * q + f in
         record {
           before = before;
           reach =
               λ x known.
-              ap (inReach s x) (sym u)
-              ∙ reach-used s (ok .joined) i x (omega arith) (omega (arith, u, few-parts (ok .laid))) known
-              ∙ ap₂ (λ o k. o || inReach s x k) (opens-of s q f x l ∙ ap₂ (λ r r₀. brings r r₀ x) e e₀) (omega arith);
+              reach-used s (ok .joined) (record { known = h; inside = l; same = u; before = before }) x known
+              ∙ ap₂ (λ r r₀. brings r r₀ x || inReach s x q) e e₀;
         }
 
     uses-expression : fieldOf s q f .role ≡ roles.expression → UsesExpression s q (fieldOf s q f .value)
@@ -182,7 +179,7 @@ module _ (s : List ℕ) (ok : Checked s) where
         record {
           known = ltb-true _ _ (and-left (ltb v (expressionCount s)) _ t);
           part =
-              uses-part v roles.expression _ (used-of s q f l ∙ used-expression _ (fieldOf s q f) e)
+              uses-part v roles.expression _ (used-of s q f ∙ used-expression _ (fieldOf s q f) e)
               (ltb-true _ _ (and-right (ltb v (expressionCount s)) _ t)) e refl;
         }
 
@@ -201,7 +198,7 @@ module _ (s : List ℕ) (ok : Checked s) where
           before = omega arith;
           part =
               uses-part q (omega arith) f l (node s v) roles.child r₀
-              (used-of s q f l ∙ used-child _ (fieldOf s q f) e) t e e₀;
+              (used-of s q f ∙ used-child _ (fieldOf s q f) e) t e e₀;
         }
 
     inside : q < partCount s
