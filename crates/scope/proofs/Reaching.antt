@@ -3,7 +3,7 @@
 use mathlib.Core.Path.{_≡_, refl, sym, ap, _∙_, subst}
 use mathlib.Core.Bool.{Bool, true, false, _||_, false≢true}
 use mathlib.Core.List.{List}
-use Prim.Native.Nat.{ℕ, zero, suc, _≤_, _<_}
+use Prim.Native.Nat.{ℕ, zero, suc, _+_, _-_, _≤_, _<_}
 use native.Mathlib.Nat.{not-suc-le-zero}
 use native.Mathlib.Decide.{decLt, ℕ-discrete}
 use native.Mathlib.Omega.{arith}
@@ -15,7 +15,7 @@ use Rattle.prelude.specs.Course.{course, entry}
 use Rattle.prelude.proofs.Bools.{and-intro, and-left, and-right, or-cases, or-first, or-true, same-truth, fails}
 use Rattle.prelude.proofs.Searches.{any-some, some-of-any}
 use Rattle.prelude.proofs.Courses.{earlier, not-earlier}
-use Rattle.layout.specs.Layout.{nameCount, expressionCount, partCount}
+use Rattle.layout.specs.Layout.{mostParts, nameCount, expressionCount, partCount}
 use Rattle.layout.specs.Entries.{nameOf, isSession, node}
 use Rattle.fields.specs.Roles.{child, isNew}
 use Rattle.fields.specs.Fields.{fieldCount, fieldOf}
@@ -26,7 +26,7 @@ use Rattle.uses.proofs.Used.{used-of, used-child}
 use Rattle.scope.specs.Reach.{liesIn, inBody, inReach}
 use Rattle.scope.specs.Contracts.{FieldUses, opens}
 use Rattle.scope.specs.Joined.{Joined}
-use Rattle.scope.proofs.Joining.{used-once}
+use Rattle.scope.proofs.Joining.{user, used-once}
 
 module _ (s : List ℕ) where
   -- `liesIn` at a part, from what it says of the parts before
@@ -103,6 +103,24 @@ module _ (s : List ℕ) (joined : Joined s) {p f q : ℕ} (w : FieldUses s p f q
 
   pub lies-up : (b : ℕ) → b < partCount s → liesIn s q b ≡ true → (q ≡ b → ⊥) → liesIn s p b ≡ true
   lies-up b = up-below (suc b) b (omega arith)
+
+-- every part lies in the last: each other is used by a later one
+module _ (s : List ℕ) (joined : Joined s) (few : partCount s ≤ mostParts) where
+  last-from : (d q : ℕ) → partCount s ≤ q + d → q < partCount s → liesIn s q (partCount s - 1) ≡ true
+  last-from zero q l h = absurd (omega arith)
+  last-from (suc d) q l h =
+      elim (decLt (suc q) (partCount s)) [
+        | yes more ↦
+            let w = user s joined q more (omega arith) in
+            lies-down s (w .2) (partCount s - 1) (omega arith)
+            (last-from d (w .0) (omega (arith, w .2 .before)) (w .2 .known))
+        | no end ↦
+            let e : q ≡ partCount s - 1 = omega arith in
+            subst (λ p. liesIn s q p ≡ true) e (lies-self s q)
+      ]
+
+  pub lies-last : (q : ℕ) → q < partCount s → liesIn s q (partCount s - 1) ≡ true
+  lies-last q h = last-from (partCount s) q (omega arith) h
 
 -- the body of an owned name
 module _ (s : List ℕ) (joined : Joined s) (x : ℕ) (known : x < nameCount s) (own : isSession s x ≡ false) where

@@ -1,7 +1,7 @@
 -- In the script of a checked file no name is declared twice: a declaration is its name's owner, and a node lies under one
 -- child of its parent only.
-use mathlib.Core.Path.{_≡_, refl, sym, _∙_, subst}
-use mathlib.Core.Bool.{true}
+use mathlib.Core.Path.{_≡_, sym, subst}
+use mathlib.Core.Bool.{Bool, true}
 use mathlib.Core.List.{List}
 use mathlib.Core.Logic.{_⊎_, inl, inr, ⊎-elim}
 use Prim.Native.Nat.{ℕ, zero, suc, _-_, _<_}
@@ -11,12 +11,9 @@ use native.Mathlib.Omega.{arith}
 use Rattle.language.specs.NameKinds.{Kind, var, sig, same}
 use Rattle.language.specs.Scope.{Declared, Apart, Once}
 use Rattle.language.proofs.NameKinds.{same-number}
-use Rattle.layout.specs.Layout.{layoutOf, nameCount, expressionCount, nodeCount, partCount}
-use Rattle.layout.specs.Entries.{nameOf, partOf, node}
+use Rattle.layout.specs.Layout.{layoutOf, nameCount, nodeCount, partCount}
+use Rattle.layout.specs.Entries.{nameOf, node}
 use Rattle.layout.proofs.Layouts.{few-bounds}
-use Rattle.fields.specs.Roles.{nodeRows, roleIn, child}
-use Rattle.fields.specs.Fields.{fieldCount, fieldOf, valueOf}
-use Rattle.uses.proofs.Used.{used-of, used-child}
 use Rattle.scope.specs.Reach.{liesIn}
 use Rattle.scope.specs.Contracts.{FieldUses}
 use Rattle.script.specs.Checked.{Checked}
@@ -25,7 +22,7 @@ use Rattle.scope.proofs.Reaching.{lies-self, lies-deeper, lies-cases, lies-belo
 use Rattle.tree.specs.Tree.{processOf}
 use Rattle.tree.specs.Results.{TreeNamed}
 use Rattle.tree.proofs.Scoping.{tree-session}
-use Rattle.tree.proofs.Views.{NewName, NodeView, aNil, anAssign, aLet, anIf, aWhile, aSequence, anEmit, aLocal, aWatching, aWhen, aParallel, node-view, role}
+use Rattle.tree.proofs.Views.{NewName, UsesNode, NodeView, aNil, anAssign, aLet, anIf, aWhile, aSequence, anEmit, aLocal, aWatching, aWhen, aParallel, node-view}
 
 module _ (s : List ℕ) (ok : Checked s) where
   -- a part does not lie in one that it uses
@@ -65,28 +62,6 @@ module _ (s : List ℕ) (ok : Checked s) where
       ⊎-elim (siblings ne c d) (siblings (λ e. ne (sym e)) d c)
       (one-in-other (suc u) u v q (omega arith) (omega (arith, c .before, c .known)) (omega (arith, d .before, d .known)) a b)
 
-  -- field f of node k holds the child j
-  record Child (k f j : ℕ) : Type 0 where
-    uses : FieldUses s (node s k) f (node s j)
-    before : j < k
-
-  child-at :
-      (k : ℕ) → k < nodeCount s → (n : ℕ) → partOf s (node s k) .kind ≡ n → (f : ℕ) → f < fieldCount →
-      roleIn nodeRows n f ≡ child → valueOf s (node s k) f < k → Child k f (valueOf s (node s k) f)
-  child-at k h n e f l r b =
-      record {
-        uses =
-            record {
-              known = omega arith;
-              inside = l;
-              same =
-                  used-of s (node s k) f
-                  ∙ used-child (expressionCount s) (fieldOf s (node s k) f) (role s ok k h n e f ∙ r);
-              before = omega arith;
-            };
-        before = b;
-      }
-
   -- the owner of a name that a process declares lies in its node
   pub record Owned (k y : ℕ) : Type 0 where
     pub known : y < nameCount s
@@ -101,8 +76,8 @@ module _ (s : List ℕ) (ok : Checked s) where
         lies = subst (λ q. liesIn s q (node s k) ≡ true) (sym (u .own)) (lies-self s (node s k));
       })
 
-  owned-in : {k f j y : ℕ} → Child k f j → Owned j y → Owned k y
-  owned-in {y = y} c o = record { known = o .known; lies = lies-deeper s (node s (nameOf s y .owner)) (c .uses) (o .lies) }
+  owned-in : {k f j y : ℕ} {new : ℕ → Bool} → UsesNode s k f j new → Owned j y → Owned k y
+  owned-in {y = y} c o = record { known = o .known; lies = lies-deeper s (node s (nameOf s y .owner)) (c .field) (o .lies) }
 
   abbrev DeclaredIn : ℕ → Type 0
   DeclaredIn k = (i : Kind) (y : ℕ) → Declared i y (processOf s k) → Owned k y
@@ -112,33 +87,19 @@ module _ (s : List ℕ) (ok : Checked s) where
   declared-view k h go (aNil e q) i y d = absurd (rw q at d)
   declared-view k h go (anAssign e q x z) i y d = absurd (rw q at d)
   declared-view k h go (aLet e q x z p) i y d =
-      ⊎-elim (owned-here var i y x)
-      (λ b. owned-in (child-at k h 2 e 2 (omega arith) refl (p .before)) (go _ (p .before) i y b)) (rw q at d)
+      ⊎-elim (owned-here var i y x) (λ b. owned-in p (go _ (p .before) i y b)) (rw q at d)
   declared-view k h go (anIf e q z p r) i y d =
-      ⊎-elim
-      (λ b. owned-in (child-at k h 3 e 1 (omega arith) refl (p .before)) (go _ (p .before) i y b))
-      (λ b. owned-in (child-at k h 3 e 2 (omega arith) refl (r .before)) (go _ (r .before) i y b))
-      (rw q at d)
-  declared-view k h go (aWhile e q z p) i y d =
-      owned-in (child-at k h 4 e 1 (omega arith) refl (p .before)) (go _ (p .before) i y (rw q at d))
+      ⊎-elim (λ b. owned-in p (go _ (p .before) i y b)) (λ b. owned-in r (go _ (r .before) i y b)) (rw q at d)
+  declared-view k h go (aWhile e q z p) i y d = owned-in p (go _ (p .before) i y (rw q at d))
   declared-view k h go (aSequence e q p r) i y d =
-      ⊎-elim
-      (λ b. owned-in (child-at k h 5 e 0 (omega arith) refl (p .before)) (go _ (p .before) i y b))
-      (λ b. owned-in (child-at k h 5 e 1 (omega arith) refl (r .before)) (go _ (r .before) i y b))
-      (rw q at d)
+      ⊎-elim (λ b. owned-in p (go _ (p .before) i y b)) (λ b. owned-in r (go _ (r .before) i y b)) (rw q at d)
   declared-view k h go (anEmit e q x) i y d = absurd (rw q at d)
   declared-view k h go (aLocal e q x p) i y d =
-      ⊎-elim (owned-here sig i y x)
-      (λ b. owned-in (child-at k h 7 e 1 (omega arith) refl (p .before)) (go _ (p .before) i y b)) (rw q at d)
-  declared-view k h go (aWatching e q x p) i y d =
-      owned-in (child-at k h 8 e 1 (omega arith) refl (p .before)) (go _ (p .before) i y (rw q at d))
-  declared-view k h go (aWhen e q x p) i y d =
-      owned-in (child-at k h 9 e 1 (omega arith) refl (p .before)) (go _ (p .before) i y (rw q at d))
+      ⊎-elim (owned-here sig i y x) (λ b. owned-in p (go _ (p .before) i y b)) (rw q at d)
+  declared-view k h go (aWatching e q x p) i y d = owned-in p (go _ (p .before) i y (rw q at d))
+  declared-view k h go (aWhen e q x p) i y d = owned-in p (go _ (p .before) i y (rw q at d))
   declared-view k h go (aParallel e q p r) i y d =
-      ⊎-elim
-      (λ b. owned-in (child-at k h 10 e 0 (omega arith) refl (p .before)) (go _ (p .before) i y b))
-      (λ b. owned-in (child-at k h 10 e 1 (omega arith) refl (r .before)) (go _ (r .before) i y b))
-      (rw q at d)
+      ⊎-elim (λ b. owned-in p (go _ (p .before) i y b)) (λ b. owned-in r (go _ (r .before) i y b)) (rw q at d)
 
   declared-in : (n k : ℕ) → k < n → k < nodeCount s → DeclaredIn k
   declared-in zero k l h = absurd (not-suc-le-zero l)
@@ -151,50 +112,36 @@ module _ (s : List ℕ) (ok : Checked s) where
   module _ {k : ℕ} (h : k < nodeCount s) where
     -- what a node declares is not declared in its child
     new-here :
-        {x kind f j : ℕ} (i : Kind) → NewName s (node s k) x kind → Child k f j → Declared i x (processOf s j) → ⊥
+        {x kind f j : ℕ} {new : ℕ → Bool} (i : Kind) → NewName s (node s k) x kind → UsesNode s k f j new →
+        Declared i x (processOf s j) → ⊥
     new-here {j = j} i u c d =
-        not-inside (c .uses)
+        not-inside (c .field)
         (subst (λ q. liesIn s q (node s j) ≡ true) (u .own) (declared-at j (omega (arith, c .before)) i _ d .lies))
 
     -- nor are names declared in two children
-    both-apart : {f g i j : ℕ} → (f ≡ g → ⊥) → Child k f i → Child k g j → Apart (processOf s i) (processOf s j)
+    both-apart :
+        {f g i j : ℕ} {new other : ℕ → Bool} → (f ≡ g → ⊥) → UsesNode s k f i new → UsesNode s k g j other →
+        Apart (processOf s i) (processOf s j)
     both-apart {i = i} {j = j} ne c d κ y a b =
-        apart-at (node s (nameOf s y .owner)) ne (c .uses) (d .uses)
+        apart-at (node s (nameOf s y .owner)) ne (c .field) (d .field)
         (declared-at i (omega (arith, c .before)) κ y a .lies)
         (declared-at j (omega (arith, d .before)) κ y b .lies)
 
   once-view : (k : ℕ) → k < nodeCount s → ((j : ℕ) → j < k → Once (processOf s j)) → NodeView s k → Once (processOf s k)
   once-view k h go (aNil e q) = rw q tt
   once-view k h go (anAssign e q x z) = rw q tt
-  once-view k h go (aLet e q x z p) =
-      rw q (new-here h var x (child-at k h 2 e 2 (omega arith) refl (p .before)), go _ (p .before))
+  once-view k h go (aLet e q x z p) = rw q (new-here h var x p, go _ (p .before))
   once-view k h go (anIf e q z p r) =
-      rw q (
-        both-apart h (λ z. omega (arith, z)) (child-at k h 3 e 1 (omega arith) refl (p .before))
-            (child-at k h 3 e 2 (omega arith) refl (r .before)),
-        go _ (p .before),
-        go _ (r .before),
-      )
+      rw q (both-apart h (λ z. omega (arith, z)) p r, go _ (p .before), go _ (r .before))
   once-view k h go (aWhile e q z p) = rw q (go _ (p .before))
   once-view k h go (aSequence e q p r) =
-      rw q (
-        both-apart h (λ z. omega (arith, z)) (child-at k h 5 e 0 (omega arith) refl (p .before))
-            (child-at k h 5 e 1 (omega arith) refl (r .before)),
-        go _ (p .before),
-        go _ (r .before),
-      )
+      rw q (both-apart h (λ z. omega (arith, z)) p r, go _ (p .before), go _ (r .before))
   once-view k h go (anEmit e q x) = rw q tt
-  once-view k h go (aLocal e q x p) =
-      rw q (new-here h sig x (child-at k h 7 e 1 (omega arith) refl (p .before)), go _ (p .before))
+  once-view k h go (aLocal e q x p) = rw q (new-here h sig x p, go _ (p .before))
   once-view k h go (aWatching e q x p) = rw q (go _ (p .before))
   once-view k h go (aWhen e q x p) = rw q (go _ (p .before))
   once-view k h go (aParallel e q p r) =
-      rw q (
-        both-apart h (λ z. omega (arith, z)) (child-at k h 10 e 0 (omega arith) refl (p .before))
-            (child-at k h 10 e 1 (omega arith) refl (r .before)),
-        go _ (p .before),
-        go _ (r .before),
-      )
+      rw q (both-apart h (λ z. omega (arith, z)) p r, go _ (p .before), go _ (r .before))
 
   once-in : (n k : ℕ) → k < n → k < nodeCount s → Once (processOf s k)
   once-in zero k l h = absurd (not-suc-le-zero l)
