@@ -4,7 +4,7 @@ use prelude::Refusal;
 ghost use mathlib.Core.Path.{_≡_};
 ghost use Prim.Native.Nat.{_+_, _*_, _≤_, _<_};
 ghost use lib.ListN.{length};
-ghost use Rattle.layout.specs.Layout.{Laid};
+ghost use Rattle.layout.specs.Contracts.{Laid};
 ghost use Rattle.arguments.specs.Refusals.{valueIsRight, valuesRefusal, callRefusal, firstWrong};
 ghost use Rattle.arguments.specs.Contracts.{Listed};
 

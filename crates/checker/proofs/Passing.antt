@@ -15,7 +15,7 @@ use Rattle.script.specs.Refusals as scripts
 use Rattle.script.specs.Checked.{Checked}
 use Rattle.tree.specs.Tree.{namesOf, tree}
 use Rattle.script.proofs.Theorems.{accepted-exactly}
-use Rattle.flow.specs.Flow.{firstFailing}
+use Rattle.flow.specs.Needs.{firstFailing}
 use Rattle.flow.proofs.Theorems.{needs-everywhere}
 use Rattle.checker.specs.Refusals.{flowRefusal, checkRefusal}
 use Rattle.checker.proofs.Rows.{found-passes}

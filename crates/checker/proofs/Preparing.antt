@@ -18,7 +18,7 @@ use Rattle.layout.specs.Layout.{nodeCount, layoutOf}
 use Rattle.script.specs.Refusals as scripts
 use Rattle.tree.specs.Tree.{namesOf, tree}
 use Rattle.flow.specs.declared.nodes.Flow.{Flow}
-use Rattle.flow.specs.Flow.{firstFailing}
+use Rattle.flow.specs.Needs.{firstFailing}
 use Rattle.checker.specs.declared.Prepared.{Prepared}
 use Rattle.checker.specs.Refusals.{scriptRefusal, checkRefusal}
 use Rattle.checker.specs.Contracts.{refusedWith, prepared, withFlow, Prepares}

@@ -5,14 +5,13 @@ use mathlib.Core.List.{List}
 use Prim.Native.Nat.{ℕ}
 use lib.Dec.{ltb}
 use Rattle.prelude.specs.declared.Refusal.{Refusal}
-use Rattle.prelude.specs.Refusals.{refusedBy, notRefused}
+use Rattle.prelude.specs.Refusals.{refusedBy, notRefused, orElse}
 use Rattle.book.specs.LevelBook.{count}
 use Rattle.lattice.specs.Refusals as books
 use Rattle.lattice.specs.Lattice.{Lattice, bookLattice}
 use Rattle.layout.specs.Layout.{nodeCount}
 use Rattle.script.specs.Refusals as scripts
-use Rattle.flow.specs.Flow.{firstFailing}
-use Rattle.prelude.specs.Refusals.{orElse}
+use Rattle.flow.specs.Needs.{firstFailing}
 
 -- row 11: 'a need above fails', 'first node'
 abbrev pub flowRefusal : Lattice ℕ → List ℕ → Refusal

@@ -12,7 +12,8 @@ use Rattle.layout.specs.Entries.{node, partOf}
 use Rattle.fields.specs.declared.Field.{Field}
 use Rattle.fields.specs.Roles.{unused, expression, child, register, signal, newRegister, newSignal, isUse, isNew}
 use Rattle.fields.specs.Fields.{fieldCount, fieldOf}
-use Rattle.entries.specs.Faults.{holds, holdsName, kindsFor, Sound}
+use Rattle.entries.specs.Faults.{holds, holdsName, kindsFor}
+use Rattle.entries.specs.Contracts.{Sound}
 
 module _ (s : List ℕ) (q : ℕ) (x : Field) where
   pub holds-expression : x .role ≡ expression → holds s q x ≡ (ltb (x .value) (expressionCount s) && ltb (x .value) q)

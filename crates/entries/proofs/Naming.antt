@@ -10,7 +10,8 @@ use Rattle.layout.specs.Layout.{nameCount, nodeCount, partCount}
 use Rattle.layout.specs.Entries.{nameOf, isSession, node}
 use Rattle.fields.specs.Roles.{isUse, isNew}
 use Rattle.fields.specs.Fields.{fieldCount, fieldOf}
-use Rattle.entries.specs.Faults.{newOf, declares, kindFor, holdsName, Sound}
+use Rattle.entries.specs.Faults.{newOf, declares, kindFor, holdsName}
+use Rattle.entries.specs.Contracts.{Sound}
 use Rattle.entries.proofs.Holding.{holds-name, right-field}
 
 module _ (s : List ℕ) (sound : Sound s) where

@@ -11,7 +11,8 @@ use Rattle.prelude.proofs.Bools.{and-right}
 use Rattle.layout.specs.Layout.{nameCount, expressionCount, nodeCount, partCount}
 use Rattle.layout.specs.Entries.{nameOf, node}
 use Rattle.layout.proofs.Placing.{passes-first, past-first, both}
-use Rattle.entries.specs.Faults.{nameIsRight, partIsRight, Sound, faultRefusal}
+use Rattle.entries.specs.Faults.{nameIsRight, partIsRight, faultRefusal}
+use Rattle.entries.specs.Contracts.{Sound}
 
 module _ (s : List ℕ) (levels : ℕ) where
   -- what the rows leave

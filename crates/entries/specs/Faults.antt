@@ -1,13 +1,12 @@
 -- 01, the table of refusals, rows 6 to 8: what each name, expression and node must have by itself.
-use mathlib.Core.Path.{_≡_}
 use mathlib.Core.Bool.{Bool, true, cond, not, _&&_, _||_}
 use mathlib.Core.List.{List}
-use Prim.Native.Nat.{ℕ, _<_}
+use Prim.Native.Nat.{ℕ}
 use lib.Dec.{eqb, leb, ltb}
 use Rattle.prelude.specs.declared.Refusal.{Refusal}
 use Rattle.prelude.specs.Refusals.{refusedBy, notRefused}
 use Rattle.prelude.specs.Search.{all}
-use Rattle.layout.specs.Layout.{nameCount, expressionCount, nodeCount, partCount}
+use Rattle.layout.specs.Layout.{nameCount, expressionCount, nodeCount}
 use Rattle.layout.specs.Entries.{nameOf, isSession, partOf, node}
 use Rattle.layout.specs.Places.{atFirst}
 use Rattle.fields.specs.declared.Field.{Field}
@@ -61,11 +60,6 @@ abbrev pub partIsRight : List ℕ → ℕ → Bool
 partIsRight s q =
     ltb (partOf s q .kind) (kindsFor (expressionCount s) q)
     && (eqb (partOf s q .zero) 0 && all (λ f. holds s q (fieldOf s q f)) fieldCount)
-
--- what refusals 6, 7 and 8 leave: each name has its owner, each part is right
-pub record Sound (s : List ℕ) : Type 0 where
-  pub owners : (x : ℕ) → x < nameCount s → ownerIsRight s x ≡ true
-  pub parts : (q : ℕ) → q < partCount s → partIsRight s q ≡ true
 
 -- rows 6 to 8: the smallest name, then expression, then node at fault
 unfoldable pub faultRefusal : List ℕ → ℕ → Refusal

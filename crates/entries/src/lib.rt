@@ -6,7 +6,7 @@ use layout::Script;
 use layout::places::refused;
 use prelude::Refusal;
 ghost use mathlib.Core.Path.{_≡_};
-ghost use Rattle.layout.specs.Layout.{Laid};
+ghost use Rattle.layout.specs.Contracts.{Laid};
 ghost use Rattle.entries.specs.Faults.{faultRefusal};
 
 // Rows 6 to 8, each over all its entries.

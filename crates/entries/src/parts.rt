@@ -10,7 +10,7 @@ ghost use mathlib.Core.Path.{_≡_};
 ghost use mathlib.Core.Bool.{not};
 ghost use Prim.Native.Nat.{_+_, _<_, _≤_};
 ghost use Rattle.prelude.specs.Search.{first, all};
-ghost use Rattle.layout.specs.Layout.{Laid};
+ghost use Rattle.layout.specs.Contracts.{Laid};
 ghost use Rattle.fields.specs.Fields.{fieldCount, fieldOf};
 ghost use Rattle.entries.specs.Faults.{kindFor, holdsName, holds, kindsFor, partIsRight};
 

@@ -1,7 +1,7 @@
 // Script files, for a book of two levels: the names, expressions and nodes, and the size of the process.
 use crate::say;
 use layout::Script;
-ghost use Rattle.layout.specs.Layout.{Laid};
+ghost use Rattle.layout.specs.Contracts.{Laid};
 ghost use Rattle.script.specs.Checked.{Checked};
 
 fn say_script(file: &[u8], c: Script)

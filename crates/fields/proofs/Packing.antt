@@ -8,7 +8,8 @@ use lib.Dec.{ltb}
 use lib.ListN.{getD}
 use borrow.Author.Tests.{ltb-true}
 use Rattle.prelude.proofs.Bools.{and-left, and-right}
-use Rattle.fields.specs.Roles.{Row, childrenIn, packed, roleIn}
+use Rattle.fields.specs.Roles.{Row, roleIn}
+use Rattle.fields.specs.Children.{childrenIn, packed}
 
 -- the roles of a row are below 16
 abbrev small : Row → Bool

@@ -1,7 +1,7 @@
 -- 01, 'Script file': what the fields a, b and c of each kind of entry hold.
-use mathlib.Core.Bool.{Bool, cond, _||_}
+use mathlib.Core.Bool.{Bool, _||_}
 use mathlib.Core.List.{List, [], _∷_}
-use Prim.Native.Nat.{ℕ, _+_, _*_}
+use Prim.Native.Nat.{ℕ}
 use lib.Dec.{eqb}
 use lib.ListN.{getD}
 
@@ -84,21 +84,6 @@ nodeKinds = 11
 -- the role of a field in the row of its kind; past the table every field is unused
 abbrev pub roleIn : List Row → ℕ → ℕ → ℕ
 roleIn rows kind f = getD (getD rows kind []) f unused
-
--- how many of the fields hold a child
-abbrev isChild : ℕ → ℕ
-isChild role = cond (eqb role child) 1 0
-
-abbrev pub childrenIn : Row → ℕ
-childrenIn row = isChild (getD row 0 unused) + isChild (getD row 1 unused) + isChild (getD row 2 unused)
-
--- how many children a node of this kind has
-abbrev pub childCount : ℕ → ℕ
-childCount kind = childrenIn (getD nodeRows kind [])
-
--- a row as a number: a in the lowest four bits, then b, then c, then how many hold a child
-abbrev pub packed : Row → ℕ
-packed row = getD row 0 unused + 16 * getD row 1 unused + 256 * getD row 2 unused + 4096 * childrenIn row
 
 -- a field of this role uses a name
 abbrev pub isUse : ℕ → Bool

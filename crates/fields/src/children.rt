@@ -2,7 +2,7 @@
 use crate::roles;
 use layout::parts::Part;
 ghost use mathlib.Core.Path.{_≡_};
-ghost use Rattle.fields.specs.Fields.{firstChild, secondChild};
+ghost use Rattle.fields.specs.Children.{firstChild, secondChild};
 
 // The nodes that a node's fields use. Where it has fewer than two children the rest is of no meaning.
 pub struct Children {

@@ -8,7 +8,7 @@ use layout::Script;
 use layout::parts::word_at;
 ghost use mathlib.Core.Path.{_≡_};
 ghost use Prim.Native.Nat.{_+_, _<_};
-ghost use Rattle.layout.specs.Layout.{Laid};
+ghost use Rattle.layout.specs.Contracts.{Laid};
 ghost use Rattle.fields.specs.Fields.{fieldCount, roleOf, fieldOf};
 
 // One of the fields a, b, c.

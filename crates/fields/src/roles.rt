@@ -3,7 +3,8 @@ ghost use mathlib.Core.Path.{_≡_};
 ghost use Prim.Native.Nat.{_<_};
 ghost use mathlib.Core.List.{[]};
 ghost use lib.ListN.{getD};
-ghost use Rattle.fields.specs.Roles.{expressionRows, nodeRows, roleIn, childCount, packed, isUse, isNew};
+ghost use Rattle.fields.specs.Roles.{expressionRows, nodeRows, roleIn, isUse, isNew};
+ghost use Rattle.fields.specs.Children.{childCount, packed};
 
 // Nothing: the field is 0.
 pub const UNUSED: u16 = 0;

@@ -8,11 +8,10 @@ use Rattle.book.specs.LevelBook.{mostLevels, atOrBelow}
 use Rattle.pairs.specs.Table.{kept}
 use Rattle.layout.specs.declared.parts.Part.{Part}
 use Rattle.layout.specs.Entries.{partOf, node}
-use Rattle.fields.specs.Fields.{firstChild, secondChild}
+use Rattle.fields.specs.Children.{firstChild, secondChild, childCount}
 use Rattle.layout.specs.Layout.{layoutOf}
 use Rattle.flow.specs.declared.nodes.Flow.{Flow}
 use Rattle.flow.specs.declared.nodes.Own.{Own}
-use Rattle.fields.specs.Roles.{childCount}
 use Rattle.flow.specs.Nodes.{pairNeed, testFrom, bothFrom, flowFrom, OwnWithin, FlowWithin}
 use Rattle.flow.specs.Flow.{Levels, lattice, Ready, Walks, IsNodeAt, OwnOf, FlowAt}
 use Rattle.flow.proofs.BookLevels.{own-index, flow-index, test-index, flow-same}

@@ -11,7 +11,8 @@ use Rattle.language.specs.Levels.{needs}
 use Rattle.layout.specs.Layout.{nodeCount}
 use Rattle.tree.specs.Tree.{namesOf, tree}
 use Rattle.script.specs.Checked.{Checked}
-use Rattle.flow.specs.Flow.{needAt, firstFailing, levelsOf, Ordered}
+use Rattle.flow.specs.Flow.{levelsOf, Ordered}
+use Rattle.flow.specs.Needs.{needAt, firstFailing}
 
 -- The needs of a checked script hold exactly when every node of the file has its own, so exactly when no node is the
 -- first that fails: under any lattice.

@@ -9,8 +9,8 @@ use lib.ListN.{length}
 use borrow.Author.Tests.{leb-true, eqb-true}
 use Rattle.prelude.proofs.Bools.{and-left, and-right}
 use Rattle.layout.specs.declared.Script.{Script}
-use Rattle.layout.specs.Layout.{mostNames, mostExpressions, mostNodes, mostParts, mark, pointedTail, tailAt, expressionsAt, nodesAt, nameCount, partCount, tailIsRight, countsAreRight, layoutOf, Laid, expressionCount, nodeCount}
-use Rattle.layout.specs.Entries.{PartWithin}
+use Rattle.layout.specs.Layout.{mostNames, mostExpressions, mostNodes, mostParts, mark, pointedTail, tailAt, expressionsAt, nodesAt, nameCount, partCount, tailIsRight, countsAreRight, layoutOf, expressionCount, nodeCount}
+use Rattle.layout.specs.Contracts.{Laid, PartWithin}
 
 pub few-bounds :
     (c : Script) → countsAreRight c ≡ true →

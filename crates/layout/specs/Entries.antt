@@ -1,10 +1,9 @@
 -- 01, 'Script file': names, and the parts, which are the expressions and then the nodes.
 use mathlib.Core.Bool.{Bool, _&&_}
 use mathlib.Core.List.{List}
-use mathlib.Core.Path.{_≡_}
-use Prim.Native.Nat.{ℕ, _+_, _*_, _≤_}
+use Prim.Native.Nat.{ℕ, _+_, _*_}
 use lib.Dec.{eqb, ltb}
-use lib.ListN.{getD, length}
+use lib.ListN.{getD}
 use Rattle.layout.specs.declared.parts.Name.{Name}
 use Rattle.layout.specs.declared.parts.Part.{Part}
 use Rattle.layout.specs.Layout.{wordAt, expressionsAt, nameCount, expressionCount}
@@ -40,11 +39,6 @@ partOf s q =
       b = wordAt s (at + 4);
       c = wordAt s (at + 6);
     }
-
--- the parts begin at this offset, and part q lies in the file
-pub record PartWithin (s : List ℕ) (offset q : ℕ) : Type 0 where
-  pub start : offset ≡ expressionsAt s
-  pub whole : offset + 8 * q + 8 ≤ length s
 
 -- node k as a part
 abbrev pub node : List ℕ → ℕ → ℕ

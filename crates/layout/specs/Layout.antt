@@ -1,8 +1,7 @@
 -- 01, 'Script file': where the lists of a file stand, and how many entries they have.
-use mathlib.Core.Path.{_≡_}
-use mathlib.Core.Bool.{Bool, true, _&&_}
+use mathlib.Core.Bool.{Bool, _&&_}
 use mathlib.Core.List.{List}
-use Prim.Native.Nat.{ℕ, _+_, _-_, _*_, _/_, _%_}
+use Prim.Native.Nat.{ℕ, _+_, _-_, _/_, _%_}
 use lib.Dec.{eqb, leb}
 use lib.ListN.{getD, length}
 use Rattle.prelude.specs.Numbers.{word}
@@ -86,10 +85,3 @@ abbrev pub countsAreRight : Script → Bool
 countsAreRight c =
     leb (c .names) mostNames
     && (leb (c .expressions) mostExpressions && (leb 1 (c .nodes) && leb (c .nodes) mostNodes))
-
--- the layout of a file that refusals 4 and 5 let through
-pub record Laid (s : List ℕ) (c : Script) : Type 0 where
-  pub same : c ≡ layoutOf s
-  pub few : countsAreRight c ≡ true
-  pub touching : c .offset ≡ 4 * c .names
-  pub whole : length s ≡ c .offset + 8 * (c .expressions + c .nodes) + 8

@@ -3,7 +3,8 @@ ghost use mathlib.Core.Path.{_≡_};
 ghost use Prim.Native.Nat.{_+_, _*_, _≤_};
 ghost use lib.ListN.{length};
 ghost use Rattle.layout.specs.Layout.{wordAt};
-ghost use Rattle.layout.specs.Entries.{nameOf, partOf, PartWithin};
+ghost use Rattle.layout.specs.Entries.{nameOf, partOf};
+ghost use Rattle.layout.specs.Contracts.{PartWithin};
 
 pub struct Name {
     pub kind: usize,

@@ -15,10 +15,11 @@ use Rattle.language.specs.Syntax.{Exp, constant, Proc, nil, assign, while, sequ
 use Rattle.language.specs.Shapes.{size, watches, leavesAlone}
 use Rattle.layout.specs.declared.Script.{Script}
 use Rattle.layout.specs.declared.parts.Part.{Part}
-use Rattle.layout.specs.Layout.{layoutOf, nameCount, expressionCount, nodeCount, Laid}
+use Rattle.layout.specs.Layout.{layoutOf, nameCount, expressionCount, nodeCount}
+use Rattle.layout.specs.Contracts.{Laid}
 use Rattle.layout.specs.Entries.{nameOf, partOf, node}
 use Rattle.layout.proofs.Layouts.{few-bounds, names-are, expressions-are, nodes-are}
-use Rattle.fields.specs.Fields.{firstChild, secondChild}
+use Rattle.fields.specs.Children.{firstChild, secondChild}
 use Rattle.script.specs.Checked.{Checked}
 use Rattle.tree.specs.Tree.{expressionsFrom, noExpression, expressionOf, processesFrom, processOf}
 use Rattle.tree.proofs.Views.{code, code-range, ExpressionView, aConstant, aRegister, aBinary, aNegated, expression-view, UsesName, NodeView, aNil, anAssign, aLet, anIf, aWhile, aSequence, anEmit, aLocal, aWatching, aWhen, aParallel, node-view}

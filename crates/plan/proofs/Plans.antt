@@ -15,7 +15,7 @@ use Rattle.prelude.proofs.Searches.{all-elim}
 use Rattle.layout.specs.declared.parts.Name.{Name}
 use Rattle.layout.specs.declared.parts.Part.{Part}
 use Rattle.layout.specs.Entries.{nameOf, session, partOf, node}
-use Rattle.fields.specs.Fields.{firstChild, secondChild}
+use Rattle.fields.specs.Children.{firstChild, secondChild}
 use Rattle.language.specs.Shapes.{size, watches}
 use Rattle.tree.specs.Tree.{processOf}
 use Rattle.program.specs.Program.{mostNames, mostExpressions, mostNodes, nameStart, expressionStart, nodeStart}

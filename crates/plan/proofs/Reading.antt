@@ -6,7 +6,8 @@ use native.Mathlib.Omega.{arith}
 use Rattle.book.specs.declared.Book.{Book}
 use Rattle.layout.specs.declared.Script.{Script}
 use Rattle.layout.specs.declared.parts.Part.{Part}
-use Rattle.layout.specs.Layout.{nameCount, Laid}
+use Rattle.layout.specs.Layout.{nameCount}
+use Rattle.layout.specs.Contracts.{Laid}
 use Rattle.layout.specs.Entries.{partOf, node}
 use Rattle.layout.proofs.Layouts.{name-within, names-are, expressions-are}
 use Rattle.plan.specs.Plan.{CanPlan, CanPackName}

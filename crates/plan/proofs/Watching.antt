@@ -12,7 +12,8 @@ use Rattle.layout.specs.declared.parts.Part.{Part}
 use Rattle.layout.specs.Layout.{nodeCount}
 use Rattle.layout.specs.Entries.{partOf, node}
 use Rattle.fields.specs.Roles.{nodeRows, roleIn, unused}
-use Rattle.fields.specs.Fields.{fieldCount, fieldOf, firstChild, secondChild}
+use Rattle.fields.specs.Fields.{fieldCount, fieldOf}
+use Rattle.fields.specs.Children.{firstChild, secondChild}
 use Rattle.entries.proofs.Holding.{right-field, holds-unused}
 use Rattle.script.specs.Checked.{Checked}
 use Rattle.tree.specs.Tree.{processOf}

@@ -10,11 +10,13 @@ use Rattle.book.specs.LevelBook.{mostLevels, atOrBelow}
 use Rattle.packing.specs.Packing.{kindIn, constantIn, operandIn, laterIn, formIn, aIn, bIn, firstIn, sizeIn, nodeKindIn, watchesIn, levelIn, signalIn, sessionIn, seenIn}
 use Rattle.language.specs.Shapes.{size, watches}
 use Rattle.layout.specs.declared.Script.{Script}
-use Rattle.layout.specs.Layout.{nameCount, expressionCount, nodeCount, Laid}
+use Rattle.layout.specs.Layout.{nameCount, expressionCount, nodeCount}
+use Rattle.layout.specs.Contracts.{Laid}
 use Rattle.layout.specs.Entries.{nameOf, isSession, partOf, node}
-use Rattle.fields.specs.Fields.{firstChild, secondChild}
+use Rattle.fields.specs.Children.{firstChild, secondChild}
 use Rattle.script.specs.Checked.{Checked, Levelled}
-use Rattle.tree.specs.Tree.{expressionOf, processOf, KeepsSizes}
+use Rattle.tree.specs.Tree.{expressionOf, processOf}
+use Rattle.tree.specs.Contracts.{KeepsSizes}
 use Rattle.program.specs.Program.{nameWord, seenBy, expressionWord, nodeWord, wordCount}
 use Rattle.program.specs.Program as program
 use Rattle.program.specs.Forms.{formOf}

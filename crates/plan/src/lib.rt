@@ -9,7 +9,8 @@ ghost use mathlib.Core.Path.{_≡_};
 ghost use Prim.Native.Nat.{_<_};
 ghost use lib.Dec.{leb};
 ghost use mathlib.Core.Bool.{cond};
-ghost use Rattle.layout.specs.Layout.{mostNodes, Laid};
+ghost use Rattle.layout.specs.Layout.{mostNodes};
+ghost use Rattle.layout.specs.Contracts.{Laid};
 ghost use Rattle.plan.specs.Plan.{CanPlan, seesIn, CanPackName, NamePacked, ExpressionPacked, NodePacked, Keeps, CanPack, watchesBefore, watchesBy, ProgramOf};
 
 fn wide(x: u16) -> usize

@@ -3,7 +3,7 @@ use mathlib.Core.Path.{_≡_}
 use mathlib.Core.List.{List}
 use Prim.Native.Nat.{ℕ, suc, _<_}
 use Rattle.layout.specs.Layout.{partCount}
-use Rattle.entries.specs.Faults.{Sound}
+use Rattle.entries.specs.Contracts.{Sound}
 use Rattle.uses.specs.Uses.{timesUsed}
 
 -- what refusals 6 to 9 leave: names and parts that are right by themselves, and each part but the last is used once

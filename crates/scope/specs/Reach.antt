@@ -1,32 +1,29 @@
 -- 01, 'Script file': 'An owned name is used only inside the body of its declaration, whose own field a doesn't count as
 -- a use; a let's expression lies outside it.'
-use mathlib.Core.Path.{_≡_}
 use mathlib.Core.Bool.{Bool, false, not, _&&_, _||_}
 use mathlib.Core.List.{List}
-use Prim.Native.Nat.{ℕ, suc, _+_, _*_, _/_, _≤_, _<_}
+use Prim.Native.Nat.{ℕ}
 use lib.Dec.{eqb}
-use lib.ListN.{getD, length}
+use lib.ListN.{getD}
 use Rattle.prelude.specs.declared.Refusal.{Refusal}
 use Rattle.prelude.specs.Search.{any}
 use Rattle.prelude.specs.Course.{entry}
-use Rattle.prelude.specs.Sets.{IsSet}
-use Rattle.layout.specs.Layout.{mostParts, nameCount, partCount}
+use Rattle.layout.specs.Layout.{partCount}
 use Rattle.layout.specs.Places.{atFirstPart}
 use Rattle.layout.specs.Entries.{nameOf, isSession, node}
-use Rattle.fields.specs.Roles.{child, isUse, isNew}
+use Rattle.fields.specs.Roles.{child, isUse}
 use Rattle.fields.specs.Fields.{fieldCount, fieldOf}
-use Rattle.uses.specs.Uses.{fieldAt, allFields, used}
+use Rattle.uses.specs.Uses.{used}
 
--- part q lies in part p: it is p, or it lies in a part that a field of p uses
-unfoldable pub within : List ℕ → ℕ → ℕ → Bool
-within s =
-    entry (λ p earlier q. eqb p q || any (λ f. getD earlier (used s (fieldCount * p + f)) (λ _. false) q) fieldCount)
+-- part q lies in part p: it is p, or it lies in a part that a field of p uses; `earlier` has this for the parts before p
+unfoldable pub liesIn : List ℕ → ℕ → ℕ → Bool
+liesIn s q = entry (λ p earlier. eqb q p || any (λ f. getD earlier (used s p f) false) fieldCount)
 
 -- part q lies inside the body of the declaration of x: in a child of the node that owns x
 unfoldable pub inBody : List ℕ → ℕ → ℕ → Bool
 inBody s x q =
     let d : ℕ = node s (nameOf s x .owner) in
-    any (λ f. eqb (fieldOf s d f .role) child && within s (used s (fieldCount * d + f)) q) fieldCount
+    any (λ f. eqb (fieldOf s d f .role) child && liesIn s q (used s d f)) fieldCount
 
 -- x may be used in part q
 abbrev pub inReach : List ℕ → ℕ → ℕ → Bool
@@ -38,24 +35,6 @@ missesName s q f = isUse (fieldOf s q f .role) && not (inReach s (fieldOf s q f 
 
 unfoldable pub isOutOfReach : List ℕ → ℕ → Bool
 isOutOfReach s q = any (missesName s q) fieldCount
-
--- field i uses the body of a declaration of x
-abbrev pub opens : List ℕ → ℕ → ℕ → Bool
-opens s i x =
-    eqb (fieldAt s i .role) child
-    && (isNew (fieldOf s (i / fieldCount) 0 .role) && eqb (fieldOf s (i / fieldCount) 0 .value) x)
-
--- a table that keeps the names in reach in part q as a set
-abbrev pub KeepsReachAt : List ℕ → ℕ → List ℕ → Type 0
-KeepsReachAt s q sets = IsSet (nameCount s) (λ x. inReach s x q) (getD sets q 0)
-
--- one that keeps them in the last part, and in the parts that the fields from i on use
-pub record KeepsReachFrom (s : List ℕ) (i : ℕ) (sets : List ℕ) : Type 0 where
-  pub long : length sets ≡ mostParts
-  pub last : (q : ℕ) → suc q ≡ partCount s → IsSet (nameCount s) (isSession s) (getD sets q 0)
-  pub passed :
-      (k : ℕ) → i ≤ k → k < allFields s → used s k < mostParts →
-      KeepsReachAt s (used s k) sets
 
 -- row 10: 'owned name outside its body'
 unfoldable pub reachRefusal : List ℕ → Refusal

@@ -2,7 +2,8 @@
 use mathlib.Core.Path.{sym, ap, _∙_, subst}
 use mathlib.Core.Bool.{cond}
 use borrow.Author.Tests.{eq-eqb}
-use Rattle.layout.specs.Layout.{layoutOf, Laid}
+use Rattle.layout.specs.Layout.{layoutOf}
+use Rattle.layout.specs.Contracts.{Laid}
 use Rattle.script.specs.Load.{noScript, loaded}
 use Rattle.script.specs.Results.{AcceptedExactly, LoadedChecked}
 use Rattle.script.proofs.Accepting.{checked, accepts}

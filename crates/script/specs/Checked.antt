@@ -3,7 +3,8 @@ use mathlib.Core.Path.{_≡_}
 use mathlib.Core.Bool.{true, false}
 use mathlib.Core.List.{List}
 use Prim.Native.Nat.{ℕ, _≤_, _<_}
-use Rattle.layout.specs.Layout.{nameCount, partCount, tailIsRight, layoutOf, Laid}
+use Rattle.layout.specs.Layout.{nameCount, partCount, tailIsRight, layoutOf}
+use Rattle.layout.specs.Contracts.{Laid}
 use Rattle.layout.specs.Entries.{nameOf}
 use Rattle.scope.specs.Joined.{Joined}
 use Rattle.scope.specs.Reach.{isOutOfReach}

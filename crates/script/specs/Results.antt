@@ -3,7 +3,7 @@ use mathlib.Core.Path.{_≡_}
 use mathlib.Core.Bool.{true}
 use mathlib.Core.List.{List}
 use Prim.Native.Nat.{ℕ}
-use Rattle.layout.specs.Layout.{Laid}
+use Rattle.layout.specs.Contracts.{Laid}
 use Rattle.script.specs.Checked.{Checked, Levelled}
 use Rattle.script.specs.declared.Loaded.{Loaded}
 use Rattle.script.specs.Refusals.{isAccepted}

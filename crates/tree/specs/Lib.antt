@@ -1,4 +1,5 @@
 -- The tree that a script file holds, and what is proved of a checked file's.
 pub mod Tree
+pub mod Contracts
 pub mod Results
 pub mod Examples

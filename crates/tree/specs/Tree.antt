@@ -1,9 +1,7 @@
 -- The names, expressions and processes that a file holds. 'Operands and child nodes have smaller numbers than their
 -- parent': so each is made of earlier ones.
-use mathlib.Core.Path.{_≡_}
-use mathlib.Core.Bool.{cond}
 use mathlib.Core.List.{List, [], _∷_}
-use Prim.Native.Nat.{ℕ, _+_, _-_, _*_, _<_}
+use Prim.Native.Nat.{ℕ, _+_, _-_, _*_}
 use lib.Dec.{eqb}
 use lib.IntN.{ℤ, pos}
 use lib.ListN.{getD}
@@ -11,12 +9,9 @@ use mir.Syntax.{w32}
 use mir.Val.{toZ}
 use Rattle.prelude.specs.Course.{entry}
 use Rattle.language.specs.Syntax.{Names, add, subtract, multiply, divide, less, equal, Exp, constant, register, binary, negated, Proc, nil, assign, letIn, ifThenElse, while, sequence, emit, local, watching, when, parallel}
-use Rattle.language.specs.Shapes.{size}
 use Rattle.layout.specs.declared.parts.Part.{Part}
 use Rattle.layout.specs.Layout.{nodeCount}
 use Rattle.layout.specs.Entries.{nameOf, isSession, partOf, node}
-use Rattle.fields.specs.declared.Field.{Field}
-use Rattle.fields.specs.Roles.{child}
 
 -- 'kind (0 register, 1 signal), level, owner'
 abbrev pub namesOf : List ℕ → Names ℕ
@@ -84,11 +79,3 @@ processOf s =
 -- 'The last node is the script.'
 abbrev pub tree : List ℕ → Proc ℕ
 tree s = processOf s (nodeCount s - 1)
-
--- what a field adds to the size of its node
-abbrev pub childSize : List ℕ → Field → ℕ
-childSize s x = cond (eqb (x .role) child) (size (processOf s (x .value))) 0
-
--- a table that keeps for each of the first n nodes the size of its process; what stands past them is left free
-abbrev pub KeepsSizes : List ℕ → ℕ → List ℕ → Type 0
-KeepsSizes s n sizes = (k : ℕ) → k < n → getD sizes k 0 ≡ size (processOf s k)

@@ -5,12 +5,13 @@ use layout::Script;
 use layout::parts::Part;
 ghost use mathlib.Core.Path.{_≡_};
 ghost use Prim.Native.Nat.{_+_, _<_};
-ghost use Rattle.layout.specs.Layout.{Laid};
+ghost use Rattle.layout.specs.Contracts.{Laid};
 ghost use Rattle.layout.specs.Entries.{node};
 ghost use Rattle.fields.specs.Fields.{fieldCount, fieldOf};
 ghost use Rattle.script.specs.Checked.{Checked};
 ghost use Rattle.language.specs.Shapes.{size};
-ghost use Rattle.tree.specs.Tree.{processOf, childSize, KeepsSizes};
+ghost use Rattle.tree.specs.Tree.{processOf};
+ghost use Rattle.tree.specs.Contracts.{childSize, KeepsSizes};
 
 // The size of the child that field f of node k uses, or 0.
 fn child_size(s: &[u8], c: Script, sizes: &[u16; Script::MAX_NODES], k: usize, f: usize) -> u16

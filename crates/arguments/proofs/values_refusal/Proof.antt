@@ -10,7 +10,8 @@ use lib.ListN.{length}
 use borrow.Author.Tests.{lt-ltb, le-ltb, eq-eqb, ne-eqb}
 use Rattle.prelude.specs.Refusals.{refusedBy, notRefused}
 use Rattle.layout.specs.declared.Script.{Script}
-use Rattle.layout.specs.Layout.{nameCount, Laid}
+use Rattle.layout.specs.Layout.{nameCount}
+use Rattle.layout.specs.Contracts.{Laid}
 use Rattle.layout.proofs.Layouts.{few-bounds, names-are}
 use Rattle.arguments.specs.Refusals.{firstWrong, valuesRefusal}
 use borrow.Author.Needs.{needs, fits-under}

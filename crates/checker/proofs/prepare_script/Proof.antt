@@ -6,7 +6,7 @@ use borrow.Author.Tests.{eq-eqb, ne-eqb}
 use denote.Ref.{now}
 use Rattle.prelude.specs.Refusals.{passes}
 use Rattle.script.specs.declared.Loaded.{Loaded}
-use Rattle.layout.specs.Layout.{Laid}
+use Rattle.layout.specs.Contracts.{Laid}
 use Rattle.script.specs.Refusals as files
 use Rattle.script.specs.Load.{loaded}
 use Rattle.script.specs.Checked.{Checked, Levelled}

@@ -7,7 +7,7 @@ use lib.Dec.{leb}
 use Rattle.layout.specs.declared.parts.Part.{Part}
 use Rattle.layout.specs.Layout.{mostNodes, nodeCount}
 use Rattle.layout.specs.Entries.{partOf, node}
-use Rattle.fields.specs.Fields.{firstChild, secondChild}
+use Rattle.fields.specs.Children.{firstChild, secondChild}
 use Rattle.language.specs.Shapes.{size, watches}
 use Rattle.tree.specs.Tree.{processOf}
 use Rattle.layout.proofs.Layouts.{few-bounds, nodes-are, part-within}

@@ -7,7 +7,8 @@ use borrow.Author.Tests.{not-true, not-false}
 use Rattle.prelude.specs.Refusals.{refusedBy}
 use Rattle.prelude.proofs.Refusing.{past-test}
 use Rattle.layout.specs.declared.Script.{Script}
-use Rattle.layout.specs.Layout.{tailIsRight, countsAreRight, layoutOf, Laid}
+use Rattle.layout.specs.Layout.{tailIsRight, countsAreRight, layoutOf}
+use Rattle.layout.specs.Contracts.{Laid}
 use Rattle.layout.proofs.Layouts as layouts
 use Rattle.script.specs.Refusals.{refusal}
 use borrow.Author.Needs.{needs}

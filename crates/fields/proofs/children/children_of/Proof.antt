@@ -4,7 +4,7 @@ use mathlib.Core.Bool.{true, false}
 use borrow.Author.Tests.{eq-eqb, ne-eqb}
 use Rattle.layout.specs.declared.parts.Part.{Part}
 use Rattle.fields.specs.Roles.{child}
-use Rattle.fields.specs.Fields.{holdsChild, firstChild, secondChild}
+use Rattle.fields.specs.Children.{holdsChild, firstChild, secondChild}
 use borrow.Author.Needs.{needs}
 use Rattle.fields.proofs.children.children_of.Statement.{statement}
 use Rattle.fields.proofs.children.children_of.Tie as tie

@@ -3,7 +3,8 @@ use mathlib.Core.Path.{sym, ap}
 use mathlib.Core.List.{[]}
 use lib.ListN.{List·getD-eq-default}
 use Rattle.prelude.proofs.Each.{past-all}
-use Rattle.fields.specs.Roles.{Row, expressionRows, packed}
+use Rattle.fields.specs.Roles.{Row, expressionRows}
+use Rattle.fields.specs.Children.{packed}
 use Rattle.fields.proofs.roles.expression_row.Statement.{statement}
 use Rattle.fields.proofs.roles.expression_row.Tie as tie
 

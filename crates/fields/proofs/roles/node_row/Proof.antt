@@ -3,7 +3,8 @@ use mathlib.Core.Path.{sym, ap}
 use mathlib.Core.List.{[]}
 use lib.ListN.{List·getD-eq-default}
 use Rattle.prelude.proofs.Each.{past-all}
-use Rattle.fields.specs.Roles.{Row, nodeRows, packed}
+use Rattle.fields.specs.Roles.{Row, nodeRows}
+use Rattle.fields.specs.Children.{packed}
 use Rattle.fields.proofs.roles.node_row.Statement.{statement}
 use Rattle.fields.proofs.roles.node_row.Tie as tie
 

@@ -4,7 +4,8 @@ use native.Mathlib.Omega.{arith}
 use borrow.Author.Needs.{fits-under}
 use Rattle.book.specs.LevelBook.{atOrBelow}
 use Rattle.pairs.specs.Table.{kept}
-use Rattle.layout.specs.Layout.{Laid, layoutOf}
+use Rattle.layout.specs.Layout.{layoutOf}
+use Rattle.layout.specs.Contracts.{Laid}
 use Rattle.layout.specs.Entries.{partOf}
 use Rattle.layout.proofs.Layouts.{few-bounds, part-within}
 use Rattle.flow.specs.Nodes.{bothFrom, pairNeed}

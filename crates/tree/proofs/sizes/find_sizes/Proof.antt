@@ -6,7 +6,7 @@ use lib.ListN.{length, length-set}
 use borrow.Author.Count.{below-none}
 use Rattle.layout.specs.Layout.{mostNodes}
 use Rattle.layout.proofs.Layouts.{few-bounds}
-use Rattle.tree.specs.Tree.{KeepsSizes}
+use Rattle.tree.specs.Contracts.{KeepsSizes}
 use Rattle.tree.proofs.NodeSizes.{keeps-more}
 use borrow.Author.Needs.{needs, fits-under}
 use Rattle.tree.proofs.sizes.find_sizes.Statement.{statement}

@@ -4,12 +4,13 @@ use Prim.Native.Nat.{suc, _+_, _-_, _≤_, _<_}
 use native.Mathlib.Nat.{le-antisymm}
 use native.Mathlib.Numerals.{add-one}
 use native.Mathlib.Omega.{arith}
-use Rattle.prelude.proofs.Sums.{sum, sum-none, sum-more}
+use Rattle.prelude.specs.Search.{sum}
+use Rattle.prelude.proofs.Sums.{sum-none, sum-more}
 use Rattle.layout.specs.Layout.{nodeCount}
 use Rattle.layout.specs.Entries.{node}
 use Rattle.layout.proofs.Layouts.{few-bounds, nodes-are}
 use Rattle.fields.specs.Fields.{fieldCount, fieldOf}
-use Rattle.tree.specs.Tree.{childSize}
+use Rattle.tree.specs.Contracts.{childSize}
 use Rattle.tree.proofs.NodeSizes.{size-of, size-within, sum-within}
 use borrow.Author.Needs.{needs, fits-under}
 use Rattle.tree.proofs.sizes.size_at.Statement.{statement}
