@@ -1,8 +1,8 @@
 // A level book and a script file are checked: refusals 1 to 11.
 use book::Book;
 use layout::Script;
-use prelude::Refusal;
 use pairs::table::PairTable;
+use prelude::Refusal;
 ghost use mathlib.Core.Path.{_≡_};
 ghost use Prim.Native.Nat.{_≤_};
 ghost use Rattle.book.specs.Load.{bookOf};

@@ -2,9 +2,9 @@
 // bytes that are written down in hexadecimal.
 pub mod hex; // hex.rt: lines of hexadecimal digits
 
+use libc::STDOUT_FILENO;
 use results::Report;
 use results::Verdict;
-use libc::STDOUT_FILENO;
 
 pub fn say(text: &[u8]) {
     io::write_all(STDOUT_FILENO, text);

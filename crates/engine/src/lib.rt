@@ -1,13 +1,13 @@
 // The two calls on a level book and a script file. They take any bytes and numbers.
 pub mod interface; // interface.rt: the calls for C
 
+use book::Book;
+use layout::Script;
+use moves::counts::Counts;
 use results::Report;
 use results::Verdict;
 use results::refused;
 use results::report_of;
-use book::Book;
-use layout::Script;
-use moves::counts::Counts;
 use runner::Ran;
 ghost use mathlib.Core.Path.{_≡_};
 ghost use Rattle.engine.specs.Answers.{verdict, left};

@@ -1,6 +1,6 @@
 // What the names hold, and the values of expressions.
-use program::WORDS;
 use language::expression_kinds;
+use program::WORDS;
 ghost use mathlib.Core.Path.{_≡_};
 ghost use Prim.Native.Nat.{_<_};
 ghost use lib.ListN.{length};

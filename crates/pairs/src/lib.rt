@@ -1,10 +1,10 @@
 // The pairs of a book's levels: the join and the meet of each, found once and kept; refusal 3.
 pub mod table; // table.rt: a level for each pair of levels
 
+use crate::table::PairTable;
 use book::Book;
 use book::sets;
 use order::converse;
-use crate::table::PairTable;
 ghost use mathlib.Core.Path.{_≡_};
 ghost use Prim.Native.Nat.{_<_};
 ghost use Rattle.book.specs.LevelBook.{mostLevels, atOrBelow};

@@ -1,10 +1,10 @@
 // The program of a checked file for a reader, found once for a call.
 use book::Book;
 use fields::children::Children;
-use layout::Script;
-use program::WORDS;
 use language::expression_kinds;
 use language::process_kinds;
+use layout::Script;
+use program::WORDS;
 ghost use mathlib.Core.Path.{_≡_};
 ghost use Prim.Native.Nat.{_<_};
 ghost use lib.Dec.{leb};
