@@ -4,8 +4,8 @@ use mir.Syntax.{w32}
 use mir.Val.{toZ}
 use mir.Facts.{toZ-ofZ}
 use borrow.Author.Needs.{needs}
-use Rattle.station.proofs.values.value_at.Statement.{statement}
-use Rattle.station.proofs.values.value_at.Tie as tie
+use Rattle.station.proofs.file_values.value_at.Statement.{statement}
+use Rattle.station.proofs.file_values.value_at.Tie as tie
 
 word-at-requires : tie.Need-word-at-requires
 word-at-requires c κs = search needs

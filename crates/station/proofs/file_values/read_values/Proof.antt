@@ -10,8 +10,8 @@ use Rattle.prelude.specs.Table.{table}
 use Rattle.prelude.proofs.Tables.{fill-none, fill-more}
 use Rattle.station.specs.Values.{valueIn}
 use Rattle.station.proofs.Reading.{last-cut, too-many, all-read}
-use Rattle.station.proofs.values.read_values.Statement.{statement}
-use Rattle.station.proofs.values.read_values.Tie as tie
+use Rattle.station.proofs.file_values.read_values.Statement.{statement}
+use Rattle.station.proofs.file_values.read_values.Tie as tie
 
 abbrev Inv-loop : tie.InvT-loop
 Inv-loop bytes values₀ room n i₀ values i = (i ≤ n) × ((length values ≡ room) × (take i values ≡ table (valueIn bytes) i))
