@@ -37,7 +37,8 @@ loop-less c = search needs
 loop-again : tie.Need-loop-again Inv-loop μ-loop
 loop-again c = (
   search needs,
-  break-later (c .before .before .before .before .args .text .now) _ _ (c .before .before .loop-test .taken) (not-true _ (c .if1 .taken))
+  break-later (c .before .before .before .before .args .text .now) _ _ (c .before .before .loop-test .taken)
+      (not-true _ (c .if1 .taken))
       ∙ c .before .before .before .loop .inv .1,
 )
 

@@ -47,8 +47,11 @@ digit-requires c κs = search needs
 
 mul-out : tie.Need-mul-out Inv-loop μ-loop
 mul-out c =
-    omega
-    (arith, c .digit .ensures, below-16 (c .before .before .before .before .before .next-digit .ensures) (c .before .before .before .before .if1 .left))
+    omega (
+      arith,
+      c .digit .ensures,
+      below-16 (c .before .before .before .before .before .next-digit .ensures) (c .before .before .before .before .if1 .left),
+    )
 
 shared-slice-read-digit-2 : tie.Need-shared-slice-read-digit-2 Inv-loop μ-loop
 shared-slice-read-digit-2 c = search needs
@@ -83,7 +86,8 @@ loop-again : tie.Need-loop-again Inv-loop μ-loop
 loop-again c =
     one-more _ _ _ (c .before .before .before .before .before .before .before .before .before .loop .inv)
     (c .before .before .before .before .before .before .before .next-digit .ensures)
-    (c .before .before .before .before .before .before .if1 .left) (c .before .before .before .before .before .next-digit2 .ensures)
+    (c .before .before .before .before .before .before .if1 .left)
+    (c .before .before .before .before .before .next-digit2 .ensures)
     (c .before .before .digit .ensures) (c .digit2 .ensures) (c .before .before .before .before .if2 .left)
     (c .before .before .before .before .before .before .before .before .loop-test .taken)
 
