@@ -124,6 +124,10 @@ lesser-first m n h = sym (rw (le-leb m n h))
 lesser-second : (m n : ℕ) → n ≤ m → n ≡ lesser m n
 lesser-second m n h = by-cases (λ k. n ≡ k) (leb m n) (λ e. omega (arith, leb-true m n e)) (λ _. refl)
 
+two-digits : (high low : ℕ) (more : List ℕ) → bytesOf (high ∷ low ∷ more) ≡ (16 * high + low) ∷ bytesOf more
+unfolding bytesOf
+two-digits high low more = refl
+
 module _ (line out₀ : List ℕ) (at : ℕ) where
   pub nothing-read : at ≤ length out₀ → Reading line out₀ at out₀ at 0
   nothing-read h =
@@ -164,10 +168,9 @@ module _ (line out₀ : List ℕ) (at : ℕ) where
         pub one-more :
             {h l : ℕ} → h ≡ digit (getD line high 0) → l ≡ digit (getD line low 0) → (low ≡ length line → ⊥) →
             end < length out → Reading line out₀ at (set out end (16 * h + l)) (end + 1) (low + 1)
-        unfolding bytesOf
         one-more {h} {l} e f other room =
             let next : rest line i ≡ (16 * h + l) ∷ rest line (low + 1) =
-            rw (e, f, taken-off first some, taken-off second other) in
+            rw (e, f, taken-off first some, taken-off second other, two-digits) in
             record {
               size = simp length-set (so-far .size);
               room = omega (arith, so-far .size);
