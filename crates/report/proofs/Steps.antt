@@ -10,13 +10,13 @@ use Rattle.language.specs.NameKinds.{Kind, var, sig}
 use Rattle.language.specs.Scope.{Declared}
 use Rattle.language.specs.Typing.{Environment}
 use Rattle.language.specs.Steps.{Output, silent}
-use Rattle.language.specs.Calls.{Line, System, calledFor}
+use Rattle.language.specs.Calls.{Line, System, lineFor, calledFor}
 use Rattle.language.specs.Instants as inplace
 use Rattle.language.specs.Paths as paths
 use Rattle.report.specs.Names.{Renaming}
 use Rattle.report.specs.Configurations.{Configuration}
 use Rattle.report.specs.Instants.{Step, MOVE, INSTANT-OP}
-use Rattle.report.specs.Paths.{NamedLine, named, linesFor, Path, here, more}
+use Rattle.report.specs.Paths.{NamedLine, named, counted, isSeen, linesFor, Path, here, more}
 use Rattle.report.specs.Results.{SameLine, SameLines, no-lines, one-more}
 use Rattle.report.proofs.Memory.{agree-none}
 use Rattle.report.proofs.Waiting.{Signals, suspended-back, changed-back}
@@ -163,15 +163,21 @@ module _ {L : Type 0} (names : Names L) (n : ℕ) where
         one-or-none true k l m h = one-more h no-lines
         one-or-none false k l m h = no-lines
 
+        -- the lines of a name of this kind
+        lines-of :
+            (k : Kind) (y y′ : ℕ) (v w : ℤ) → F k y ≡ true → y′ ≡ ρ k y → v ≡ w →
+            SameLines names Γ last (Option·toList (lineFor sees at y v))
+            (named k (lineFor (λ z. isSeen below (C .environment k z)) (counted C) y′ w))
+        lines-of k y y′ v w f q e =
+            rw (seen-too k y y′ f q) (one-or-none (below (names .level y)) k _ _ (line-too k y y′ v w f q e))
+
         pub lines-too :
             {o O : Output} → SameOutput F ρ o O →
             SameLines names Γ last (Option·toList (calledFor sees at o)) (linesFor below C O)
         unfolding calledFor Option·toList
         lines-too no-output = no-lines
-        lines-too (an-assignment {x = y} {x′ = y′} {v = v} {w = w} f q e) =
-            rw (seen-too var y y′ f q) (one-or-none (below (names .level y)) var _ _ (line-too var y y′ v w f q e))
-        lines-too (an-emission {a = y} {a′ = y′} f q) =
-            rw (seen-too sig y y′ f q) (one-or-none (below (names .level y)) sig _ _ (line-too sig y y′ _ _ f q refl))
+        lines-too (an-assignment {x = y} {x′ = y′} {v = v} {w = w} f q e) = lines-of var y y′ v w f q e
+        lines-too (an-emission {a = y} {a′ = y′} f q) = lines-of sig y y′ _ _ f q refl
 
     append-lines :
         {origin : Renaming} {ls ls′ : List Line} {ms ms′ : List NamedLine} → SameLines names Γ origin ls ms →

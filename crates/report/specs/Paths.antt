@@ -26,7 +26,7 @@ named k none = []
 named k (some l) = record { kind = k; line = l } ∷ []
 
 -- what 01 counts, of a configuration: all that `calledFor` looks at
-abbrev counted : {L : Type 0} → Configuration L → System L
+abbrev pub counted : {L : Type 0} → Configuration L → System L
 counted C = record { process = nil; values = []; steps = C .steps; instants = C .instants }
 
 module _ {L : Type 0} (below : L → Bool) where

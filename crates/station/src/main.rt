@@ -1,5 +1,5 @@
 // Runs the script of the folder that it is run in: levels.lvl, script.scr and values.val.
-mod numbers; // numbers.rt: the values that a file holds
+mod file_values; // file_values.rt: the values that a file holds
 
 use layout::Script;
 ghost use Rattle.io.specs.Counts.{Counts};
@@ -23,7 +23,7 @@ fn load(path: &[u8; 10], buffer: &mut [u8; SIZE]) -> usize
 // Runs a script from the values of a file, for 1000 steps.
 fn show(book: &[u8], script: &[u8], bytes: &[u8]) {
     let mut values = [0i32; Script::MAX_NAMES + 1];
-    let n = numbers::read_values(bytes, &mut values);
+    let n = file_values::read_values(bytes, &mut values);
     display::show_run(book, script, &mut values[0..n], 1000);
 }
 

@@ -1,5 +1,6 @@
 -- `name_is_right`: each way out decides one test of the definition.
 use mathlib.Core.Path.{ap}
+use native.Mathlib.Omega.{arith}
 use borrow.Author.Tests.{lt-ltb, le-ltb, le-leb, lt-leb, eq-eqb, ne-eqb}
 use borrow.Author.Needs.{needs}
 use Rattle.entries.proofs.names.name_is_right.Statement.{statement}
@@ -18,7 +19,7 @@ returns-2 c =
       ← ap (λ z. z .kind) name,
       le-leb _ _ (c .before .before .if1 .left),
       ← ap (λ z. z .level) name,
-      le-ltb _ _ (c .if2 .taken),
+      le-ltb (c .before .before .before .before .name-at .result .level) (c .before .before .before .before .before .before .args .levels) (omega arith),
     )
 
 returns-3 : tie.Need-returns-3
@@ -28,7 +29,7 @@ returns-3 c =
       ← ap (λ z. z .kind) name,
       le-leb _ _ (c .before .before .before .before .if1 .left),
       ← ap (λ z. z .level) name,
-      lt-ltb _ _ (c .before .before .if2 .left),
+      lt-ltb (c .before .before .before .before .before .before .name-at .result .level) (c .before .before .before .before .before .before .before .before .args .levels) (omega arith),
       ← ap (λ z. z .owner) name,
       eq-eqb _ _ (c .if3 .taken),
     )
@@ -43,7 +44,7 @@ returns-4 c =
       ← ap (λ z. z .kind) name,
       le-leb _ _ (c .before .before .before .before .before .if1 .left),
       ← ap (λ z. z .level) name,
-      lt-ltb _ _ (c .before .before .before .if2 .left),
+      lt-ltb (c .before .before .before .before .before .before .before .name-at .result .level) (c .before .before .before .before .before .before .before .before .before .args .levels) (omega arith),
       ← ap (λ z. z .owner) name,
       ne-eqb _ _ (c .before .if3 .left),
     )

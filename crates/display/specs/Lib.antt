@@ -1,0 +1,2 @@
+-- What lines of text mean.
+pub mod Hex
