@@ -13,7 +13,7 @@ use Rattle.language.specs.Levels.{writeLevel, testLevel, needs}
 use Rattle.language.specs.Steps.{held, Output}
 use Rattle.language.specs.Calls.{Line, finished, spent, System, Run, Stop, starts, readable, calledFor, output, next, behind, reach, run}
 use Rattle.language.specs.Instants.{Step}
-use Rattle.language.specs.Typing.{Environment, Below, Typed}
+use Rattle.language.specs.Typing.{Environment, Typed, Tightest}
 use Rattle.language.specs.Paths.{IsRun}
 
 -- Demand 2, the runner: the step of a system is the report's, and the report has no other; none from nil.
@@ -55,8 +55,7 @@ pub record RunsJoin {L : Type 0} (names : Names L) (seen : ℕ → Bool) (n room
 pub record LevelsAgree {L : Type 0} (𝓛 : Lattice L) (names : Names L) (Γ : Environment L) (p : Proc L) : Type 0 where
   pub accepts : (needs 𝓛 names p ≡ true) ↔ ((θ : L) × (σ : L) × Typed 𝓛 Γ p θ σ)
   pub derivable : needs 𝓛 names p ≡ true → Typed 𝓛 Γ p (writeLevel 𝓛 names p) (testLevel 𝓛 names p)
-  pub tightest :
-      (θ σ : L) → Typed 𝓛 Γ p θ σ → Below 𝓛 θ (writeLevel 𝓛 names p) × Below 𝓛 (testLevel 𝓛 names p) σ
+  pub tightest : Tightest 𝓛 Γ p (writeLevel 𝓛 names p) (testLevel 𝓛 names p)
 
 -- 'those lines that are stamped n or less'
 unfoldable pub upTo : ℕ → List Line → List Line
