@@ -13,9 +13,9 @@ use Rattle.language.specs.Syntax.{Names, Exp, Occurs, Proc, nil, assign, letIn,
 use Rattle.language.specs.NameKinds.{Kind, var, sig, same, put, isOf}
 use Rattle.language.specs.Scope.{Declared}
 use Rattle.language.specs.Typing.{Environment}
-use Rattle.language.specs.Steps.{held, evaluate, value, Output, silent, assigned, emitted}
+use Rattle.language.specs.Steps.{held, present, evaluate, value, Output, silent, assigned, emitted}
 use Rattle.language.specs.Moves as inplace
-use Rattle.language.specs.Instants as inplace-steps
+use Rattle.language.specs.Instants.{Changed, WATCH-PRESENT, WATCH-ABSENT, WHEN-PRESENT, WHEN-ABSENT, SEQ-CHANGED, PAR-CHANGED}
 use Rattle.language.proofs.NameKinds.{same-self, put-true, other, either}
 use Rattle.report.specs.Names.{Free, Renaming, renamedIn, Renamed, r-nil, r-assign, r-let, r-if, r-while, r-sequence, r-emit, r-local, r-watching, r-when, r-parallel}
 use Rattle.report.specs.Moves.{Move, ASSIGN-OP, SEQ-OP₁, SEQ-OP₂, LET-OP, COND-OP₁, COND-OP₂, WHILE-OP₁, WHILE-OP₂, EMIT-OP, LOCAL-OP, WATCH-OP₁, WATCH-OP₂, WHEN-OP₁, WHEN-OP₂, PAR-OP₁, PAR-OP₂, PAR-OP₃}
@@ -77,13 +77,13 @@ module _ {L : Type 0} (names : Names L) (n : ℕ) where
   Carries (when a p) = Carries p
   Carries (parallel p q) = Carries p × Carries q
 
-  pub changed-carries : {s : List ℤ} {p p′ : Proc L} → inplace-steps.Changed s p p′ → Carries p → Carries p′
-  changed-carries (inplace-steps.WATCH-PRESENT e) c = tt
-  changed-carries (inplace-steps.WATCH-ABSENT e f) c = changed-carries f c
-  changed-carries (inplace-steps.WHEN-PRESENT e f) c = changed-carries f c
-  changed-carries (inplace-steps.WHEN-ABSENT e) c = c
-  changed-carries (inplace-steps.SEQ-CHANGED f) c = (changed-carries f (c .0), c .1)
-  changed-carries (inplace-steps.PAR-CHANGED f f′) c = (changed-carries f (c .0), changed-carries f′ (c .1))
+  pub changed-carries : {E : ℕ → Bool} {p p′ : Proc L} → Changed E p p′ → Carries p → Carries p′
+  changed-carries (WATCH-PRESENT e) c = tt
+  changed-carries (WATCH-ABSENT e f) c = changed-carries f c
+  changed-carries (WHEN-PRESENT e f) c = changed-carries f c
+  changed-carries (WHEN-ABSENT e) c = c
+  changed-carries (SEQ-CHANGED f) c = (changed-carries f (c .0), c .1)
+  changed-carries (PAR-CHANGED f f′) c = (changed-carries f (c .0), changed-carries f′ (c .1))
 
   -- a process in place and one of the report that correspond, with their memories
   pub record Tied (F : Kind → ℕ → Bool) (ρ origin : Renaming) (p : Proc L) (s : List ℤ) (Γ : Environment L) (S : ℕ → ℤ)
@@ -331,8 +331,8 @@ module _ {L : Type 0} (names : Names L) (n : ℕ) where
       plain
       {rest = parallel q p}
       (inplace.PAR-OP₃
-      (suspended-back s E f d (λ a z. g .signals a (m sig a (inl z))))
-      (λ w. n (suspended-forth s E d′ (λ a z. g .signals a (m sig a (inr z))) w)))
+      (suspended-back (present s) E f d (λ a z. g .signals a (m sig a (inl z))))
+      (λ w. n (suspended-forth (present s) E d′ (λ a z. g .signals a (m sig a (inr z))) w)))
       no-output
       (r-parallel d′ d)
       g

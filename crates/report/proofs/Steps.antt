@@ -9,7 +9,7 @@ use Rattle.language.specs.Syntax.{Names}
 use Rattle.language.specs.NameKinds.{Kind, var, sig}
 use Rattle.language.specs.Scope.{Declared}
 use Rattle.language.specs.Typing.{Environment}
-use Rattle.language.specs.Steps.{Output, silent}
+use Rattle.language.specs.Steps.{present, Output, silent}
 use Rattle.language.specs.Calls.{Line, System, calledFor}
 use Rattle.language.specs.Instants as inplace
 use Rattle.language.specs.Paths as paths
@@ -80,15 +80,15 @@ module _ {L : Type 0} (names : Names L) (n : ℕ) where
       }
   step-back {F} {ρ} {origin} {at} {C} (INSTANT-OP f g) j =
       let w = j .tied in
-      let signals : Signals (at .values) (C .signals) ρ (at .process) = λ a z. w .agree .signals a (w .made sig a z) in
-      let u = changed-back (at .values) (C .signals) g (w .renamed) signals (w .clean) in
+      let signals : Signals (present (at .values)) (C .signals) ρ (at .process) = λ a z. w .agree .signals a (w .made sig a z) in
+      let u = changed-back (present (at .values)) (C .signals) g (w .renamed) signals (w .clean) in
       record {
         F′ = F;
         ρ′ = ρ;
         origin′ = origin;
         out = silent;
         to = _;
-        step = inplace.INSTANT-OP (suspended-back (at .values) (C .signals) f (w .renamed) signals) (u .change);
+        step = inplace.INSTANT-OP (suspended-back (present (at .values)) (C .signals) f (w .renamed) signals) (u .change);
         output = no-output;
         joined =
             record {
