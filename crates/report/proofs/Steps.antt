@@ -16,7 +16,7 @@ use Rattle.language.specs.Paths as paths
 use Rattle.report.specs.Names.{Renaming}
 use Rattle.report.specs.Configurations.{Configuration}
 use Rattle.report.specs.Instants.{Step, MOVE, INSTANT-OP}
-use Rattle.report.specs.Paths.{NamedLine, named, linesFor, Path, here, more}
+use Rattle.report.specs.Paths.{NamedLine, named, linesFor, ExecutionPath, here, more}
 use Rattle.report.specs.Results.{SameLine, SameLines, no-lines, one-more}
 use Rattle.report.proofs.Memory.{agree-none}
 use Rattle.report.proofs.Waiting.{Signals, suspended-back, changed-back}
@@ -194,7 +194,7 @@ module _ {L : Type 0} (names : Names L) (n : ℕ) where
       pub grown : Grown (C .environment) (D .environment) origin origin′
 
     pub walk :
-        {m : ℕ} {C D : Configuration L} {ms : List NamedLine} → Path below m C ms D →
+        {m : ℕ} {C D : Configuration L} {ms : List NamedLine} → ExecutionPath below m C ms D →
         {F : Kind → ℕ → Bool} {ρ origin : Renaming} {at : System L} → Joined F ρ origin at C → Fixed F ρ at →
         Along m origin at C ms D
     walk {C = C} here {F} {ρ} {origin} {at} j x =
