@@ -1,15 +1,14 @@
 -- The record of a run, read off the words of its log.
 use mathlib.Core.Path.{_≡_, refl, ap}
-use mathlib.Core.Bool.{Bool, true, false, cond}
 use mathlib.Core.List.{List, [], _∷_, _++_, map}
 use Prim.Native.Nat.{ℕ}
-use lib.Dec.{leb}
 use lib.ListN.{length}
+use Rattle.prelude.proofs.Bools.{by-both}
 use Rattle.language.specs.Calls.{Line, Run}
-use Rattle.language.specs.Results.{upTo}
+use Rattle.language.specs.Results.{stampedUpTo}
 use Rattle.runner.specs.Outcome.{lineWords, words}
 use Rattle.engine.specs.Answers.{leftBy}
-use Rattle.theorems.specs.Records.{linesIn, recordOf, stampedUpTo}
+use Rattle.theorems.specs.Records.{linesIn, recordOf, stamp}
 
 lines-in : (ls : List Line) (rest : List ℕ) → linesIn (length ls) (words ls ++ rest) ≡ map lineWords ls
 unfolding linesIn words
@@ -20,15 +19,11 @@ lines-in (l ∷ ls) rest = ap (λ z. lineWords l ∷ z) (lines-in ls rest)
 pub record-of : (r : Run) (log : List ℕ) → recordOf (leftBy r log) ≡ map lineWords (r .lines)
 record-of r log = lines-in (r .lines) _
 
--- the stamp of a line is its first word
-pub stamped-words : (n : ℕ) (ls : List Line) → stampedUpTo n (map lineWords ls) ≡ map lineWords (upTo n ls)
-unfolding stampedUpTo upTo
+-- what is stamped n or less of lines in words is the words of what is stamped n or less: the stamp is a line's first word
+pub stamped-words : (n : ℕ) (ls : List Line) → stampedUpTo stamp n (map lineWords ls) ≡ map lineWords
+    (stampedUpTo (λ l. l .step) n ls)
+unfolding stampedUpTo
 stamped-words n [] = refl
-stamped-words n (l ∷ ls) = go (leb (l .step) n) (stamped-words n ls)
-  where
-    go :
-        (b : Bool) → stampedUpTo n (map lineWords ls) ≡ map lineWords (upTo n ls) →
-        cond b (lineWords l ∷ stampedUpTo n (map lineWords ls)) (stampedUpTo n (map lineWords ls))
-        ≡ map lineWords (cond b (l ∷ upTo n ls) (upTo n ls))
-    go true e = ap (λ z. lineWords l ∷ z) e
-    go false e = e
+stamped-words n (l ∷ ls) =
+    let e = stamped-words n ls in
+    by-both (λ ws ks. ws ≡ map lineWords ks) _ _ refl (λ _. ap (λ z. lineWords l ∷ z) e) (λ _. e)

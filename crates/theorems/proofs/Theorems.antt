@@ -20,7 +20,7 @@ use Rattle.language.specs.Levels.{writeLevel, testLevel}
 use Rattle.language.specs.Scope.{Scoped}
 use Rattle.language.specs.Calls.{Run, starts, readable, run}
 use Rattle.language.specs.Typing.{Typed, Tightest}
-use Rattle.language.specs.Results.{LevelsAgree, StartsAgree, RecordsAgree}
+use Rattle.language.specs.Results.{LevelsAgree, stampedUpTo, StartsAgree, RecordsAgree}
 use Rattle.language.proofs.LevelRanges.{Kept, levels-in}
 use Rattle.language.proofs.Theorems as language
 use Rattle.report.specs.Scope.{Script}
@@ -39,7 +39,7 @@ use Rattle.checker.specs.Refusals.{checkRefusal}
 use Rattle.arguments.specs.Refusals.{runRefusal}
 use Rattle.results.specs.Reports.{verdictBy}
 use Rattle.engine.specs.Answers.{verdict, runOf, Left, leftBy, left}
-use Rattle.theorems.specs.Records.{stampedUpTo}
+use Rattle.theorems.specs.Records.{stamp}
 use Rattle.theorems.specs.Results.{sessionEnvironment, CheckAgrees, RunAgrees, RunReported, StartEqual, NothingShows, DemandThree}
 use Rattle.checker.proofs.Passing.{Accepted, checked, accepted, accepts}
 use Rattle.arguments.proofs.Passing.{Started, run-accepted}
@@ -81,7 +81,8 @@ module _ (b s : List ℕ) where
   scoped h = tree-scoped s (checked b s h)
 
   levels :
-      books.isAccepted b ≡ true → scripts.isAccepted s (count b) ≡ true → LevelsAgree 𝓛 (namesOf s) (sessionEnvironment s) (tree s)
+      books.isAccepted b ≡ true → scripts.isAccepted s (count b) ≡ true →
+      LevelsAgree 𝓛 (namesOf s) (sessionEnvironment s) (tree s)
   levels k h =
       language.levels-agree 𝓛 (book-laws b k) (namesOf s) (tree s) (isSessionName s)
       (tree-named s (checked b s h) .scoped)
@@ -130,8 +131,7 @@ module _ (b s : List ℕ) where
     unique θ σ hθ hσ given tight =
         let ours = tightest θ σ given in
         let theirs = tight (verdict b s .write) (verdict b s .test) derivable in
-        let one = one-level (atOrBelow (rows b)) (count b) (level-lattice b (has .book)) in
-        (
+        let one = one-level (atOrBelow (rows b)) (count b) (level-lattice b (has .book)) in (
           one θ (verdict b s .write) hθ (inside .0) (ours .0) (theirs .0),
           one σ (verdict b s .test) hσ (inside .1) (theirs .1) (ours .1),
         )
@@ -252,7 +252,7 @@ nothing-shows b s reader n m r₁ r₂ log₁ log₂ h =
           record-of r₁ log₁
           ∙ ap (map lineWords) (h .shorter)
           ∙ sym (stamped-words n (r₂ .lines))
-          ∙ ap (stampedUpTo n) (sym (record-of r₂ log₂));
+          ∙ ap (stampedUpTo stamp n) (sym (record-of r₂ log₂));
       equal = λ e. record-of r₁ log₁ ∙ ap (map lineWords) (h .equal e) ∙ sym (record-of r₂ log₂);
       registers = λ e x u k. h .registers e x (u .session) k (u .low);
     }

@@ -14,6 +14,7 @@ use Rattle.language.specs.Steps.{held}
 use Rattle.language.specs.Calls.{Run, starts, readable}
 use Rattle.language.specs.Typing.{Environment, environment, Typed, Tightest}
 use Rattle.language.specs.Paths.{IsRun}
+use Rattle.language.specs.Results.{stampedUpTo}
 use Rattle.report.specs.Configurations.{Configuration, Begins, begun}
 use Rattle.report.specs.Results.{Reported}
 use Rattle.layout.specs.Layout.{nameCount}
@@ -21,7 +22,7 @@ use Rattle.layout.specs.Entries.{isSessionName}
 use Rattle.script.specs.Refusals as scripts
 use Rattle.tree.specs.Tree.{namesOf, tree}
 use Rattle.engine.specs.Answers.{verdict, runOf, Left, leftBy, left}
-use Rattle.theorems.specs.Records.{recordOf, stampedUpTo}
+use Rattle.theorems.specs.Records.{recordOf, stamp}
 
 -- Γ: the session's names, each with its kind and level
 abbrev pub sessionEnvironment : List ℕ → Environment ℕ
@@ -53,7 +54,9 @@ pub record CheckAgrees (b s : List ℕ) : Type 0 where
 -- Demand 2, the runner. A call that is not refused leaves what a path of the report's steps gives that ends where 01
 -- says; there is such a path, and no other.
 pub record RunAgrees (b s : List ℕ) (reader : ℕ) (values : List ℤ) (limit : ℕ) (log : List ℕ) : Type 0 where
-  pub is : left b s reader values limit log .report .number ≡ 0 → left b s reader values limit log ≡ leftBy (runOf b s reader values limit log) log
+  pub is :
+      left b s reader values limit log .report .number ≡ 0 →
+      left b s reader values limit log ≡ leftBy (runOf b s reader values limit log) log
   pub path :
       IsRun (namesOf s) (readable (bookLattice b) (namesOf s) reader) limit (length log / 4) (starts (tree s) values)
       (runOf b s reader values limit log)
@@ -87,7 +90,7 @@ StartEqual b s reader values₁ values₂ = (x : ℕ) → Readable b s reader x 
 -- 'the first record is exactly those lines of the second that are stamped n or less, word for word, in the same order.
 -- With n = m the records are equal and the session registers at or below that level end equal.'
 pub record NothingShows (b s : List ℕ) (reader n m : ℕ) (one two : Left) : Type 0 where
-  pub shorter : recordOf one ≡ stampedUpTo n (recordOf two)
+  pub shorter : recordOf one ≡ stampedUpTo stamp n (recordOf two)
   pub equal : n ≡ m → recordOf one ≡ recordOf two
   pub registers :
       n ≡ m → (x : ℕ) → Readable b s reader x → namesOf s .isSignal x ≡ false →
