@@ -1,9 +1,10 @@
 -- The record of a run, read off the words of its log.
 use mathlib.Core.Path.{_≡_, refl, ap}
+use mathlib.Core.Bool.{Bool, true, false, cond}
 use mathlib.Core.List.{List, [], _∷_, _++_, map}
 use Prim.Native.Nat.{ℕ}
+use lib.Dec.{leb}
 use lib.ListN.{length}
-use Rattle.prelude.proofs.Bools.{by-both}
 use Rattle.language.specs.Calls.{Line, Run}
 use Rattle.language.specs.Results.{stampedUpTo}
 use Rattle.runner.specs.Outcome.{lineWords, words}
@@ -19,11 +20,15 @@ lines-in (l ∷ ls) rest = ap (λ z. lineWords l ∷ z) (lines-in ls rest)
 pub record-of : (r : Run) (log : List ℕ) → recordOf (leftBy r log) ≡ map lineWords (r .lines)
 record-of r log = lines-in (r .lines) _
 
--- what is stamped n or less of lines in words is the words of what is stamped n or less: the stamp is a line's first word
-pub stamped-words : (n : ℕ) (ls : List Line) → stampedUpTo stamp n (map lineWords ls) ≡ map lineWords
-    (stampedUpTo (λ l. l .step) n ls)
+-- the stamp of a line is its first word
+pub stamped-words :
+    (n : ℕ) (ls : List Line) → stampedUpTo stamp n (map lineWords ls) ≡ map lineWords (stampedUpTo (λ l. l .step) n ls)
 unfolding stampedUpTo
 stamped-words n [] = refl
-stamped-words n (l ∷ ls) =
-    let e = stamped-words n ls in
-    by-both (λ ws ks. ws ≡ map lineWords ks) _ _ refl (λ _. ap (λ z. lineWords l ∷ z) e) (λ _. e)
+stamped-words n (l ∷ ls) = go _ (leb (l .step) n) (stamped-words n ls)
+  where
+    go :
+        {ws : List (List ℕ)} (ks : List Line) (b : Bool) → ws ≡ map lineWords ks →
+        cond b (lineWords l ∷ ws) ws ≡ map lineWords (cond b (l ∷ ks) ks)
+    go ks true e = ap (λ z. lineWords l ∷ z) e
+    go ks false e = e

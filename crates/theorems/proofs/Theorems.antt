@@ -19,9 +19,9 @@ use Rattle.language.specs.Syntax.{Names}
 use Rattle.language.specs.Levels.{writeLevel, testLevel}
 use Rattle.language.specs.Scope.{Scoped}
 use Rattle.language.specs.Calls.{Run, starts, readable, run}
-use Rattle.language.specs.Typing.{Typed, Tightest}
+use Rattle.language.specs.Typing.{Below, Typed, Tightest}
 use Rattle.language.specs.Results.{LevelsAgree, stampedUpTo, StartsAgree, RecordsAgree}
-use Rattle.language.proofs.LevelRanges.{Kept, levels-in}
+use Rattle.language.proofs.LevelRanges.{Closed, levels-in}
 use Rattle.language.proofs.Theorems as language
 use Rattle.report.specs.Scope.{Script}
 use Rattle.report.proofs.Starts.{begun-begins}
@@ -46,7 +46,7 @@ use Rattle.arguments.proofs.Passing.{Started, run-accepted}
 use Rattle.theorems.proofs.Records.{record-of, stamped-words}
 
 -- the operations of a book's lattice give levels of the book
-book-levels : (b : List ℕ) → books.isAccepted b ≡ true → Kept (bookLattice b) (λ a. a < count b)
+book-levels : (b : List ℕ) → books.isAccepted b ≡ true → Closed (bookLattice b) (λ a. a < count b)
 book-levels b h =
     let w = level-lattice b h in
     record {
@@ -125,16 +125,9 @@ module _ (b s : List ℕ) where
         (λ x h. file .1 x (ltb-true x (nameCount s) (and-left (ltb x (nameCount s)) _ h)))
         (λ k x d. file .1 x (named .declared k x d)) (named .scoped))
 
-    unique :
-        (θ σ : ℕ) → θ < count b → σ < count b → Typed 𝓛 (sessionEnvironment s) (tree s) θ σ →
-        Tightest 𝓛 (sessionEnvironment s) (tree s) θ σ → (θ ≡ verdict b s .write) × (σ ≡ verdict b s .test)
-    unique θ σ hθ hσ given tight =
-        let ours = tightest θ σ given in
-        let theirs = tight (verdict b s .write) (verdict b s .test) derivable in
-        let one = one-level (atOrBelow (rows b)) (count b) (level-lattice b (has .book)) in (
-          one θ (verdict b s .write) hθ (inside .0) (ours .0) (theirs .0),
-          one σ (verdict b s .test) hσ (inside .1) (theirs .1) (ours .1),
-        )
+    -- two levels of the book, each at or below the other
+    same-level : (i j : ℕ) → i < count b → j < count b → Below 𝓛 i j → Below 𝓛 j i → i ≡ j
+    same-level = one-level (atOrBelow (rows b)) (count b) (level-lattice b (has .book))
 
   pub check-agrees : CheckAgrees b s
   check-agrees =
@@ -147,7 +140,14 @@ module _ (b s : List ℕ) where
         derivable = derivable;
         tightest = tightest;
         levels = inside;
-        unique = unique;
+        unique =
+            λ z θ σ hθ hσ given tight.
+            let ours = tightest z θ σ given in
+            let theirs = tight (verdict b s .write) (verdict b s .test) (derivable z) in
+            (
+              same-level z θ (verdict b s .write) hθ (inside z .0) (ours .0) (theirs .0),
+              same-level z σ (verdict b s .test) hσ (inside z .1) (theirs .1) (ours .1),
+            );
       }
 
 module _ (b s : List ℕ) (reader : ℕ) (values : List ℤ) (limit : ℕ) (log : List ℕ) where
