@@ -185,17 +185,17 @@ module _ {L : Type 0} (names : Names L) where
 
 -- Demand 2 in the report's own terms, for a script and any configuration that it begins with
 module _
-    {L : Type 0} {names : Names L} {session : ℕ → Bool} {n : ℕ} {at : System L} {C : Configuration L}
-    (script : Script names session n (at .process)) (size : length (at .values) ≡ n)
-    (begins : Begins (environment names session) at C) (below : L → Bool)
+    {L : Type 0} {names : Names L} {scope : ℕ → Bool} {n : ℕ} {at : System L} {C : Configuration L}
+    (script : Script names scope n (at .process)) (size : length (at .values) ≡ n)
+    (begins : Begins (environment names scope) at C) (below : L → Bool)
   where
     abbrev Γ : Environment L
-    Γ = environment names session
+    Γ = environment names scope
 
     finite : NamesBelow n (C .environment)
-    finite k x l = rw (begins .environment) (go (session x) refl)
+    finite k x l = rw (begins .environment) (go (scope x) refl)
       where
-        go : (b : Bool) → session x ≡ b → Γ k x ≡ none
+        go : (b : Bool) → scope x ≡ b → Γ k x ≡ none
         go true e = absurd (omega (arith, script .sessions x e .1))
         go false e = rw e
 
@@ -204,9 +204,9 @@ module _
     along f = walk names n below Γ f (start-joined script size begins) (start-fixed script size begins below)
 
     in-session : (k : Kind) (x : ℕ) (δ : L) → Γ k x ≡ some δ → names .isSession x ≡ true
-    in-session k x δ = go (session x) refl
+    in-session k x δ = go (scope x) refl
       where
-        go : (b : Bool) → session x ≡ b → Γ k x ≡ some δ → names .isSession x ≡ true
+        go : (b : Bool) → scope x ≡ b → Γ k x ≡ some δ → names .isSession x ≡ true
         go true e h = script .sessions x e .0
         go false e h = let q : none ≡ some δ = rw e at h in let z : _≡_ {A = ℕ} 0 1 = cc in absurd (omega arith)
 
