@@ -143,8 +143,7 @@ module _ (b s : List ℕ) where
         unique =
             λ z θ σ hθ hσ given tight.
             let ours = tightest z θ σ given in
-            let theirs = tight (verdict b s .write) (verdict b s .test) (derivable z) in
-            (
+            let theirs = tight (verdict b s .write) (verdict b s .test) (derivable z) in (
               same-level z θ (verdict b s .write) hθ (inside z .0) (ours .0) (theirs .0),
               same-level z σ (verdict b s .test) hσ (inside z .1) (theirs .1) (ours .1),
             );
