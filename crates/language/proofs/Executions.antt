@@ -12,7 +12,7 @@ use Rattle.language.specs.Syntax.{Names}
 use Rattle.language.specs.Steps.{Output}
 use Rattle.language.specs.Calls.{Line, Ending, logFull, System, Run, Stop, calledFor, output, next, returned, halts, behind, noted, reach, run}
 use Rattle.language.specs.Instants.{Step}
-use Rattle.language.specs.Paths.{Path, here, more, Ends, NIL-REACHED, LIMIT-REACHED, LOG-FULL, IsRun}
+use Rattle.language.specs.Paths.{Path, here, more, RunEnds, NIL-REACHED, LIMIT-REACHED, LOG-FULL, IsRun}
 use Rattle.language.proofs.Figures.{step-is, step-only, nil-rests}
 
 module _ {L : Type 0} (names : Names L) (seen : ℕ → Bool) where
@@ -22,20 +22,20 @@ module _ {L : Type 0} (names : Names L) (seen : ℕ → Bool) where
     pub path : Path names seen made at (r .lines) (r .at)
     pub inLimit : made ≤ n
     pub inRoom : length (r .lines) ≤ room
-    pub why : Ends names seen n room (r .at) (r .ending) made (length (r .lines))
+    pub why : RunEnds names seen n room (r .at) (r .ending) made (length (r .lines))
 
   -- why it ends depends on how many steps and lines are left
   left-same :
       {n n′ room room′ made made′ lines lines′ : ℕ} {at : System L} {e : Ending} →
       made + n′ ≡ made′ + n → lines + room′ ≡ lines′ + room →
-      Ends names seen n room at e made lines → Ends names seen n′ room′ at e made′ lines′
+      RunEnds names seen n room at e made lines → RunEnds names seen n′ room′ at e made′ lines′
   left-same h k (NIL-REACHED z) = NIL-REACHED z
   left-same {n′ = n′} {made′ = made′} h k (LIMIT-REACHED z) =
       let e : n′ ≡ made′ = omega arith in rw (← e) (LIMIT-REACHED z)
   left-same {room′ = room′} {made′ = made′} {lines′ = lines′} h k (LOG-FULL l d c) =
       let e : room′ ≡ lines′ = omega arith in rw (← e) (LOG-FULL {made = made′} (omega arith) d c)
 
-  at-once : (n room : ℕ) (at : System L) (e : Ending) → Ends names seen n room at e 0 0 → IsStop n room at (halts e at)
+  at-once : (n room : ℕ) (at : System L) (e : Ending) → RunEnds names seen n room at e 0 0 → IsStop n room at (halts e at)
   at-once n room at e h = record { made = 0; path = here; inLimit = omega arith; inRoom = omega arith; why = h }
 
   -- a step that calls for this line, before a run
@@ -117,7 +117,7 @@ module _ {L : Type 0} (names : Names L) (seen : ℕ → Bool) where
   -- and it halts where there is a reason to end
   reach-halts :
       (k j : ℕ) {n room made lines : ℕ} {at : System L} {e : Ending} → made + k ≡ n → lines + j ≡ room →
-      Ends names seen n room at e made lines → reach names seen k j at ≡ halts e at
+      RunEnds names seen n room at e made lines → reach names seen k j at ≡ halts e at
   unfolding reach noted
   reach-halts zero j p q (NIL-REACHED h) = rw h
   reach-halts zero j p q (LIMIT-REACHED h) = rw h
@@ -129,7 +129,7 @@ module _ {L : Type 0} (names : Names L) (seen : ℕ → Bool) where
 
   pub reach-only :
       {made : ℕ} {at last : System L} {ls : List Line} → Path names seen made at ls last → (n room : ℕ) (e : Ending) →
-      made ≤ n → length ls ≤ room → Ends names seen n room last e made (length ls) →
+      made ≤ n → length ls ≤ room → RunEnds names seen n room last e made (length ls) →
       record { ending = e; at = last; lines = ls } ≡ reach names seen n room at
   reach-only {made} {at} {last} {ls} p n room e u v w =
       let a : made + (n - made) ≡ n = omega arith in

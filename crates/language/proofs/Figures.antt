@@ -33,15 +33,15 @@ module _ {L : Type 0} where
   nil-of (parallel p q) h = absurd (false≢true h)
 
   -- Figure 1
-  pub suspended-of : {s : List ℤ} {p : Proc L} → Suspended s p → suspended p s ≡ true
+  pub suspended-of : (s : List ℤ) {p : Proc L} → Suspended (present s) p → suspended p s ≡ true
   unfolding suspended
-  suspended-of (WHEN-SUS₁ h) = rw h
-  suspended-of {s} (WHEN-SUS₂ {a = a} d) = rw (suspended-of d) (or-true (not (present s a)))
-  suspended-of (WATCH-SUS d) = suspended-of d
-  suspended-of (SEQ-SUS d) = suspended-of d
-  suspended-of (PAR-SUS d d′) = rw (suspended-of d, suspended-of d′) refl
+  suspended-of s (WHEN-SUS₁ h) = rw h
+  suspended-of s (WHEN-SUS₂ {a = a} d) = rw (suspended-of s d) (or-true (not (present s a)))
+  suspended-of s (WATCH-SUS d) = suspended-of s d
+  suspended-of s (SEQ-SUS d) = suspended-of s d
+  suspended-of s (PAR-SUS d d′) = rw (suspended-of s d, suspended-of s d′) refl
 
-  pub suspended-is : (p : Proc L) (s : List ℤ) → suspended p s ≡ true → Suspended s p
+  pub suspended-is : (p : Proc L) (s : List ℤ) → suspended p s ≡ true → Suspended (present s) p
   unfolding suspended
   suspended-is nil s h = absurd (false≢true h)
   suspended-is (assign x e) s h = absurd (false≢true h)
@@ -55,8 +55,8 @@ module _ {L : Type 0} where
   suspended-is (when a p) s h = go (either-true (present s a) (suspended p s) h) (suspended-is p s)
     where
       go :
-          (present s a ≡ false) ⊎ (suspended p s ≡ true) → (suspended p s ≡ true → Suspended s p) →
-          Suspended s (when a p)
+          (present s a ≡ false) ⊎ (suspended p s ≡ true) → (suspended p s ≡ true → Suspended (present s) p) →
+          Suspended (present s) (when a p)
       go (inl e) ih = WHEN-SUS₁ e
       go (inr e) ih = WHEN-SUS₂ (ih e)
   suspended-is (parallel p q) s h =
@@ -64,7 +64,7 @@ module _ {L : Type 0} where
       (suspended-is p s (and-left (suspended p s) (suspended q s) h))
       (suspended-is q s (and-right (suspended p s) (suspended q s) h))
 
-  suspended-not-nil : {s : List ℤ} {p : Proc L} → Suspended s p → isNil p ≡ false
+  suspended-not-nil : {E : ℕ → Bool} {p : Proc L} → Suspended E p → isNil p ≡ false
   unfolding isNil
   suspended-not-nil (WHEN-SUS₁ h) = refl
   suspended-not-nil (WHEN-SUS₂ d) = refl
@@ -72,10 +72,10 @@ module _ {L : Type 0} where
   suspended-not-nil (SEQ-SUS d) = refl
   suspended-not-nil (PAR-SUS d d′) = refl
 
-  awake : (p : Proc L) (s : List ℤ) → suspended p s ≡ false → Suspended s p → ⊥
-  awake p s h d = true≢false (sym (suspended-of d) ∙ h)
+  awake : (p : Proc L) (s : List ℤ) → suspended p s ≡ false → Suspended (present s) p → ⊥
+  awake p s h d = true≢false (sym (suspended-of s d) ∙ h)
 
-  not-suspended : (p : Proc L) (s : List ℤ) → (Suspended s p → ⊥) → suspended p s ≡ false
+  not-suspended : (p : Proc L) (s : List ℤ) → (Suspended (present s) p → ⊥) → suspended p s ≡ false
   not-suspended p s n = fails (suspended p s) (λ h. n (suspended-is p s h))
 
   -- Figures 2 and 3
@@ -117,7 +117,7 @@ module _ {L : Type 0} where
   move-awake (WHEN-OP₂ h d) = rw (h, move-awake d)
   move-awake PAR-OP₁ = refl
   move-awake (PAR-OP₂ d) = rw (move-awake d)
-  move-awake {s} (PAR-OP₃ {q = q} d n) = rw (suspended-of d, not-suspended q s n)
+  move-awake {s} (PAR-OP₃ {q = q} d n) = rw (suspended-of s d, not-suspended q s n)
 
   -- the function's move is the only one that a rule allows
   abbrev Is : Outcome L → Output → Proc L → List ℤ → Type 0
@@ -146,7 +146,7 @@ module _ {L : Type 0} where
   move-only (WHEN-OP₂ {a = a} h d) = rw (move-not-nil d) (is-inside (when a) (move-only d))
   move-only PAR-OP₁ = (refl, refl, refl)
   move-only (PAR-OP₂ {q = q} d) = rw (move-not-nil d, move-awake d) (is-inside (λ z. parallel z q) (move-only d))
-  move-only (PAR-OP₃ d n) = rw (suspended-not-nil d, suspended-of d) (refl, refl, refl)
+  move-only {s} (PAR-OP₃ d n) = rw (suspended-not-nil d, suspended-of s d) (refl, refl, refl)
 
   -- and a rule allows it
   abbrev Allowed : List ℤ → Proc L → Outcome L → Type 0
@@ -182,25 +182,25 @@ module _ {L : Type 0} where
       (λ w. PAR-OP₂ (move-is p s e w)))
 
   -- Figure 4
-  changed-only : {s : List ℤ} {p p′ : Proc L} → Changed s p p′ → change p s ≡ p′
+  changed-only : (s : List ℤ) {p p′ : Proc L} → Changed (present s) p p′ → change p s ≡ p′
   unfolding change
-  changed-only (WATCH-PRESENT h) = rw h refl
-  changed-only (WATCH-ABSENT {a = a} h d) = rw h (ap (watching a) (changed-only d))
-  changed-only (WHEN-PRESENT {a = a} h d) = rw h (ap (when a) (changed-only d))
-  changed-only (WHEN-ABSENT h) = rw h
-  changed-only (SEQ-CHANGED {q = q} d) = ap (λ z. sequence z q) (changed-only d)
-  changed-only (PAR-CHANGED d d′) = ap₂ parallel (changed-only d) (changed-only d′)
+  changed-only s (WATCH-PRESENT h) = rw h refl
+  changed-only s (WATCH-ABSENT {a = a} h d) = rw h (ap (watching a) (changed-only s d))
+  changed-only s (WHEN-PRESENT {a = a} h d) = rw h (ap (when a) (changed-only s d))
+  changed-only s (WHEN-ABSENT h) = rw h
+  changed-only s (SEQ-CHANGED {q = q} d) = ap (λ z. sequence z q) (changed-only s d)
+  changed-only s (PAR-CHANGED d d′) = ap₂ parallel (changed-only s d) (changed-only s d′)
 
-  change-is : {s : List ℤ} {p : Proc L} → Suspended s p → Changed s p (change p s)
+  change-is : (s : List ℤ) {p : Proc L} → Suspended (present s) p → Changed (present s) p (change p s)
   unfolding change
-  change-is {s} (WHEN-SUS₁ {a =
-      a} {p = p} e) = by-cases (Changed s (when a p)) _ (λ h. absurd (true≢false (sym h ∙ e))) WHEN-ABSENT
-  change-is {s} (WHEN-SUS₂ {a =
-      a} {p = p} d) = by-cases (Changed s (when a p)) _ (λ h. WHEN-PRESENT h (change-is d)) WHEN-ABSENT
-  change-is {s} (WATCH-SUS {a = a} {p = p} d) =
-      by-cases (Changed s (watching a p)) _ WATCH-PRESENT (λ h. WATCH-ABSENT h (change-is d))
-  change-is (SEQ-SUS d) = SEQ-CHANGED (change-is d)
-  change-is (PAR-SUS d d′) = PAR-CHANGED (change-is d) (change-is d′)
+  change-is s (WHEN-SUS₁ {a = a} {p = p} e) =
+      by-cases (Changed (present s) (when a p)) _ (λ h. absurd (true≢false (sym h ∙ e))) WHEN-ABSENT
+  change-is s (WHEN-SUS₂ {a = a} {p = p} d) =
+      by-cases (Changed (present s) (when a p)) _ (λ h. WHEN-PRESENT h (change-is s d)) WHEN-ABSENT
+  change-is s (WATCH-SUS {a = a} {p = p} d) =
+      by-cases (Changed (present s) (watching a p)) _ WATCH-PRESENT (λ h. WATCH-ABSENT h (change-is s d))
+  change-is s (SEQ-SUS d) = SEQ-CHANGED (change-is s d)
+  change-is s (PAR-SUS d d′) = PAR-CHANGED (change-is s d) (change-is s d′)
 
 module _ {L : Type 0} (names : Names L) (at : System L) where
   -- a system from its parts
@@ -230,15 +230,15 @@ module _ {L : Type 0} (names : Names L) (at : System L) where
       let m = move-only d in
       (k .0 ∙ m .0, k .1 ∙ ap₂ (λ p s. built p s (at .instants)) (m .1) (m .2))
   step-only (INSTANT-OP d c) =
-      let k = known true (suspended-of d) in
-      (k .0, k .1 ∙ ap (λ p. built p (instantStart names (at .values)) (suc (at .instants))) (changed-only c))
+      let k = known true (suspended-of (at .values) d) in
+      (k .0, k .1 ∙ ap (λ p. built p (instantStart names (at .values)) (suc (at .instants))) (changed-only (at .values) c))
 
   pub step-is : isNil (at .process) ≡ false → Step names at (output names at) (next names at)
   unfolding step
   step-is n = go (suspended (at .process) (at .values)) refl
     where
       go : (b : Bool) → suspended (at .process) (at .values) ≡ b → Step names at (outcome b .output) (following b)
-      go true h = let d = suspended-is (at .process) (at .values) h in INSTANT-OP d (change-is d)
+      go true h = let d = suspended-is (at .process) (at .values) h in INSTANT-OP d (change-is (at .values) d)
       go false h = MOVE (move-is (at .process) (at .values) n h)
 
   pub nil-rests : isNil (at .process) ≡ true → {o : Output} {to : System L} → Step names at o to → ⊥

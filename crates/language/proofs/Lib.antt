@@ -3,6 +3,7 @@ pub mod Orders
 pub mod Needs
 pub mod NameKinds
 pub mod Typing
+pub mod LevelRanges
 pub mod Figures
 pub mod Executions
 pub mod Stopping

@@ -5,12 +5,12 @@ use mathlib.Core.Path.{_≡_, refl, ap, sym, _∙_, subst}
 use mathlib.Core.Bool.{Bool, true, false, Bool-discrete}
 use mathlib.Core.Logic.{inr, Dec·and, Dec·of-iff}
 use mathlib.Core.Option.{some}
-use mathlib.Core.List.{[], _∷_}
+use mathlib.Core.List.{List, [], _∷_}
 use borrow.Author.Tests.{le-leb, lt-leb}
 use Rattle.language.specs.Syntax.{Names, Proc, nil, assign, letIn, ifThenElse, while, sequence, emit, local, watching, when, parallel, isNil}
 use Rattle.language.specs.Steps.{held}
 use Rattle.language.specs.Calls.{Line, Ending, finished, System, Stop, calledFor, output, next, halts, reach}
-use Rattle.language.specs.Results.{upTo}
+use Rattle.language.specs.Results.{stampedUpTo}
 use Rattle.language.proofs.Stopping.{both-stay, both-go}
 use Rattle.language.proofs.Safe.{Quiet, Safe, step-safe}
 use Rattle.language.proofs.Lockstep.{Twins, Stamped, called-stamped, steps-alike, steps-quietly}
@@ -84,25 +84,29 @@ module _ {L : Type 0} (names : Names L) (low : ℕ → Bool) where
   stamp : (at : System L) {l : Line} → calledFor low at (output names at) ≡ some l → l .step ≡ suc (at .steps)
   stamp at e = subst (Stamped names low (suc (at .steps))) e (called-stamped names low at (output names at))
 
+  -- the lines that are stamped N or less
+  abbrev early : ℕ → List Line → List Line
+  early = stampedUpTo (λ l. l .step)
+
   -- all lines from here on are stamped above N
-  late : (N n room : ℕ) (at : System L) → N ≤ at .steps → upTo N (reach names low n room at .lines) ≡ []
-  unfolding upTo
-  late N zero room at h = both-stay names names low low (λ r _. upTo N (r .lines) ≡ []) at at refl (λ _. refl) room
+  late : (N n room : ℕ) (at : System L) → N ≤ at .steps → early N (reach names low n room at .lines) ≡ []
+  unfolding stampedUpTo
+  late N zero room at h = both-stay names names low low (λ r _. early N (r .lines) ≡ []) at at refl (λ _. refl) room
   late N (suc n) room at h =
-      both-go names names low low (λ r _. upTo N (r .lines) ≡ []) at at refl (λ _. refl) refl
+      both-go names names low low (λ r _. early N (r .lines) ≡ []) at at refl (λ _. refl) refl
       (λ l r _ c e. rw (lt-leb (l .step) N (omega (arith, stamp at c))) e) n n room
       (λ left. late N n left (next names at) (omega arith))
 
   -- a run with a higher limit has these lines, and then others
   pub prefix :
       (n m N room : ℕ) (at : System L) → at .steps + n ≡ N → n ≤ m →
-      reach names low n room at .lines ≡ upTo N (reach names low m room at .lines)
-  unfolding upTo
+      reach names low n room at .lines ≡ early N (reach names low m room at .lines)
+  unfolding stampedUpTo
   prefix zero m N room at k h =
       both-stay names names low low (λ r _. r .lines ≡ []) at at refl (λ _. refl) room
       ∙ sym (late N m room at (omega arith))
   prefix (suc n) zero N room at k h = absurd (omega arith)
   prefix (suc n) (suc m) N room at k h =
-      both-go names names low low (λ r r′. r .lines ≡ upTo N (r′ .lines)) at at refl (λ _. refl) refl
+      both-go names names low low (λ r r′. r .lines ≡ early N (r′ .lines)) at at refl (λ _. refl) refl
       (λ l r r′ c e. rw (le-leb (l .step) N (omega (arith, stamp at c))) (ap (λ ls. l ∷ ls) e)) n m room
       (λ left. prefix n m N left (next names at) (omega arith) (omega arith))

@@ -10,7 +10,7 @@ use lib.ListN.{length, length-append}
 use Rattle.prelude.proofs.Bools.{by-cases, by-both}
 use Rattle.language.specs.Syntax.{Names, isNil}
 use Rattle.language.specs.Calls.{Line, Ending, finished, spent, logFull, System, Stop, calledFor, output, next, halts, behind, noted, reach}
-use Rattle.language.specs.Paths.{Path, here, more, Ends, NIL-REACHED, LIMIT-REACHED}
+use Rattle.language.specs.Paths.{Path, here, more, RunEnds, NIL-REACHED, LIMIT-REACHED}
 use Rattle.language.specs.Results.{onward, stepped}
 use Rattle.language.proofs.Figures.{step-is}
 use Rattle.language.proofs.Executions.{reach-is, reach-follows, reach-only, path-steps}
@@ -80,4 +80,4 @@ module _ {L : Type 0} (names : Names L) (seen : ℕ → Bool) where
       let p : Path names seen 1 at (ls ++ []) (next names at) = more (step-is names at h) here in
       sym
       (reach-only names seen (rw append-nil at p) 1 room _ (omega arith) l
-      (by-cases (λ e. Ends names seen 1 room (next names at) e 1 (length ls)) _ NIL-REACHED LIMIT-REACHED))
+      (by-cases (λ e. RunEnds names seen 1 room (next names at) e 1 (length ls)) _ NIL-REACHED LIMIT-REACHED))

@@ -80,15 +80,18 @@ module _ {L : Type 0} (names : Names L) (s : List ℤ) where
   unfolding instantStart
   instant-length = length-table _ (length s)
 
-  -- a run gives back what its session names hold
-  pub given-back-session : (x : ℕ) → names .isSession x ≡ true → held (givenBack names s) x ≡ held s x
+  -- a run gives back what its session names hold, and 0 of its owned names
+  given-back-at : (x : ℕ) → held (givenBack names s) x ≡ cond (names .isSession x) (held s x) (pos 0)
   unfolding givenBack
-  given-back-session x h = mapped _ s x (λ o. rw h (List·getD-eq-default s (pos 0) o)) ∙ rw h
+  given-back-at x =
+      mapped _ s x
+      (λ o. by-cases (λ z. z ≡ pos 0) (names .isSession x) (λ k. List·getD-eq-default s (pos 0) o) (λ k. refl))
 
-  -- 'owned names 0'
+  pub given-back-session : (x : ℕ) → names .isSession x ≡ true → held (givenBack names s) x ≡ held s x
+  given-back-session x h = given-back-at x ∙ rw h
+
   pub given-back-owned : (x : ℕ) → names .isSession x ≡ false → held (givenBack names s) x ≡ pos 0
-  unfolding givenBack
-  given-back-owned x h = mapped _ s x (λ o. rw h refl) ∙ rw h
+  given-back-owned x h = given-back-at x ∙ rw h
 
 pub instant-low :
     {L : Type 0} (names : Names L) (low : ℕ → Bool) (s t : List ℤ) → LowEqual low s t →

@@ -35,4 +35,6 @@ pub data Move {L : Type 0} (s : List ℤ) : Proc L → Output → Proc L → Lis
       present s a ≡ true → Move s p o p′ s′ → Move s (when a p) o (when a p′) s′
   PAR-OP₁ : {q : Proc L} → Move s (parallel nil q) silent q s
   PAR-OP₂ : {p p′ q : Proc L} {o : Output} {s′ : List ℤ} → Move s p o p′ s′ → Move s (parallel p q) o (parallel p′ q) s′
-  PAR-OP₃ : {p q : Proc L} → Suspended s p → (Suspended s q → ⊥) → Move s (parallel p q) silent (parallel q p) s
+  PAR-OP₃ :
+      {p q : Proc L} → Suspended (present s) p → (Suspended (present s) q → ⊥) →
+      Move s (parallel p q) silent (parallel q p) s

@@ -21,12 +21,12 @@ module _ {L : Type 0} (names : Names L) (seen : ℕ → Bool) where
   -- Why a run ends at a system, after so many of at most n steps and with so many lines of at most `room`: 'finished if
   -- the script is nil; else spent if the limit is reached; else log full if this step needs a line and no four words
   -- are left'.
-  pub data Ends (n room : ℕ) (at : System L) : Ending → ℕ → ℕ → Type 0 where
-    NIL-REACHED : {made lines : ℕ} → isNil (at .process) ≡ true → Ends n room at finished made lines
-    LIMIT-REACHED : {lines : ℕ} → isNil (at .process) ≡ false → Ends n room at spent n lines
+  pub data RunEnds (n room : ℕ) (at : System L) : Ending → ℕ → ℕ → Type 0 where
+    NIL-REACHED : {made lines : ℕ} → isNil (at .process) ≡ true → RunEnds n room at finished made lines
+    LIMIT-REACHED : {lines : ℕ} → isNil (at .process) ≡ false → RunEnds n room at spent n lines
     LOG-FULL :
         {made : ℕ} {o : Output} {to : System L} {l : Line} →
-        made < n → Step names at o to → calledFor seen at o ≡ some l → Ends n room at logFull made room
+        made < n → Step names at o to → calledFor seen at o ≡ some l → RunEnds n room at logFull made room
 
   -- a run of at most n steps and `room` lines, as a path of the report's relation
   pub record IsRun (n room : ℕ) (at : System L) (r : Run) : Type 0 where
@@ -38,4 +38,4 @@ module _ {L : Type 0} (names : Names L) (seen : ℕ → Bool) where
     pub values : r .values ≡ givenBack names (last .values)
     pub inLimit : made ≤ n
     pub inRoom : length (r .lines) ≤ room
-    pub why : Ends n room last (r .ending) made (length (r .lines))
+    pub why : RunEnds n room last (r .ending) made (length (r .lines))

@@ -11,9 +11,9 @@ use Rattle.lattice.specs.Lattice.{Lattice}
 use Rattle.language.specs.Syntax.{Names, Proc, isNil}
 use Rattle.language.specs.Levels.{writeLevel, testLevel, needs}
 use Rattle.language.specs.Steps.{held, Output}
-use Rattle.language.specs.Calls.{Line, finished, spent, System, Run, Stop, starts, readable, calledFor, output, next, behind, reach, run}
+use Rattle.language.specs.Calls.{finished, spent, System, Run, Stop, starts, readable, calledFor, output, next, behind, reach, run}
 use Rattle.language.specs.Instants.{Step}
-use Rattle.language.specs.Typing.{Environment, Below, Typed}
+use Rattle.language.specs.Typing.{Environment, Typed, Tightest}
 use Rattle.language.specs.Paths.{IsRun}
 
 -- Demand 2, the runner: the step of a system is the report's, and the report has no other; none from nil.
@@ -55,13 +55,13 @@ pub record RunsJoin {L : Type 0} (names : Names L) (seen : ℕ → Bool) (n room
 pub record LevelsAgree {L : Type 0} (𝓛 : Lattice L) (names : Names L) (Γ : Environment L) (p : Proc L) : Type 0 where
   pub accepts : (needs 𝓛 names p ≡ true) ↔ ((θ : L) × (σ : L) × Typed 𝓛 Γ p θ σ)
   pub derivable : needs 𝓛 names p ≡ true → Typed 𝓛 Γ p (writeLevel 𝓛 names p) (testLevel 𝓛 names p)
-  pub tightest :
-      (θ σ : L) → Typed 𝓛 Γ p θ σ → Below 𝓛 θ (writeLevel 𝓛 names p) × Below 𝓛 (testLevel 𝓛 names p) σ
+  pub tightest : Tightest 𝓛 Γ p (writeLevel 𝓛 names p) (testLevel 𝓛 names p)
 
--- 'those lines that are stamped n or less'
-unfoldable pub upTo : ℕ → List Line → List Line
-upTo n [] = []
-upTo n (l ∷ ls) = cond (leb (l .step) n) (l ∷ upTo n ls) (upTo n ls)
+-- 'those lines that are stamped n or less', .. 'in the same order': the lines are records here and words in a log, so what
+-- tells the stamp of a line is given
+unfoldable pub stampedUpTo : {A : Type 0} → (A → ℕ) → ℕ → List A → List A
+stampedUpTo stamp n [] = []
+stampedUpTo stamp n (l ∷ ls) = cond (leb (stamp l) n) (l ∷ stampedUpTo stamp n ls) (stampedUpTo stamp n ls)
 
 module _ {L : Type 0} (𝓛 : Lattice L) (names : Names L) (reader : L) where
   -- Demand 3: two value lists that are 'equal for every session register and signal at or below the reader's level'.
@@ -74,7 +74,7 @@ module _ {L : Type 0} (𝓛 : Lattice L) (names : Names L) (reader : L) where
   -- 'the first record is exactly those lines of the second that are stamped n or less, word for word, in the same
   -- order. With n = m the records are equal and the session registers at or below that level end equal.'
   pub record RecordsAgree (n m : ℕ) (first second : Run) : Type 0 where
-    pub shorter : first .lines ≡ upTo n (second .lines)
+    pub shorter : first .lines ≡ stampedUpTo (λ l. l .step) n (second .lines)
     pub equal : n ≡ m → first .lines ≡ second .lines
     pub registers :
         n ≡ m → (x : ℕ) → names .isSession x ≡ true → names .isSignal x ≡ false → readable 𝓛 names reader x ≡ true →

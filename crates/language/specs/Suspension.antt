@@ -1,15 +1,12 @@
--- RR-5594, Figure 1: the suspension predicate. The environment E is the set of signals that are present in s.
+-- RR-5594, Figure 1: the suspension predicate, on pairs (E, P). E is the set of the signals that are present.
 use Prim.Native.Nat.{ℕ}
 use mathlib.Core.Path.{_≡_}
-use mathlib.Core.Bool.{false}
-use mathlib.Core.List.{List}
-use lib.IntN.{ℤ}
+use mathlib.Core.Bool.{Bool, false}
 use Rattle.language.specs.Syntax.{Proc, sequence, watching, when, parallel}
-use Rattle.language.specs.Steps.{present}
 
-pub data Suspended {L : Type 0} (s : List ℤ) : Proc L → Type 0 where
-  WHEN-SUS₁ : {a : ℕ} {p : Proc L} → present s a ≡ false → Suspended s (when a p)
-  WHEN-SUS₂ : {a : ℕ} {p : Proc L} → Suspended s p → Suspended s (when a p)
-  WATCH-SUS : {a : ℕ} {p : Proc L} → Suspended s p → Suspended s (watching a p)
-  SEQ-SUS : {p q : Proc L} → Suspended s p → Suspended s (sequence p q)
-  PAR-SUS : {p q : Proc L} → Suspended s p → Suspended s q → Suspended s (parallel p q)
+pub data Suspended {L : Type 0} (E : ℕ → Bool) : Proc L → Type 0 where
+  WHEN-SUS₁ : {a : ℕ} {p : Proc L} → E a ≡ false → Suspended E (when a p)
+  WHEN-SUS₂ : {a : ℕ} {p : Proc L} → Suspended E p → Suspended E (when a p)
+  WATCH-SUS : {a : ℕ} {p : Proc L} → Suspended E p → Suspended E (watching a p)
+  SEQ-SUS : {p q : Proc L} → Suspended E p → Suspended E (sequence p q)
+  PAR-SUS : {p q : Proc L} → Suspended E p → Suspended E q → Suspended E (parallel p q)

@@ -57,3 +57,7 @@ module _ {L : Type 0} (𝓛 : Lattice L) where
     SUB :
         {Γ : Environment L} {p : Proc L} {θ σ θ′ σ′ : L} →
         Typed Γ p θ σ → Below θ′ θ → Below σ σ′ → Typed Γ p θ′ σ′
+
+  -- no pair that the rules give p is tighter: (θ, σ) has the greatest θ and the least σ
+  abbrev pub Tightest : Environment L → Proc L → L → L → Type 0
+  Tightest Γ p θ σ = (θ′ σ′ : L) → Typed Γ p θ′ σ′ → Below θ′ θ × Below σ σ′

@@ -68,6 +68,23 @@ lattice-laws R n w =
 pub book-laws : (s : List ℕ) → isAccepted s ≡ true → Laws (bookLattice s)
 book-laws s h = lattice-laws (atOrBelow (rows s)) (count s) (level-lattice s h)
 
+-- Its joins and meets are levels, and of two levels each at or below the other both are one.
+module _ (R : Relation) (n : ℕ) (w : LevelLattice R n) where
+  level-in : (a : ℕ) → asLevel n a < n
+  level-in a = as-level-in n a (omega (arith, w .greatest .within))
+
+  pub join-in : (a b : ℕ) → latticeOf R n .join a b < n
+  join-in a b = w .joins .within _ _ (level-in a) (level-in b)
+
+  pub meet-in : (a b : ℕ) → latticeOf R n .meet a b < n
+  meet-in a b = w .meets .within _ _ (level-in a) (level-in b)
+
+  pub one-level :
+      (a b : ℕ) → a < n → b < n → latticeOf R n .leq a b ≡ true → latticeOf R n .leq b a ≡ true → a ≡ b
+  one-level a b ha hb h g =
+      w .order .antisymmetric a b ha hb (rw (as-level-own n a ha, as-level-own n b hb) at h)
+      (rw (as-level-own n a ha, as-level-own n b hb) at g)
+
 -- What is kept and tested of two levels is what the lattice says of them.
 module _ (s : List ℕ) (i j : ℕ) (hi : i < count s) (hj : j < count s) where
   pub order-at : atOrBelow (rows s) i j ≡ bookLattice s .leq i j

@@ -11,7 +11,7 @@ use Rattle.prelude.specs.Search.{any}
 use Rattle.prelude.specs.Sets.{has, outside}
 use Rattle.prelude.proofs.Bools.{fails, and-intro, and-left, and-right, and-second, or-left, or-right, or-first, or-true, or-cases, same-truth}
 use Rattle.prelude.proofs.Searches.{NoneBelow, any-same, any-none, any-some, some-of-any, none-of-any}
-use Rattle.prelude.proofs.Sets.{none-beyond, out}
+use Rattle.prelude.proofs.Sets.{none-beyond, out-same, out-other, out-none}
 use Rattle.order.specs.Order.{bothWays, gap, showsFault, PartialOrder}
 use Rattle.book.specs.LevelBook.{mostLevels, atOrBelow}
 use Rattle.order.specs.Rows.{InOrder}
@@ -32,15 +32,10 @@ module _ (rs : List ℕ) (n i : ℕ) (h : i < n) (own : atOrBelow rs i i ≡ tru
   others = getD rs i 0 - 2 ^ i
 
   not-own : has others i ≡ false
-  not-own = out (getD rs i 0) i own i ∙ rw (own, eq-eqb i i refl)
+  not-own = out-same (getD rs i 0) i own
 
   is-other : (j : ℕ) → (j ≡ i → ⊥) → has others j ≡ atOrBelow rs i j
-  is-other j e = out (getD rs i 0) i own j ∙ kept (atOrBelow rs i j) (eqb j i) (ne-eqb j i e)
-    where
-      kept : (p q : Bool) → q ≡ false → (p && not q) ≡ p
-      kept true true u = absurd (true≢false u)
-      kept true false u = refl
-      kept false q u = refl
+  is-other j e = out-other (getD rs i 0) i own j e
 
   module _ (j : ℕ) (e : j ≡ i → ⊥) (above : atOrBelow rs i j ≡ true) where
     shown : showsFault (atOrBelow rs) n i j ≡ true → outside (getD rs j 0) others n ≡ true
@@ -55,7 +50,7 @@ module _ (rs : List ℕ) (n i : ℕ) (h : i < n) (own : atOrBelow rs i i ≡ tru
         let lacks : atOrBelow rs i (k .0) ≡ false = not-true _ (and-right (atOrBelow rs j (k .0)) _ rest) in
         any-some _ n (k .0) (k .1)
         (and-intro _ _ (and-left (atOrBelow rs j (k .0)) _ rest)
-        (ap not (out (getD rs i 0) i own (k .0) ∙ no-first _ _ lacks))))
+        (ap not (out-none (getD rs i 0) i own (k .0) lacks))))
 
     shows : outside (getD rs j 0) others n ≡ true → showsFault (atOrBelow rs) n i j ≡ true
     shows w =

@@ -200,7 +200,7 @@ module _ (a x : ℕ) (own : has a x ≡ true) where
   rest : a - 2 ^ x ≡ parts .above * 2 ^ x + parts .below
   rest = let w = parts in omega (arith, w .whole, suc-mul (w .above) (2 ^ x))
 
-  out-same : has (a - 2 ^ x) x ≡ false
+  pub out-same : has (a - 2 ^ x) x ≡ false
   out-same =
       let w = parts in
       ap (λ k. eqb (k % 2) 1) (ap (λ k. k / 2 ^ x) rest ∙ high (w .above) x (w .small)) ∙ ap (λ d. eqb d 1) (w .even)
@@ -220,7 +220,7 @@ module _ (a x : ℕ) (own : has a x ≡ true) where
       ∙ ap (λ k. k / 2 / 2 ^ d) (sym (ap (λ k. k / 2 ^ x) (w .whole) ∙ high (suc (w .above)) x (w .small)))
       ∙ sym (digit-above a d))
 
-  out-other : (y : ℕ) → (y ≡ x → ⊥) → has (a - 2 ^ x) y ≡ has a y
+  pub out-other : (y : ℕ) → (y ≡ x → ⊥) → has (a - 2 ^ x) y ≡ has a y
   out-other y e =
       let w = parts in
       elim (decLt y x) [
@@ -231,22 +231,12 @@ module _ (a x : ℕ) (own : has a x ≡ true) where
         | no l ↦ subst (λ k. has (a - 2 ^ x) k ≡ has a k) {x = x + (1 + (y - suc x))} {y = y} (omega arith) (out-above (y - suc x))
       ]
 
-  pub out : (y : ℕ) → has (a - 2 ^ x) y ≡ (has a y && not (eqb y x))
-  out y =
+  pub out-none : (y : ℕ) → has a y ≡ false → has (a - 2 ^ x) y ≡ false
+  out-none y h =
       elim (ℕ-discrete y x) [
-        | yes e ↦ ap (has (a - 2 ^ x)) e ∙ out-same ∙ sym (dropped (has a y) (eqb y x) (eq-eqb y x e))
-        | no e ↦ out-other y e ∙ sym (left (has a y) (eqb y x) (ne-eqb y x e))
+        | yes e ↦ ap (has (a - 2 ^ x)) e ∙ out-same
+        | no e ↦ out-other y e ∙ h
       ]
-    where
-      dropped : (p q : Bool) → q ≡ true → (p && not q) ≡ false
-      dropped true true h = refl
-      dropped true false h = absurd (false≢true h)
-      dropped false q h = refl
-
-      left : (p q : Bool) → q ≡ false → (p && not q) ≡ p
-      left true true h = absurd (true≢false h)
-      left true false h = refl
-      left false q h = refl
 
 module _ (f : ℕ → Bool) where
   pub set-none : setOf f 0 ≡ 0

@@ -3,21 +3,20 @@ use Prim.Native.Nat.{ℕ, _<_}
 use mathlib.Core.Path.{_≡_, refl, sym, ap, _∙_}
 use mathlib.Core.Bool.{Bool, true, false}
 use mathlib.Core.Option.{none, some}
-use mathlib.Core.Logic.{inl, inr, ⊎-elim}
+use mathlib.Core.Logic.{_⊎_, inl, inr, ⊎-elim}
 use mathlib.Core.List.{List}
-use lib.IntN.{ℤ, pos}
-use lib.ListN.{set}
+use lib.IntN.{ℤ}
 use Rattle.prelude.proofs.Bools.{by-cases}
 use Rattle.values.specs.Values.{holds}
 use Rattle.language.specs.Syntax.{Names, Exp, Occurs, Proc, nil, assign, letIn, ifThenElse, while, sequence, emit, local, watching, when, parallel}
 use Rattle.language.specs.NameKinds.{Kind, var, sig, same, put, isOf}
 use Rattle.language.specs.Scope.{Declared}
 use Rattle.language.specs.Typing.{Environment}
-use Rattle.language.specs.Steps.{held, evaluate, value, Output, silent, assigned, emitted}
+use Rattle.language.specs.Steps.{held, present, evaluate, value, Output, silent, assigned, emitted}
 use Rattle.language.specs.Moves as inplace
-use Rattle.language.specs.Instants as inplace-steps
+use Rattle.language.specs.Instants.{Changed, WATCH-PRESENT, WATCH-ABSENT, WHEN-PRESENT, WHEN-ABSENT, SEQ-CHANGED, PAR-CHANGED}
 use Rattle.language.proofs.NameKinds.{same-self, put-true, other, either}
-use Rattle.report.specs.Names.{Free, Renaming, renamedIn, Renamed, r-nil, r-assign, r-let, r-if, r-while, r-sequence, r-emit, r-local, r-watching, r-when, r-parallel}
+use Rattle.report.specs.Names.{Free, CapturesNone, Substituted, Renaming, renamedIn, Renamed, r-nil, r-assign, r-let, r-if, r-while, r-sequence, r-emit, r-local, r-watching, r-when, r-parallel}
 use Rattle.report.specs.Moves.{Move, ASSIGN-OP, SEQ-OP₁, SEQ-OP₂, LET-OP, COND-OP₁, COND-OP₂, WHILE-OP₁, WHILE-OP₂, EMIT-OP, LOCAL-OP, WATCH-OP₁, WATCH-OP₂, WHEN-OP₁, WHEN-OP₂, PAR-OP₁, PAR-OP₂, PAR-OP₃}
 use Rattle.report.proofs.Renames.{evaluate-renamed, same-ren, ren-then, under-twice}
 use Rattle.report.proofs.Clean.{Clean, Kept, kept-sequence, kept-parallel, kept-watching, kept-when, kept-nil}
@@ -77,13 +76,13 @@ module _ {L : Type 0} (names : Names L) (n : ℕ) where
   Carries (when a p) = Carries p
   Carries (parallel p q) = Carries p × Carries q
 
-  pub changed-carries : {s : List ℤ} {p p′ : Proc L} → inplace-steps.Changed s p p′ → Carries p → Carries p′
-  changed-carries (inplace-steps.WATCH-PRESENT e) c = tt
-  changed-carries (inplace-steps.WATCH-ABSENT e f) c = changed-carries f c
-  changed-carries (inplace-steps.WHEN-PRESENT e f) c = changed-carries f c
-  changed-carries (inplace-steps.WHEN-ABSENT e) c = c
-  changed-carries (inplace-steps.SEQ-CHANGED f) c = (changed-carries f (c .0), c .1)
-  changed-carries (inplace-steps.PAR-CHANGED f f′) c = (changed-carries f (c .0), changed-carries f′ (c .1))
+  pub changed-carries : {E : ℕ → Bool} {p p′ : Proc L} → Changed E p p′ → Carries p → Carries p′
+  changed-carries (WATCH-PRESENT e) c = tt
+  changed-carries (WATCH-ABSENT e f) c = changed-carries f c
+  changed-carries (WHEN-PRESENT e f) c = changed-carries f c
+  changed-carries (WHEN-ABSENT e) c = c
+  changed-carries (SEQ-CHANGED f) c = (changed-carries f (c .0), c .1)
+  changed-carries (PAR-CHANGED f f′) c = (changed-carries f (c .0), changed-carries f′ (c .1))
 
   -- a process in place and one of the report that correspond, with their memories
   pub record Tied (F : Kind → ℕ → Bool) (ρ origin : Renaming) (p : Proc L) (s : List ℤ) (Γ : Environment L) (S : ℕ → ℤ)
@@ -143,6 +142,69 @@ module _ {L : Type 0} (names : Names L) (n : ℕ) where
         grown = grown-same Γ origin;
       }
 
+  -- a move inside a frame, which makes no names itself
+  framed :
+      {F : Kind → ℕ → Bool} {ρ origin : Renaming} {p : Proc L} {s : List ℤ} {Γ Γ′ : Environment L} {O : Output} {S′ : ℕ → ℤ}
+      {E′ : ℕ → Bool} {P′ P″ : Proc L} (frame : Proc L → Proc L) (u : Moved F ρ origin p s Γ O Γ′ S′ E′ P′) →
+      inplace.Move s (frame p) (u .out) (frame (u .rest)) (u .values) → Renamed (u .ρ′) (frame (u .rest)) P″ →
+      ((k : Kind) (y : ℕ) → Free k y (frame (u .rest)) → u .F′ k y ≡ true) → Carries (frame (u .rest)) →
+      Kept (frame p) (frame (u .rest)) → ((k : Kind) (y : ℕ) → Declared k y p → Declared k y (frame p)) →
+      Moved F ρ origin (frame p) s Γ O Γ′ S′ E′ P″
+  framed frame u m r d c k h =
+      record {
+        F′ = u .F′;
+        ρ′ = u .ρ′;
+        origin′ = u .origin′;
+        out = u .out;
+        rest = frame (u .rest);
+        values = u .values;
+        move = m;
+        output = u .output;
+        renamed = r;
+        agree = u .agree;
+        made = d;
+        carries = c;
+        kept = k;
+        grows = u .grows;
+        stays = λ k y n. u .stays k y (λ z. n (h k y z));
+        grown = u .grown;
+      }
+
+  -- the move of a process `whole` that declares x, for which the report takes w, and leaves its body
+  declaring :
+      {F : Kind → ℕ → Bool} {ρ origin : Renaming} {whole p P P′ : Proc L} {s values : List ℤ} {Γ : Environment L}
+      {S′ : ℕ → ℤ} {E′ : ℕ → Bool} (k : Kind) (x z w : ℕ) (δ : L) →
+      inplace.Move s whole silent p values → Γ k w ≡ none → CapturesNone ρ k x z p → Renamed (put ρ k x z) p P →
+      Substituted k z w P P′ →
+      Agree names n (put F k x true) (put ρ k x w) (put origin k w x) values (put Γ k w (some δ)) S′ E′ →
+      ((j : Kind) (y : ℕ) → Free j y whole → F j y ≡ true) →
+      ((j : Kind) (y : ℕ) → (same k x j y ≡ false) × Free j y p → Free j y whole) →
+      ((j : Kind) (y : ℕ) → (same k x j y ≡ true) ⊎ Declared j y p → Declared j y whole) → Clean p → Carries p →
+      Moved F ρ origin whole s Γ silent (put Γ k w (some δ)) S′ E′ P′
+  declaring {F} {ρ} {origin} {p = p} {values = values} {Γ = Γ} k x z w δ m u cl d sb g f outer decl c l =
+      record {
+        F′ = put F k x true;
+        ρ′ = put ρ k x w;
+        origin′ = put origin k w x;
+        out = silent;
+        rest = p;
+        values = values;
+        move = m;
+        output = no-output;
+        renamed = same-ren (ren-then d sb) _ (λ j y i. under-twice ρ (λ j u. u) k x z w j y (cl j y i));
+        agree = g;
+        made = λ j y i. by-cases (λ b. b ≡ true) (same k x j y) (λ h. refl) (λ h. f j y (outer j y (h, i)));
+        carries = l;
+        kept = record {
+          decl = λ j y i. decl j y (inr i);
+          free = λ j y i. ⊎-elim (λ h. inr (decl j y (inl h))) (λ h. inl (outer j y (h, i))) (either (same k x j y));
+          clean = c;
+        };
+        grows = λ j y i. put-true F k x j y i;
+        stays = λ j y n. by-cases (λ b. b ≡ ρ j y) (same k x j y) (λ h. absurd (n (decl j y (inl h)))) (λ h. refl);
+        grown = grown-put Γ origin k w x δ u;
+      }
+
   value-there :
       {F : Kind → ℕ → Bool} {ρ origin : Renaming} {s : List ℤ} {Γ : Environment L} {S : ℕ → ℤ} {E : ℕ → Bool}
       (e e′ : Exp) →
@@ -167,49 +229,15 @@ module _ {L : Type 0} (names : Names L) (n : ℕ) where
       (record { decl = λ k y z. inr z; free = λ k y f. inl (inr f); clean = c .2 })
   back (SEQ-OP₂ f) (r-sequence {q = q} d d′) g m c l =
       let u = back f d g (λ k y z. m k y (inl z)) (c .1) (l .0) in
-      record {
-        F′ = u .F′;
-        ρ′ = u .ρ′;
-        origin′ = u .origin′;
-        out = u .out;
-        rest = sequence (u .rest) q;
-        values = u .values;
-        move = inplace.SEQ-OP₂ (u .move);
-        output = u .output;
-        renamed = r-sequence (u .renamed) (same-ren d′ (u .ρ′) (λ k y z. sym (u .stays k y (λ w. c .0 k y w z))));
-        agree = u .agree;
-        made = λ k y. ⊎-elim (λ z. u .made k y z) (λ z. u .grows k y (m k y (inr z)));
-        carries = (u .carries, l .1);
-        kept = kept-sequence q c (u .kept);
-        grows = u .grows;
-        stays = λ k y n. u .stays k y (λ z. n (inl z));
-        grown = u .grown;
-      }
-  back {F} {ρ} {origin} {s = s} {Γ = Γ} (LET-OP {x′ = w} fresh sb)
-      (r-let {x = x} {z = z} {δ = δ} {e = e} {e′ = e′} {p = p} q cl d) g m c l =
+      framed (λ z. sequence z q) u (inplace.SEQ-OP₂ (u .move))
+      (r-sequence (u .renamed) (same-ren d′ (u .ρ′) (λ k y z. sym (u .stays k y (λ w. c .0 k y w z)))))
+      (λ k y. ⊎-elim (λ z. u .made k y z) (λ z. u .grows k y (m k y (inr z))))
+      (u .carries, l .1) (kept-sequence q c (u .kept)) (λ k y z. inl z)
+  back (LET-OP {x′ = w} fresh sb) (r-let {x = x} {z = z} {δ = δ} {e = e} {e′ = e′} q cl d) g m c l =
       let v = value-there e e′ g q (λ y o. m var y (inl (refl, o))) in
-      record {
-        F′ = put F var x true;
-        ρ′ = put ρ var x w;
-        origin′ = put origin var w x;
-        out = silent;
-        rest = p;
-        values = set s x (value e s);
-        move = inplace.LET-OP;
-        output = no-output;
-        renamed = same-ren (ren-then d sb) _ (λ k y f. under-twice ρ (λ j u. u) var x z w k y (cl k y f));
-        agree = agree-let g x w δ _ _ fresh (l .0 .level) (l .0 .kinded) (l .0 .within) v;
-        made = λ k y f. by-cases (λ b. b ≡ true) (same var x k y) (λ h. refl) (λ h. m k y (inr (h, f)));
-        carries = l .1;
-        kept = record {
-          decl = λ k y z. inr z;
-          free = λ k y f. ⊎-elim (λ h. inr (inl h)) (λ h. inl (inr (h, f))) (either (same var x k y));
-          clean = c;
-        };
-        grows = λ k y f. put-true F var x k y f;
-        stays = λ k y n. by-cases (λ b. b ≡ ρ k y) (same var x k y) (λ h. absurd (n (inl h))) (λ h. refl);
-        grown = grown-put Γ origin var w x δ fresh;
-      }
+      declaring var x z w δ inplace.LET-OP fresh cl d sb
+      (agree-let g x w δ _ _ fresh (l .0 .level) (l .0 .kinded) (l .0 .within) v)
+      m (λ k y f. inr f) (λ k y z. z) c (l .1)
   back (COND-OP₁ h) (r-if {e = e} {e′ = e′} q d d′) g m c l =
       let v = value-there e e′ g q (λ y o. m var y (inl (refl, o))) in
       plain (inplace.COND-OP₁ (ap holds v ∙ h)) no-output d g (λ k y f. m k y (inr (inl f))) (l .0)
@@ -234,105 +262,42 @@ module _ {L : Type 0} (names : Names L) (n : ℕ) where
   back EMIT-OP (r-emit {a = a} {a′ = a′} q) g m c l =
       let h = m sig a (same-self sig a) in
       plain {rest = nil} inplace.EMIT-OP (an-emission h q) r-nil (agree-emit g a a′ h q) (λ k y. absurd) tt (kept-nil _)
-  back {F} {ρ} {origin} {s = s} {Γ = Γ} (LOCAL-OP {a′ = w} fresh sb)
-      (r-local {a = x} {z = z} {δ = δ} {p = p} cl d) g m c l =
-      record {
-        F′ = put F sig x true;
-        ρ′ = put ρ sig x w;
-        origin′ = put origin sig w x;
-        out = silent;
-        rest = p;
-        values = set s x (pos 0);
-        move = inplace.LOCAL-OP;
-        output = no-output;
-        renamed = same-ren (ren-then d sb) _ (λ k y f. under-twice ρ (λ j u. u) sig x z w k y (cl k y f));
-        agree = agree-local g x w δ fresh (l .0 .level) (l .0 .kinded) (l .0 .within);
-        made = λ k y f. by-cases (λ b. b ≡ true) (same sig x k y) (λ h. refl) (λ h. m k y (h, f));
-        carries = l .1;
-        kept = record {
-          decl = λ k y z. inr z;
-          free = λ k y f. ⊎-elim (λ h. inr (inl h)) (λ h. inl (h, f)) (either (same sig x k y));
-          clean = c;
-        };
-        grows = λ k y f. put-true F sig x k y f;
-        stays = λ k y n. by-cases (λ b. b ≡ ρ k y) (same sig x k y) (λ h. absurd (n (inl h))) (λ h. refl);
-        grown = grown-put Γ origin sig w x δ fresh;
-      }
+  back (LOCAL-OP {a′ = w} fresh sb) (r-local {a = x} {z = z} {δ = δ} cl d) g m c l =
+      declaring sig x z w δ inplace.LOCAL-OP fresh cl d sb
+      (agree-local g x w δ fresh (l .0 .level) (l .0 .kinded) (l .0 .within))
+      m (λ k y f. f) (λ k y z. z) c (l .1)
   back WATCH-OP₁ (r-watching q r-nil) g m c l =
       plain {rest = nil} inplace.WATCH-OP₁ no-output r-nil g (λ k y. absurd) tt (kept-nil _)
   back (WATCH-OP₂ f) (r-watching {a = a} q d) g m c l =
       let u = back f d g (λ k y z. m k y (inr z)) (c .1) l in
-      record {
-        F′ = u .F′;
-        ρ′ = u .ρ′;
-        origin′ = u .origin′;
-        out = u .out;
-        rest = watching a (u .rest);
-        values = u .values;
-        move = inplace.WATCH-OP₂ (u .move);
-        output = u .output;
-        renamed = r-watching (q ∙ sym (u .stays sig a (c .0))) (u .renamed);
-        agree = u .agree;
-        made = λ k y. ⊎-elim (λ z. u .grows k y (m k y (inl z))) (λ z. u .made k y z);
-        carries = u .carries;
-        kept = kept-watching a c (u .kept);
-        grows = u .grows;
-        stays = u .stays;
-        grown = u .grown;
-      }
+      framed (watching a) u (inplace.WATCH-OP₂ (u .move)) (r-watching (q ∙ sym (u .stays sig a (c .0))) (u .renamed))
+      (λ k y. ⊎-elim (λ z. u .grows k y (m k y (inl z))) (λ z. u .made k y z))
+      (u .carries) (kept-watching a c (u .kept)) (λ k y z. z)
   back {E = E} (WHEN-OP₁ h) (r-when {a = a} q r-nil) g m c l =
       plain {rest = nil} (inplace.WHEN-OP₁
       (g .signals a (m sig a (inl (same-self sig a))) ∙ ap E (sym q) ∙ h)) no-output r-nil g
       (λ k y. absurd) tt (kept-nil _)
   back {E = E} (WHEN-OP₂ h f) (r-when {a = a} q d) g m c l =
       let u = back f d g (λ k y z. m k y (inr z)) (c .1) l in
-      record {
-        F′ = u .F′;
-        ρ′ = u .ρ′;
-        origin′ = u .origin′;
-        out = u .out;
-        rest = when a (u .rest);
-        values = u .values;
-        move = inplace.WHEN-OP₂ (g .signals a (m sig a (inl (same-self sig a))) ∙ ap E (sym q) ∙ h) (u .move);
-        output = u .output;
-        renamed = r-when (q ∙ sym (u .stays sig a (c .0))) (u .renamed);
-        agree = u .agree;
-        made = λ k y. ⊎-elim (λ z. u .grows k y (m k y (inl z))) (λ z. u .made k y z);
-        carries = u .carries;
-        kept = kept-when a c (u .kept);
-        grows = u .grows;
-        stays = u .stays;
-        grown = u .grown;
-      }
+      framed (when a) u (inplace.WHEN-OP₂ (g .signals a (m sig a (inl (same-self sig a))) ∙ ap E (sym q) ∙ h) (u .move))
+      (r-when (q ∙ sym (u .stays sig a (c .0))) (u .renamed))
+      (λ k y. ⊎-elim (λ z. u .grows k y (m k y (inl z))) (λ z. u .made k y z))
+      (u .carries) (kept-when a c (u .kept)) (λ k y z. z)
   back PAR-OP₁ (r-parallel r-nil d) g m c l =
       plain inplace.PAR-OP₁ no-output d g (λ k y f. m k y (inr f)) (l .1)
       (record { decl = λ k y z. inr z; free = λ k y f. inl (inr f); clean = c .4 })
   back (PAR-OP₂ f) (r-parallel {q = q} d d′) g m c l =
       let u = back f d g (λ k y z. m k y (inl z)) (c .3) (l .0) in
-      record {
-        F′ = u .F′;
-        ρ′ = u .ρ′;
-        origin′ = u .origin′;
-        out = u .out;
-        rest = parallel (u .rest) q;
-        values = u .values;
-        move = inplace.PAR-OP₂ (u .move);
-        output = u .output;
-        renamed = r-parallel (u .renamed) (same-ren d′ (u .ρ′) (λ k y z. sym (u .stays k y (λ w. c .1 k y w z))));
-        agree = u .agree;
-        made = λ k y. ⊎-elim (λ z. u .made k y z) (λ z. u .grows k y (m k y (inr z)));
-        carries = (u .carries, l .1);
-        kept = kept-parallel q c (u .kept);
-        grows = u .grows;
-        stays = λ k y n. u .stays k y (λ z. n (inl z));
-        grown = u .grown;
-      }
+      framed (λ z. parallel z q) u (inplace.PAR-OP₂ (u .move))
+      (r-parallel (u .renamed) (same-ren d′ (u .ρ′) (λ k y z. sym (u .stays k y (λ w. c .1 k y w z)))))
+      (λ k y. ⊎-elim (λ z. u .made k y z) (λ z. u .grows k y (m k y (inr z))))
+      (u .carries, l .1) (kept-parallel q c (u .kept)) (λ k y z. inl z)
   back {s = s} {E = E} (PAR-OP₃ f n) (r-parallel {p = p} {q = q} d d′) g m c l =
       plain
       {rest = parallel q p}
       (inplace.PAR-OP₃
-      (suspended-back s E f d (λ a z. g .signals a (m sig a (inl z))))
-      (λ w. n (suspended-forth s E d′ (λ a z. g .signals a (m sig a (inr z))) w)))
+      (suspended-back (present s) E f d (λ a z. g .signals a (m sig a (inl z))))
+      (λ w. n (suspended-forth (present s) E d′ (λ a z. g .signals a (m sig a (inr z))) w)))
       no-output
       (r-parallel d′ d)
       g

@@ -16,9 +16,10 @@ use Rattle.language.specs.Steps.{evaluate, Output}
 use Rattle.language.proofs.NameKinds.{same-number, other, either}
 use Rattle.report.specs.Names.{Free, Renaming, renamedIn, Renamed, r-nil, r-assign, r-let, r-if, r-while, r-sequence, r-emit, r-local, r-watching, r-when, r-parallel, Substituted}
 use Rattle.report.specs.Configurations.{Configuration}
-use Rattle.report.specs.Suspension.{Suspended, WHEN-SUS₁, WHEN-SUS₂, WATCH-SUS, SEQ-SUS, PAR-SUS}
+use Rattle.language.specs.Suspension.{Suspended, WHEN-SUS₁, WHEN-SUS₂, WATCH-SUS, SEQ-SUS, PAR-SUS}
 use Rattle.report.specs.Moves.{Move, ASSIGN-OP, SEQ-OP₁, SEQ-OP₂, LET-OP, COND-OP₁, COND-OP₂, WHILE-OP₁, WHILE-OP₂, EMIT-OP, LOCAL-OP, WATCH-OP₁, WATCH-OP₂, WHEN-OP₁, WHEN-OP₂, PAR-OP₁, PAR-OP₂, PAR-OP₃}
-use Rattle.report.specs.Instants.{Changed, WATCH-PRESENT, WATCH-ABSENT, WHEN-PRESENT, WHEN-ABSENT, SEQ-CHANGED, PAR-CHANGED, Step, MOVE, INSTANT-OP, Alive}
+use Rattle.language.specs.Instants.{Changed, WATCH-PRESENT, WATCH-ABSENT, WHEN-PRESENT, WHEN-ABSENT, SEQ-CHANGED, PAR-CHANGED}
+use Rattle.report.specs.Instants.{Step, MOVE, INSTANT-OP, Alive}
 
 -- Every name of an expression, or free in a process, is below a number.
 expressionTop : Exp → ℕ

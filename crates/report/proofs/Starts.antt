@@ -151,16 +151,16 @@ module _ {L : Type 0} (names : Names L) where
         (carries p scope (u .0) (λ k y d. b k y (inl d)), carries q scope (u .1) (λ k y d. b k y (inr d)))
 
 module _
-    {L : Type 0} {names : Names L} {session : ℕ → Bool} {n : ℕ} {at : System L} {C : Configuration L}
-    (script : Script names session n (at .process)) (size : length (at .values) ≡ n)
-    (begins : Begins (environment names session) at C)
+    {L : Type 0} {names : Names L} {scope : ℕ → Bool} {n : ℕ} {at : System L} {C : Configuration L}
+    (script : Script names scope n (at .process)) (size : length (at .values) ≡ n)
+    (begins : Begins (environment names scope) at C)
   where
     abbrev Γ : Environment L
-    Γ = environment names session
+    Γ = environment names scope
 
     -- the names that the report has at the start: the session's
     abbrev pub F₀ : Kind → ℕ → Bool
-    F₀ k x = session x && isOf k (names .isSignal x)
+    F₀ k x = scope x && isOf k (names .isSignal x)
 
     has : (k : Kind) (x : ℕ) → F₀ k x ≡ true → Γ k x ≡ some (names .level x)
     has k x h = rw h
@@ -176,10 +176,10 @@ module _
     undeclared : (k : Kind) (x : ℕ) → Declared k x (at .process) → F₀ k x ≡ true → ⊥
     undeclared k x d f =
         true≢false
-        (sym (script .sessions x (and-left _ _ f) .0) ∙ declared-owned names (at .process) session (script .scoped) k x d)
+        (sym (script .sessions x (and-left _ _ f) .0) ∙ declared-owned names (at .process) scope (script .scoped) k x d)
 
     free : (k : Kind) (y : ℕ) → Free k y (at .process) → F₀ k y ≡ true
-    free = free-scoped names (at .process) session (script .scoped)
+    free = free-scoped names (at .process) scope (script .scoped)
 
     pub start-joined : Joined names n F₀ (λ k y. y) (λ k y. y) at C
     start-joined =
@@ -191,7 +191,7 @@ module _
                     record {
                       size = size;
                       within = λ k x f. script .sessions x (and-left _ _ f) .1;
-                      kinded = λ k x f. and-right (session x) _ f;
+                      kinded = λ k x f. and-right (scope x) _ f;
                       back = λ k x f. refl;
                       dom = λ k x f. rw (begins .environment) (has k x f);
                       store = λ x f. sym (begins .store x _ (has var x f));
@@ -200,7 +200,7 @@ module _
                     };
                 made = free;
                 clean = once-clean (at .process) (script .once) (λ k y d f. undeclared k y d (free k y f));
-                carries = carries names n (at .process) session (script .scoped) (script .declared);
+                carries = carries names n (at .process) scope (script .scoped) (script .declared);
               };
           steps = begins .steps;
           instants = begins .instants;

@@ -9,14 +9,14 @@ use Rattle.language.specs.Syntax.{Names}
 use Rattle.language.specs.NameKinds.{Kind, var, sig}
 use Rattle.language.specs.Scope.{Declared}
 use Rattle.language.specs.Typing.{Environment}
-use Rattle.language.specs.Steps.{Output, silent}
+use Rattle.language.specs.Steps.{present, Output, silent}
 use Rattle.language.specs.Calls.{Line, System, lineFor, calledFor}
 use Rattle.language.specs.Instants as inplace
 use Rattle.language.specs.Paths as paths
 use Rattle.report.specs.Names.{Renaming}
 use Rattle.report.specs.Configurations.{Configuration}
 use Rattle.report.specs.Instants.{Step, MOVE, INSTANT-OP}
-use Rattle.report.specs.Paths.{NamedLine, named, counted, isSeen, linesFor, Path, here, more}
+use Rattle.report.specs.Paths.{NamedLine, named, linesFor, ExecutionPath, here, more}
 use Rattle.report.specs.Results.{SameLine, SameLines, no-lines, one-more}
 use Rattle.report.proofs.Memory.{agree-none}
 use Rattle.report.proofs.Waiting.{Signals, suspended-back, changed-back}
@@ -80,15 +80,15 @@ module _ {L : Type 0} (names : Names L) (n : ℕ) where
       }
   step-back {F} {ρ} {origin} {at} {C} (INSTANT-OP f g) j =
       let w = j .tied in
-      let signals : Signals (at .values) (C .signals) ρ (at .process) = λ a z. w .agree .signals a (w .made sig a z) in
-      let u = changed-back (at .values) (C .signals) g (w .renamed) signals (w .clean) in
+      let signals : Signals (present (at .values)) (C .signals) ρ (at .process) = λ a z. w .agree .signals a (w .made sig a z) in
+      let u = changed-back (present (at .values)) (C .signals) g (w .renamed) signals (w .clean) in
       record {
         F′ = F;
         ρ′ = ρ;
         origin′ = origin;
         out = silent;
         to = _;
-        step = inplace.INSTANT-OP (suspended-back (at .values) (C .signals) f (w .renamed) signals) (u .change);
+        step = inplace.INSTANT-OP (suspended-back (present (at .values)) (C .signals) f (w .renamed) signals) (u .change);
         output = no-output;
         joined =
             record {
@@ -200,7 +200,7 @@ module _ {L : Type 0} (names : Names L) (n : ℕ) where
       pub grown : Grown (C .environment) (D .environment) origin origin′
 
     pub walk :
-        {m : ℕ} {C D : Configuration L} {ms : List NamedLine} → Path below m C ms D →
+        {m : ℕ} {C D : Configuration L} {ms : List NamedLine} → ExecutionPath below m C ms D →
         {F : Kind → ℕ → Bool} {ρ origin : Renaming} {at : System L} → Joined F ρ origin at C → Fixed F ρ at →
         Along m origin at C ms D
     walk {C = C} here {F} {ρ} {origin} {at} j x =

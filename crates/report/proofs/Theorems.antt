@@ -22,7 +22,7 @@ use Rattle.report.specs.Names.{Renaming, Renamed, r-nil, r-assign, r-let
 use Rattle.report.specs.Configurations.{Configuration, Begins}
 use Rattle.report.specs.Moves.{Move, ASSIGN-OP, SEQ-OP₁, SEQ-OP₂, LET-OP, COND-OP₁, COND-OP₂, WHILE-OP₁, WHILE-OP₂, EMIT-OP, LOCAL-OP, WATCH-OP₁, WATCH-OP₂, WHEN-OP₁, WHEN-OP₂, PAR-OP₁, PAR-OP₂, PAR-OP₃}
 use Rattle.report.specs.Instants.{Step, MOVE, INSTANT-OP}
-use Rattle.report.specs.Paths.{NamedLine, linesFor, Path, here, more}
+use Rattle.report.specs.Paths.{NamedLine, linesFor, ExecutionPath, here, more}
 use Rattle.report.specs.Scope.{Script}
 use Rattle.report.specs.Results.{SameLines, no-lines, one-more, Alike, HasPath, EndsAs, Reported}
 use Rattle.report.proofs.Progress.{NamesBelow, CanStep, can-step, nil-terminated}
@@ -80,7 +80,7 @@ module _ {L : Type 0} where
   step-finite m (INSTANT-OP f g) h = (m, h)
 
   path-finite :
-      {below : L → Bool} {n : ℕ} {C D : Configuration L} {ms : List NamedLine} (m : ℕ) → Path below n C ms D →
+      {below : L → Bool} {n : ℕ} {C D : Configuration L} {ms : List NamedLine} (m : ℕ) → ExecutionPath below n C ms D →
       NamesBelow m (C .environment) → (m′ : ℕ) × NamesBelow m′ (D .environment)
   path-finite m here h = (m, h)
   path-finite m (more f fs) h = let u = step-finite m f h in path-finite (u .0) fs (u .1)
@@ -167,7 +167,7 @@ module _ {L : Type 0} (names : Names L) where
           {F : Kind → ℕ → Bool} {ρ origin : Renaming} {limit room made lines : ℕ} {how : Ending} {at : System L}
           {C : Configuration L} (b : ℕ) →
           NamesBelow b (C .environment) → Joined names n F ρ origin at C → Fixed names n below Γ F ρ at →
-          paths.Ends names (sees names n below Γ) limit room at how made lines → EndsAs below how C made limit
+          paths.RunEnds names (sees names n below Γ) limit room at how made lines → EndsAs below how C made limit
       unfolding Option·toList
       ends-of {C = C} b h j x (paths.NIL-REACHED e) = nil-terminated C (nil-there (j .tied .renamed) e)
       ends-of b h j x (paths.LIMIT-REACHED e) = (alive b j h (λ t. true≢false (sym t ∙ e)) .alive, refl)
@@ -185,28 +185,28 @@ module _ {L : Type 0} (names : Names L) where
 
 -- Demand 2 in the report's own terms, for a script and any configuration that it begins with
 module _
-    {L : Type 0} {names : Names L} {session : ℕ → Bool} {n : ℕ} {at : System L} {C : Configuration L}
-    (script : Script names session n (at .process)) (size : length (at .values) ≡ n)
-    (begins : Begins (environment names session) at C) (below : L → Bool)
+    {L : Type 0} {names : Names L} {scope : ℕ → Bool} {n : ℕ} {at : System L} {C : Configuration L}
+    (script : Script names scope n (at .process)) (size : length (at .values) ≡ n)
+    (begins : Begins (environment names scope) at C) (below : L → Bool)
   where
     abbrev Γ : Environment L
-    Γ = environment names session
+    Γ = environment names scope
 
     finite : NamesBelow n (C .environment)
-    finite k x l = rw (begins .environment) (go (session x) refl)
+    finite k x l = rw (begins .environment) (go (scope x) refl)
       where
-        go : (b : Bool) → session x ≡ b → Γ k x ≡ none
+        go : (b : Bool) → scope x ≡ b → Γ k x ≡ none
         go true e = absurd (omega (arith, script .sessions x e .1))
         go false e = rw e
 
-    along : {m : ℕ} {ms : List NamedLine} {D : Configuration L} → Path below m C ms D → Along names n below Γ m
+    along : {m : ℕ} {ms : List NamedLine} {D : Configuration L} → ExecutionPath below m C ms D → Along names n below Γ m
         (λ k y. y) at C ms D
     along f = walk names n below Γ f (start-joined script size begins) (start-fixed script size begins below)
 
     in-session : (k : Kind) (x : ℕ) (δ : L) → Γ k x ≡ some δ → names .isSession x ≡ true
-    in-session k x δ = go (session x) refl
+    in-session k x δ = go (scope x) refl
       where
-        go : (b : Bool) → session x ≡ b → Γ k x ≡ some δ → names .isSession x ≡ true
+        go : (b : Bool) → scope x ≡ b → Γ k x ≡ some δ → names .isSession x ≡ true
         go true e h = script .sessions x e .0
         go false e h = let q : none ≡ some δ = rw e at h in let z : _≡_ {A = ℕ} 0 1 = cc in absurd (omega arith)
 
@@ -218,7 +218,7 @@ module _
       path : paths.Path names (sees names n below Γ) (r .steps) at (r .lines) (run .last)
       path = rw (← made-is) (run .path)
 
-      module _ (ms : List NamedLine) (D : Configuration L) (f : Path below (r .steps) C ms D) where
+      module _ (ms : List NamedLine) (D : Configuration L) (f : ExecutionPath below (r .steps) C ms D) where
         beside : (r .lines ≡ along f .lines) × (run .last ≡ along f .last)
         beside = one-path names path (along f .path)
 

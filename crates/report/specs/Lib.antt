@@ -2,7 +2,6 @@
 -- place has in common with it.
 pub mod Names
 pub mod Configurations
-pub mod Suspension
 pub mod Moves
 pub mod Instants
 pub mod Paths

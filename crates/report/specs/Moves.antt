@@ -11,9 +11,9 @@ use Rattle.language.specs.NameKinds.{var, sig, put}
 use Rattle.values.specs.Values.{holds}
 use Rattle.language.specs.Typing.{Environment}
 use Rattle.language.specs.Steps.{evaluate, Output, silent, assigned, emitted}
+use Rattle.language.specs.Suspension.{Suspended}
 use Rattle.report.specs.Names.{Substituted}
 use Rattle.report.specs.Configurations.{update}
-use Rattle.report.specs.Suspension.{Suspended}
 
 pub data Move {L : Type 0} (Γ : Environment L) (S : ℕ → ℤ) (E : ℕ → Bool) :
     Proc L → Output → Environment L → (ℕ → ℤ) → (ℕ → Bool) → Proc L → Type 0

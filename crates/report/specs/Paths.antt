@@ -40,8 +40,8 @@ module _ {L : Type 0} (below : L → Bool) where
   linesFor C o = named (kindOf o) (calledFor (λ x. isSeen (C .environment (kindOf o) x)) (counted C) o)
 
   -- n steps from one configuration to another, with the lines that they call for
-  pub data Path : ℕ → Configuration L → List NamedLine → Configuration L → Type 0 where
-    here : {C : Configuration L} → Path zero C [] C
+  pub data ExecutionPath : ℕ → Configuration L → List NamedLine → Configuration L → Type 0 where
+    here : {C : Configuration L} → ExecutionPath zero C [] C
     more :
         {n : ℕ} {C C′ C″ : Configuration L} {o : Output} {ls : List NamedLine} →
-        Step C o C′ → Path n C′ ls C″ → Path (suc n) C (linesFor C o ++ ls) C″
+        Step C o C′ → ExecutionPath n C′ ls C″ → ExecutionPath (suc n) C (linesFor C o ++ ls) C″

@@ -19,7 +19,7 @@ use Rattle.language.specs.Paths as paths
 use Rattle.report.specs.Names.{Free, Renaming, Renamed}
 use Rattle.report.specs.Configurations.{Configuration}
 use Rattle.report.specs.Instants.{Step, Alive, Terminated}
-use Rattle.report.specs.Paths.{NamedLine, linesFor, Path}
+use Rattle.report.specs.Paths.{NamedLine, linesFor, ExecutionPath}
 
 module _ {L : Type 0} (names : Names L) (Γ : Environment L) where
   -- A line of the run and one of a path of the report. `origin` tells for each name that the report has which name of
@@ -56,7 +56,7 @@ module _ {L : Type 0} (names : Names L) (Γ : Environment L) where
 pub record HasPath {L : Type 0} (below : L → Bool) (n : ℕ) (C : Configuration L) : Type 0 where
   pub lines : List NamedLine
   pub last : Configuration L
-  pub path : Path below n C lines last
+  pub path : ExecutionPath below n C lines last
 
 -- How a run ended, of the configuration that a path of the report has come to: finished, it is terminated; spent, it is
 -- alive and the limit is reached; log full, it is alive, and its next step calls for a line.
@@ -76,15 +76,15 @@ pub record Reported {L : Type 0} (names : Names L) (Γ : Environment L) (below :
   pub exists : HasPath below (r .steps) C
   -- and this holds of every one, whatever fresh names it takes
   pub alike :
-      (ms : List NamedLine) (D : Configuration L) → Path below (r .steps) C ms D → Alike names Γ (r .lines) last ms D
+      (ms : List NamedLine) (D : Configuration L) → ExecutionPath below (r .steps) C ms D → Alike names Γ (r .lines) last ms D
   pub instants :
-      (ms : List NamedLine) (D : Configuration L) → Path below (r .steps) C ms D → D .instants ≡ r .instants
+      (ms : List NamedLine) (D : Configuration L) → ExecutionPath below (r .steps) C ms D → D .instants ≡ r .instants
   pub store :
-      (ms : List NamedLine) (D : Configuration L) → Path below (r .steps) C ms D →
+      (ms : List NamedLine) (D : Configuration L) → ExecutionPath below (r .steps) C ms D →
       (x : ℕ) (δ : L) → Γ var x ≡ some δ → D .store x ≡ held (r .values) x
   pub signals :
-      (ms : List NamedLine) (D : Configuration L) → Path below (r .steps) C ms D →
+      (ms : List NamedLine) (D : Configuration L) → ExecutionPath below (r .steps) C ms D →
       (a : ℕ) (δ : L) → Γ sig a ≡ some δ → D .signals a ≡ present (r .values) a
   pub ends :
-      (ms : List NamedLine) (D : Configuration L) → Path below (r .steps) C ms D →
+      (ms : List NamedLine) (D : Configuration L) → ExecutionPath below (r .steps) C ms D →
       EndsAs below (r .ending) D (r .steps) limit

@@ -6,9 +6,9 @@ use Prim.Native.Nat.{ℕ}
 use lib.Dec.{leb}
 use lib.ListN.{length}
 use Rattle.language.specs.Calls.{Line, Run, lineWords, words}
-use Rattle.language.specs.Results.{upTo}
+use Rattle.language.specs.Results.{stampedUpTo}
 use Rattle.engine.specs.Answers.{leftBy}
-use Rattle.theorems.specs.Records.{linesIn, recordOf, stampedUpTo}
+use Rattle.theorems.specs.Records.{linesIn, recordOf, stamp}
 
 lines-in : (ls : List Line) (rest : List ℕ) → linesIn (length ls) (words ls ++ rest) ≡ map lineWords ls
 unfolding linesIn words
@@ -20,14 +20,14 @@ pub record-of : (r : Run) (log : List ℕ) → recordOf (leftBy r log) ≡ map l
 record-of r log = lines-in (r .lines) _
 
 -- the stamp of a line is its first word
-pub stamped-words : (n : ℕ) (ls : List Line) → stampedUpTo n (map lineWords ls) ≡ map lineWords (upTo n ls)
-unfolding stampedUpTo upTo
+pub stamped-words :
+    (n : ℕ) (ls : List Line) → stampedUpTo stamp n (map lineWords ls) ≡ map lineWords (stampedUpTo (λ l. l .step) n ls)
+unfolding stampedUpTo
 stamped-words n [] = refl
-stamped-words n (l ∷ ls) = go (leb (l .step) n) (stamped-words n ls)
+stamped-words n (l ∷ ls) = go _ (leb (l .step) n) (stamped-words n ls)
   where
     go :
-        (b : Bool) → stampedUpTo n (map lineWords ls) ≡ map lineWords (upTo n ls) →
-        cond b (lineWords l ∷ stampedUpTo n (map lineWords ls)) (stampedUpTo n (map lineWords ls))
-        ≡ map lineWords (cond b (l ∷ upTo n ls) (upTo n ls))
-    go true e = ap (λ z. lineWords l ∷ z) e
-    go false e = e
+        {ws : List (List ℕ)} (ks : List Line) (b : Bool) → ws ≡ map lineWords ks →
+        cond b (lineWords l ∷ ws) ws ≡ map lineWords (cond b (l ∷ ks) ks)
+    go ks true e = ap (λ z. lineWords l ∷ z) e
+    go ks false e = e

@@ -2,7 +2,7 @@
 use mathlib.Core.Path.{_≡_, refl, sym, ap, _∙_, subst}
 use mathlib.Core.Bool.{Bool, true}
 use mathlib.Core.List.{List, map}
-use Prim.Native.Nat.{ℕ, _/_, _≤_}
+use Prim.Native.Nat.{ℕ, _/_, _≤_, _<_}
 use native.Mathlib.Decide.{decLt}
 use native.Mathlib.Omega.{arith}
 use lib.IntN.{ℤ}
@@ -11,16 +11,17 @@ use lib.Dec.{ltb}
 use borrow.Author.Tests.{eq-eqb, eqb-true, ltb-true}
 use Rattle.prelude.specs.Refusals.{passes}
 use Rattle.prelude.proofs.Bools.{by-cases, and-left, and-right}
-use Rattle.book.specs.LevelBook.{count}
+use Rattle.book.specs.LevelBook.{count, rows, atOrBelow}
 use Rattle.lattice.specs.Refusals as books
 use Rattle.lattice.specs.Lattice.{Lattice, bookLattice}
-use Rattle.lattice.proofs.Theorems.{book-laws}
+use Rattle.lattice.proofs.Theorems.{level-lattice, book-laws, join-in, meet-in, one-level}
 use Rattle.language.specs.Syntax.{Names}
 use Rattle.language.specs.Levels.{writeLevel, testLevel}
 use Rattle.language.specs.Scope.{Scoped}
 use Rattle.language.specs.Calls.{Run, starts, readable, run, lineWords}
-use Rattle.language.specs.Typing.{Below, Typed}
-use Rattle.language.specs.Results.{LevelsAgree, StartsAgree, RecordsAgree}
+use Rattle.language.specs.Typing.{Below, Typed, Tightest}
+use Rattle.language.specs.Results.{LevelsAgree, stampedUpTo, StartsAgree, RecordsAgree}
+use Rattle.language.proofs.LevelRanges.{Closed, levels-in}
 use Rattle.language.proofs.Theorems as language
 use Rattle.report.specs.Scope.{Script}
 use Rattle.report.proofs.Starts.{begun-begins}
@@ -29,6 +30,7 @@ use Rattle.layout.specs.Layout.{nameCount}
 use Rattle.layout.specs.Entries.{isSessionName}
 use Rattle.script.specs.Checked.{Checked}
 use Rattle.script.specs.Refusals as scripts
+use Rattle.script.proofs.Theorems.{accepted-exactly}
 use Rattle.tree.specs.Tree.{namesOf, tree}
 use Rattle.tree.proofs.Theorems.{tree-scoped, tree-named}
 use Rattle.results.specs.declared.Verdict.{Verdict}
@@ -36,11 +38,22 @@ use Rattle.checker.specs.Refusals.{checkRefusal}
 use Rattle.arguments.specs.Refusals.{runRefusal}
 use Rattle.results.specs.Reports.{verdictBy}
 use Rattle.engine.specs.Answers.{verdict, runOf, Left, leftBy, left}
-use Rattle.theorems.specs.Records.{stampedUpTo}
-use Rattle.theorems.specs.Results.{session, CheckAgrees, RunAgrees, RunReported, StartEqual, NothingShows, DemandThree}
+use Rattle.theorems.specs.Records.{stamp}
+use Rattle.theorems.specs.Results.{sessionEnvironment, CheckAgrees, RunAgrees, RunReported, StartEqual, NothingShows, DemandThree}
 use Rattle.checker.proofs.Passing.{Accepted, checked, accepted, accepts}
 use Rattle.arguments.proofs.Passing.{Started, run-accepted}
 use Rattle.theorems.proofs.Records.{record-of, stamped-words}
+
+-- the operations of a book's lattice give levels of the book
+book-levels : (b : List ℕ) → books.isAccepted b ≡ true → Closed (bookLattice b) (λ a. a < count b)
+book-levels b h =
+    let w = level-lattice b h in
+    record {
+      join = λ i j _ _. join-in _ _ w i j;
+      meet = λ i j _ _. meet-in _ _ w i j;
+      top = w .greatest .within;
+      bottom = w .least .within;
+    }
 
 module _ (b s : List ℕ) where
   abbrev 𝓛 : Lattice ℕ
@@ -67,14 +80,15 @@ module _ (b s : List ℕ) where
   scoped h = tree-scoped s (checked b s h)
 
   levels :
-      books.isAccepted b ≡ true → scripts.isAccepted s (count b) ≡ true → LevelsAgree 𝓛 (namesOf s) (session s) (tree s)
+      books.isAccepted b ≡ true → scripts.isAccepted s (count b) ≡ true →
+      LevelsAgree 𝓛 (namesOf s) (sessionEnvironment s) (tree s)
   levels k h =
       language.levels-agree 𝓛 (book-laws b k) (namesOf s) (tree s) (isSessionName s)
       (tree-named s (checked b s h) .scoped)
 
   -- the rules give the script some pair
   abbrev Typable : Type 0
-  Typable = (θ : ℕ) × (σ : ℕ) × Typed 𝓛 (session s) (tree s) θ σ
+  Typable = (θ : ℕ) × (σ : ℕ) × Typed 𝓛 (sessionEnvironment s) (tree s) θ σ
 
   accepts-typable : books.isAccepted b ≡ true → scripts.isAccepted s (count b) ≡ true → Typable → verdict b s .number ≡ 0
   accepts-typable k h d =
@@ -85,7 +99,7 @@ module _ (b s : List ℕ) where
     has : Accepted b s
     has = accepted b s (verdict-passes zero)
 
-    agrees : LevelsAgree 𝓛 (namesOf s) (session s) (tree s)
+    agrees : LevelsAgree 𝓛 (namesOf s) (sessionEnvironment s) (tree s)
     agrees = levels (has .book) (has .script)
 
     write-is : verdict b s .write ≡ writeLevel 𝓛 (namesOf s) (tree s)
@@ -94,12 +108,25 @@ module _ (b s : List ℕ) where
     test-is : verdict b s .test ≡ testLevel 𝓛 (namesOf s) (tree s)
     test-is = ap (λ v. v .test) (verdict-is (verdict-passes zero))
 
-    derivable : Typed 𝓛 (session s) (tree s) (verdict b s .write) (verdict b s .test)
+    derivable : Typed 𝓛 (sessionEnvironment s) (tree s) (verdict b s .write) (verdict b s .test)
     derivable = rw (write-is, test-is) (agrees .derivable (has .flow))
 
-    tightest :
-        (θ σ : ℕ) → Typed 𝓛 (session s) (tree s) θ σ → Below 𝓛 θ (verdict b s .write) × Below 𝓛 (verdict b s .test) σ
+    tightest : Tightest 𝓛 (sessionEnvironment s) (tree s) (verdict b s .write) (verdict b s .test)
     tightest θ σ d = rw (write-is, test-is) (agrees .tightest θ σ d)
+
+    -- each name of the script is a name of the file, so its level is a level of the book
+    inside : (verdict b s .write < count b) × (verdict b s .test < count b)
+    inside =
+        let file = accepted-exactly .checked s (count b) (has .script) in
+        let named = tree-named s (file .0) in
+        rw (write-is, test-is)
+        (levels-in 𝓛 (λ a. a < count b) (book-levels b (has .book)) (namesOf s) (tree s) (isSessionName s)
+        (λ x h. file .1 x (ltb-true x (nameCount s) (and-left (ltb x (nameCount s)) _ h)))
+        (λ k x d. file .1 x (named .declared k x d)) (named .scoped))
+
+    -- two levels of the book, each at or below the other
+    same-level : (i j : ℕ) → i < count b → j < count b → Below 𝓛 i j → Below 𝓛 j i → i ≡ j
+    same-level = one-level (atOrBelow (rows b)) (count b) (level-lattice b (has .book))
 
   pub check-agrees : CheckAgrees b s
   check-agrees =
@@ -111,6 +138,14 @@ module _ (b s : List ℕ) where
         lattice = λ z. book-laws b (has z .book);
         derivable = derivable;
         tightest = tightest;
+        levels = inside;
+        unique =
+            λ z θ σ hθ hσ given tight.
+            let ours = tightest z θ σ given in
+            let theirs = tight (verdict b s .write) (verdict b s .test) (derivable z) in (
+              same-level z θ (verdict b s .write) hθ (inside z .0) (ours .0) (theirs .0),
+              same-level z σ (verdict b s .test) hσ (inside z .1) (theirs .1) (ours .1),
+            );
       }
 
 module _ (b s : List ℕ) (reader : ℕ) (values : List ℤ) (limit : ℕ) (log : List ℕ) where
@@ -161,7 +196,7 @@ module _ (b s : List ℕ) (reader : ℕ) (values : List ℤ) (limit : ℕ) (log 
   pub run-reported : RunReported b s reader values limit log
   run-reported =
       record {
-        begins = begun-begins (session s) (starts (tree s) values);
+        begins = begun-begins (sessionEnvironment s) (starts (tree s) values);
         reported =
             λ z C begins.
             let a = run-accepted b s reader values limit (left-passes z) in
@@ -215,7 +250,7 @@ nothing-shows b s reader n m r₁ r₂ log₁ log₂ h =
           record-of r₁ log₁
           ∙ ap (map lineWords) (h .shorter)
           ∙ sym (stamped-words n (r₂ .lines))
-          ∙ ap (stampedUpTo n) (sym (record-of r₂ log₂));
+          ∙ ap (stampedUpTo stamp n) (sym (record-of r₂ log₂));
       equal = λ e. record-of r₁ log₁ ∙ ap (map lineWords) (h .equal e) ∙ sym (record-of r₂ log₂);
       registers = λ e x u k. h .registers e x (u .session) k (u .low);
     }

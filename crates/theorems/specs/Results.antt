@@ -12,8 +12,9 @@ use Rattle.lattice.specs.Lattice.{Laws, bookLattice}
 use Rattle.lattice.specs.Refusals as books
 use Rattle.language.specs.Steps.{held}
 use Rattle.language.specs.Calls.{Run, starts, readable}
-use Rattle.language.specs.Typing.{Environment, environment, Below, Typed}
+use Rattle.language.specs.Typing.{Environment, environment, Typed, Tightest}
 use Rattle.language.specs.Paths.{IsRun}
+use Rattle.language.specs.Results.{stampedUpTo}
 use Rattle.report.specs.Configurations.{Configuration, Begins, begun}
 use Rattle.report.specs.Results.{Reported}
 use Rattle.layout.specs.Layout.{nameCount}
@@ -21,31 +22,41 @@ use Rattle.layout.specs.Entries.{isSessionName}
 use Rattle.script.specs.Refusals as scripts
 use Rattle.tree.specs.Tree.{namesOf, tree}
 use Rattle.engine.specs.Answers.{verdict, runOf, Left, leftBy, left}
-use Rattle.theorems.specs.Records.{recordOf, stampedUpTo}
+use Rattle.theorems.specs.Records.{recordOf, stamp}
 
 -- Γ: the session's names, each with its kind and level
-abbrev pub session : List ℕ → Environment ℕ
-session s = environment (namesOf s) (isSessionName s)
+abbrev pub sessionEnvironment : List ℕ → Environment ℕ
+sessionEnvironment s = environment (namesOf s) (isSessionName s)
 
 -- Demand 2, the checker. 'A script is accepted under a book when check gives 0 as its number': exactly when book and file
 -- are right and the report's rules give the script some pair; then the answer is a pair that they give, and the
--- tightest.
+-- tightest. W and T are then levels of the book, and no other two levels of the book are the tightest pair.
 pub record CheckAgrees (b s : List ℕ) : Type 0 where
   pub accepts :
       (verdict b s .number ≡ 0)
       ↔ ((books.isAccepted b ≡ true)
-      × ((scripts.isAccepted s (count b) ≡ true) × ((θ : ℕ) × (σ : ℕ) × Typed (bookLattice b) (session s) (tree s) θ σ)))
+      × ((scripts.isAccepted s (count b) ≡ true)
+      × ((θ : ℕ) × (σ : ℕ) × Typed (bookLattice b) (sessionEnvironment s) (tree s) θ σ)))
   pub lattice : verdict b s .number ≡ 0 → Laws (bookLattice b)
   pub derivable :
-      verdict b s .number ≡ 0 → Typed (bookLattice b) (session s) (tree s) (verdict b s .write) (verdict b s .test)
+      verdict b s .number ≡ 0 →
+      Typed (bookLattice b) (sessionEnvironment s) (tree s) (verdict b s .write) (verdict b s .test)
   pub tightest :
-      verdict b s .number ≡ 0 → (θ σ : ℕ) → Typed (bookLattice b) (session s) (tree s) θ σ →
-      Below (bookLattice b) θ (verdict b s .write) × Below (bookLattice b) (verdict b s .test) σ
+      verdict b s .number ≡ 0 →
+      Tightest (bookLattice b) (sessionEnvironment s) (tree s) (verdict b s .write) (verdict b s .test)
+  pub levels : verdict b s .number ≡ 0 → (verdict b s .write < count b) × (verdict b s .test < count b)
+  pub unique :
+      verdict b s .number ≡ 0 → (θ σ : ℕ) → θ < count b → σ < count b →
+      Typed (bookLattice b) (sessionEnvironment s) (tree s) θ σ →
+      Tightest (bookLattice b) (sessionEnvironment s) (tree s) θ σ →
+      (θ ≡ verdict b s .write) × (σ ≡ verdict b s .test)
 
 -- Demand 2, the runner. A call that is not refused leaves what a path of the report's steps gives that ends where 01
 -- says; there is such a path, and no other.
 pub record RunAgrees (b s : List ℕ) (reader : ℕ) (values : List ℤ) (limit : ℕ) (log : List ℕ) : Type 0 where
-  pub is : left b s reader values limit log .report .number ≡ 0 → left b s reader values limit log ≡ leftBy (runOf b s reader values limit log) log
+  pub is :
+      left b s reader values limit log .report .number ≡ 0 →
+      left b s reader values limit log ≡ leftBy (runOf b s reader values limit log) log
   pub path :
       IsRun (namesOf s) (readable (bookLattice b) (namesOf s) reader) limit (length log / 4) (starts (tree s) values)
       (runOf b s reader values limit log)
@@ -59,11 +70,11 @@ pub record RunAgrees (b s : List ℕ) (reader : ℕ) (values : List ℤ) (limit 
 -- call's instants, values of the session and lines, leaves what the run leaves, up to its names, and ends as it does.
 -- That the call leaves what `runOf` gives is `RunAgrees.is`.
 pub record RunReported (b s : List ℕ) (reader : ℕ) (values : List ℤ) (limit : ℕ) (log : List ℕ) : Type 0 where
-  pub begins : Begins (session s) (starts (tree s) values) (begun (session s) (starts (tree s) values))
+  pub begins : Begins (sessionEnvironment s) (starts (tree s) values) (begun (sessionEnvironment s) (starts (tree s) values))
   pub reported :
       left b s reader values limit log .report .number ≡ 0 → (C : Configuration ℕ) →
-      Begins (session s) (starts (tree s) values) C →
-      Reported (namesOf s) (session s) (λ δ. bookLattice b .leq δ reader) limit (starts (tree s) values) C
+      Begins (sessionEnvironment s) (starts (tree s) values) C →
+      Reported (namesOf s) (sessionEnvironment s) (λ δ. bookLattice b .leq δ reader) limit (starts (tree s) values) C
       (runOf b s reader values limit log)
 
 -- a session name at or below the reader's level
@@ -79,7 +90,7 @@ StartEqual b s reader values₁ values₂ = (x : ℕ) → Readable b s reader x 
 -- 'the first record is exactly those lines of the second that are stamped n or less, word for word, in the same order.
 -- With n = m the records are equal and the session registers at or below that level end equal.'
 pub record NothingShows (b s : List ℕ) (reader n m : ℕ) (one two : Left) : Type 0 where
-  pub shorter : recordOf one ≡ stampedUpTo n (recordOf two)
+  pub shorter : recordOf one ≡ stampedUpTo stamp n (recordOf two)
   pub equal : n ≡ m → recordOf one ≡ recordOf two
   pub registers :
       n ≡ m → (x : ℕ) → Readable b s reader x → namesOf s .isSignal x ≡ false →

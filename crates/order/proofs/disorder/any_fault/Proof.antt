@@ -1,6 +1,6 @@
 -- `any_fault`: of the levels that are left out, none shows a fault.
 use mathlib.Core.Path.{_≡_, refl, sym, ap, _∙_}
-use mathlib.Core.Bool.{Bool, true, false, not, _&&_, true≢false}
+use mathlib.Core.Bool.{Bool, true, false, _&&_}
 use mathlib.Core.List.{List}
 use Prim.Native.Nat.{ℕ, _-_, _^_, _<_, _≤_}
 use native.Mathlib.Decide.{ℕ-discrete}
@@ -8,12 +8,11 @@ use native.Mathlib.Omega.{arith}
 use lib.ListN.{getD}
 use lib.Pow.{pow-pos}
 use borrow.Author.Needs.{needs}
-use borrow.Author.Tests.{eq-eqb, ne-eqb}
 use Rattle.prelude.specs.Search.{first}
 use Rattle.prelude.specs.Sets.{has, outside}
 use Rattle.prelude.proofs.Bools.{and-intro}
 use Rattle.prelude.proofs.Searches.{first-holds, any-some, any-none}
-use Rattle.prelude.proofs.Sets.{has-zero, smallest-below, smallest-same, out, out-le}
+use Rattle.prelude.proofs.Sets.{has-zero, smallest-below, smallest-same, out-other, out-le}
 use Rattle.book.specs.LevelBook.{mostLevels}
 use Rattle.order.proofs.disorder.any_fault.Statement.{statement}
 use Rattle.order.proofs.disorder.any_fault.Tie as tie
@@ -49,26 +48,16 @@ left-more :
     (rows : List ℕ) (n others left j : ℕ) → has left j ≡ true → outside (getD rows j 0) others n ≡ false →
     Left rows n others left → Left rows n others (left - 2 ^ j)
 left-more rows n others left j own none keeps k =
-    ap (λ b. b && outside (getD rows k 0) others n) (out left j own k)
-    ∙ elim (ℕ-discrete k j) [
+    elim (ℕ-discrete k j) [
       | yes e ↦
-          rw (eq-eqb k j e)
-          (never (has left k) _ ∙ sym (sym (keeps k) ∙ nothing (has left k) _ (ap (λ x. outside (getD rows x 0) others n) e ∙ none)))
-      | no e ↦ ap (λ b. b && outside (getD rows k 0) others n) (all (has left k) _ (ne-eqb k j e)) ∙ keeps k
+          let shown : outside (getD rows k 0) others n ≡ false = ap (λ x. outside (getD rows x 0) others n) e ∙ none in
+          nothing (has (left - 2 ^ j) k) _ shown ∙ sym (nothing (has others k) _ shown)
+      | no e ↦ ap (λ b. b && outside (getD rows k 0) others n) (out-other left j own k e) ∙ keeps k
     ]
   where
-    never : (p q : Bool) → ((p && false) && q) ≡ false
-    never true q = refl
-    never false q = refl
-
     nothing : (p q : Bool) → q ≡ false → (p && q) ≡ false
     nothing true q h = h
     nothing false q h = refl
-
-    all : (p q : Bool) → q ≡ false → (p && not q) ≡ p
-    all true true h = absurd (true≢false h)
-    all true false h = refl
-    all false q h = refl
 
 -- the smallest level that is left is a level, and one of them
 low :
