@@ -16,7 +16,7 @@ use Rattle.language.specs.Paths as paths
 use Rattle.report.specs.Names.{Renaming}
 use Rattle.report.specs.Configurations.{Configuration}
 use Rattle.report.specs.Instants.{Step, MOVE, INSTANT-OP}
-use Rattle.report.specs.Paths.{NamedLine, named, linesFor, ExecutionPath, here, more}
+use Rattle.report.specs.Paths.{NamedLine, named, counted, isSeen, linesFor, ExecutionPath, here, more}
 use Rattle.report.specs.Results.{SameLine, SameLines, no-lines, one-more}
 use Rattle.report.proofs.Memory.{agree-none}
 use Rattle.report.proofs.Waiting.{Signals, suspended-back, changed-back}

@@ -6,15 +6,15 @@ use Rattle.layout.proofs.Script.counts_are_right.Statement.{statement}
 use Rattle.layout.proofs.Script.counts_are_right.Tie as tie
 
 returns : tie.Need-returns
-returns c = rw (lt-leb (c .before .before .args .c .names) mostNames (omega arith))
+returns c = rw (lt-leb (c .before .before .args .self .names) mostNames (omega arith))
 
 returns-2 : tie.Need-returns-2
-returns-2 c = rw (le-leb (c .before .before .before .before .args .c .names) mostNames (omega arith), lt-leb _ _ (c .if2 .taken))
+returns-2 c = rw (le-leb (c .before .before .before .before .args .self .names) mostNames (omega arith), lt-leb _ _ (c .if2 .taken))
 
 returns-3 : tie.Need-returns-3
 returns-3 c =
     rw (
-      le-leb (c .before .before .before .before .before .before .args .c .names) mostNames (omega arith),
+      le-leb (c .before .before .before .before .before .before .args .self .names) mostNames (omega arith),
       le-leb _ _ (c .before .before .if2 .left),
       lt-leb _ _ (c .if3 .taken),
     )
@@ -22,7 +22,7 @@ returns-3 c =
 returns-4 : tie.Need-returns-4
 returns-4 c =
     rw (
-      le-leb (c .before .before .before .before .before .before .before .args .c .names) mostNames (omega arith),
+      le-leb (c .before .before .before .before .before .before .before .args .self .names) mostNames (omega arith),
       le-leb _ _ (c .before .before .before .if2 .left),
       le-leb _ _ (c .before .if3 .left),
     )

@@ -10,13 +10,8 @@ use Rattle.prelude.specs.Table.{table}
 use Rattle.prelude.proofs.Tables.{fill-none, fill-more}
 use Rattle.station.specs.Values.{valueIn}
 use Rattle.station.proofs.Reading.{last-cut, too-many, all-read}
-<<<<<<<< HEAD:crates/station/proofs/numbers/read_values/Proof.antt
 use Rattle.station.proofs.file_values.read_values.Statement.{statement}
 use Rattle.station.proofs.file_values.read_values.Tie as tie
-========
-use Rattle.station.proofs.file_values.read_values.Statement.{statement}
-use Rattle.station.proofs.file_values.read_values.Tie as tie
->>>>>>>> bda57eb638d083079bc3aae7c6dbcb2df139cb01:crates/station/proofs/file_values/read_values/Proof.antt
 
 abbrev Inv-loop : tie.InvT-loop
 Inv-loop bytes values₀ room n i₀ values i = (i ≤ n) × ((length values ≡ room) × (take i values ≡ table (valueIn bytes) i))

@@ -4,13 +4,8 @@ use mir.Syntax.{w32}
 use mir.Val.{toZ}
 use mir.Facts.{toZ-ofZ}
 use borrow.Author.Needs.{needs}
-<<<<<<<< HEAD:crates/station/proofs/numbers/value_at/Proof.antt
 use Rattle.station.proofs.file_values.value_at.Statement.{statement}
 use Rattle.station.proofs.file_values.value_at.Tie as tie
-========
-use Rattle.station.proofs.file_values.value_at.Statement.{statement}
-use Rattle.station.proofs.file_values.value_at.Tie as tie
->>>>>>>> bda57eb638d083079bc3aae7c6dbcb2df139cb01:crates/station/proofs/file_values/value_at/Proof.antt
 
 word-at-requires : tie.Need-word-at-requires
 word-at-requires c κs = search needs
