@@ -1,7 +1,8 @@
 -- The needs of a script hold exactly when every node has its own; the first node whose need fails.
-use mathlib.Core.Path.{_≡_, refl, sym, ap, _∙_}
+use mathlib.Core.Path.{_≡_, refl, sym, ap, _∙_, subst}
 use mathlib.Core.Bool.{Bool, true, false, not, _&&_}
 use mathlib.Core.List.{List}
+use mathlib.Core.Logic.{⊎-elim}
 use Prim.Native.Nat.{ℕ, zero, suc, _-_, _<_}
 use native.Mathlib.Nat.{not-suc-le-zero}
 use native.Mathlib.Decide.{decLt}
@@ -12,18 +13,20 @@ use Rattle.prelude.proofs.Bools.{and-intro, and-left, and-right, same-truth, fa
 use Rattle.prelude.proofs.Searches.{first-is, first-none, first-at-end}
 use Rattle.lattice.specs.Lattice.{Lattice}
 use Rattle.language.specs.Levels.{needs}
-use Rattle.layout.specs.Layout.{layoutOf, nodeCount}
+use Rattle.layout.specs.Layout.{layoutOf, nodeCount, partCount}
 use Rattle.layout.specs.Entries.{partOf, node}
 use Rattle.fields.specs.Children.{firstChild, secondChild, childCount}
 use Rattle.tree.specs.Tree.{namesOf, processOf, tree}
 use Rattle.script.specs.Checked.{Checked}
-use Rattle.layout.proofs.Layouts.{few-bounds}
+use Rattle.layout.proofs.Layouts.{few-bounds, few-parts}
+use Rattle.scope.specs.Reach.{liesIn}
+use Rattle.scope.proofs.Reaching.{lies-last}
 use Rattle.language.specs.Kinds.{childrenOf}
-use Rattle.flow.specs.Flow.{Under, itself, inFirst, inSecond, Smallest, FailsUnder}
+use Rattle.flow.specs.Flow.{Smallest, FailsIn}
 use Rattle.flow.specs.Needs.{needAt, firstFailing}
 use Rattle.flow.proofs.ByKind.{needsOf, needs-by-kind}
 use Rattle.flow.proofs.Shapes.{Children, none, one, two, children}
-use Rattle.flow.proofs.UnderLast.{under-last}
+use Rattle.flow.proofs.FailingNodes.{node-cases}
 
 module _ (𝓛 : Lattice ℕ) (s : List ℕ) (ok : Checked s) where
   abbrev needsAt : ℕ → Bool
@@ -50,9 +53,9 @@ module _ (𝓛 : Lattice ℕ) (s : List ℕ) (ok : Checked s) where
         (first < k) × (needsAt first ≡ true)
     first-need (none n q) h e = absurd (omega arith)
     first-need (one n q a) h e =
-        (a, and-left (needsAt first) true (sym (ap (needsOf 𝓛 (namesOf s)) q) ∙ children-need e))
+        (omega (arith, a .before), and-left (needsAt first) true (sym (ap (needsOf 𝓛 (namesOf s)) q) ∙ children-need e))
     first-need (two n q a b) h e =
-        (a, and-left (needsAt first) (needsAt second && true) (sym (ap (needsOf 𝓛 (namesOf s)) q) ∙ children-need e))
+        (omega (arith, a .before), and-left (needsAt first) (needsAt second && true) (sym (ap (needsOf 𝓛 (namesOf s)) q) ∙ children-need e))
 
     second-need :
         Children s k → 1 < childCount (partOf s (node s k) .kind) → needsAt k ≡ true →
@@ -60,7 +63,7 @@ module _ (𝓛 : Lattice ℕ) (s : List ℕ) (ok : Checked s) where
     second-need (none n q) h e = absurd (omega arith)
     second-need (one n q a) h e = absurd (omega arith)
     second-need (two n q a b) h e = (
-      b,
+      omega (arith, b .before),
       and-left (needsAt second) true
           (and-right (needsAt first) (needsAt second && true) (sym (ap (needsOf 𝓛 (namesOf s)) q) ∙ children-need e)),
     )
@@ -73,25 +76,40 @@ module _ (𝓛 : Lattice ℕ) (s : List ℕ) (ok : Checked s) where
       where
         go : Children s k → ofChildren ≡ true
         go (none n q) = ap (needsOf 𝓛 (namesOf s)) q
-        go (one n q a) = ap (needsOf 𝓛 (namesOf s)) q ∙ and-intro (needsAt first) true (below first a) refl
+        go (one n q a) = ap (needsOf 𝓛 (namesOf s)) q ∙ and-intro (needsAt first) true (below first (omega (arith, a .before))) refl
         go (two n q a b) =
             ap (needsOf 𝓛 (namesOf s)) q
-            ∙ and-intro (needsAt first) (needsAt second && true) (below first a)
-            (and-intro (needsAt second) true (below second b) refl)
+            ∙ and-intro (needsAt first) (needsAt second && true) (below first (omega (arith, a .before)))
+            (and-intro (needsAt second) true (below second (omega (arith, b .before))) refl)
 
-  need-under : {k j : ℕ} → Under s k j → k < nodeCount s → needsAt k ≡ true → needAt 𝓛 s j ≡ true
-  need-under {k} itself h e = own-need k e
-  need-under {k} (inFirst c u) h e =
-      let w = first-need k (children s ok k h) c e in need-under u (omega (arith, w .0)) (w .1)
-  need-under {k} (inSecond c u) h e =
-      let w = second-need k (children s ok k h) c e in need-under u (omega (arith, w .0)) (w .1)
+  need-in :
+      (n k j : ℕ) → k < n → k < nodeCount s → liesIn s (node s j) (node s k) ≡ true → needsAt k ≡ true →
+      needAt 𝓛 s j ≡ true
+  need-in zero k j l h t e = absurd (not-suc-le-zero l)
+  need-in (suc n) k j l h t e =
+      ⊎-elim (λ same. ap (needAt 𝓛 s) (sym same) ∙ own-need k e)
+      (⊎-elim
+      (λ c.
+      let w = first-need k (children s ok k h) (c .0) e in
+      need-in n (first k) j (omega (arith, w .0)) (omega (arith, w .0)) (c .1) (w .1))
+      (λ c.
+      let w = second-need k (children s ok k h) (c .0) e in
+      need-in n (second k) j (omega (arith, w .0)) (omega (arith, w .0)) (c .1) (w .1)))
+      (node-cases s ok k h j t)
 
   last : nodeCount s - 1 < nodeCount s
   last = omega (arith, few-bounds (layoutOf s) (ok .laid .few) .1 .1 .0)
 
+  -- every node lies in the last
+  in-last : (j : ℕ) → j < nodeCount s → liesIn s (node s j) (node s (nodeCount s - 1)) ≡ true
+  in-last j h =
+      let e : partCount s - 1 ≡ node s (nodeCount s - 1) = omega arith in
+      subst (λ p. liesIn s (node s j) p ≡ true) e
+      (lies-last s (ok .joined) (few-parts (ok .laid)) (node s j) (omega arith))
+
   pub everywhere :
       needs 𝓛 (namesOf s) (tree s) ≡ true → (k : ℕ) → k < nodeCount s → needAt 𝓛 s k ≡ true
-  everywhere e k h = need-under (under-last s ok k h) last e
+  everywhere e k h = need-in (nodeCount s) (nodeCount s - 1) k last last (in-last k h) e
 
   module _ (all : (k : ℕ) → k < nodeCount s → needAt 𝓛 s k ≡ true) where
     enough-below : (n k : ℕ) → k < n → k < nodeCount s → needsAt k ≡ true
@@ -111,8 +129,8 @@ module _ (𝓛 : Lattice ℕ) (s : List ℕ) (ok : Checked s) where
       (λ k h.
       not-false _ (first-at-end (λ k. not (needAt 𝓛 s k)) (nodeCount s) (eqb-true _ _ e) k h)))
 
-  -- the smallest failing node under the last is the first of all
-  pub failing-first : (r : ℕ) → Smallest (FailsUnder 𝓛 s (nodeCount s - 1)) (nodeCount s) r → r ≡ firstFailing 𝓛 s
+  -- the smallest failing node in the last is the first of all
+  pub failing-first : (r : ℕ) → Smallest (FailsIn 𝓛 s (nodeCount s - 1)) (nodeCount s) r → r ≡ firstFailing 𝓛 s
   failing-first r w =
       elim (decLt r (nodeCount s)) [
         | yes l ↦
@@ -128,5 +146,5 @@ module _ (𝓛 : Lattice ℕ) (s : List ℕ) (ok : Checked s) where
           (λ e.
           omega (
             arith,
-            w .least k (under-last s ok k (omega (arith, w .within)), not-true (needAt 𝓛 s k) e),
+            w .least k (in-last k (omega (arith, w .within)), not-true (needAt 𝓛 s k) e),
           ))

@@ -1,57 +1,122 @@
--- The failing nodes under a node: those under its children, and the node itself if its own need fails.
+-- The failing nodes in a node: those in its children, and the node itself if its own need fails.
 use mathlib.Core.Path.{_≡_, refl, sym, ap, _∙_, subst}
 use mathlib.Core.Bool.{true, false, true≢false}
 use mathlib.Core.List.{List}
 use mathlib.Core.Logic.{_⊎_, inl, inr, ⊎-elim}
-use Prim.Native.Nat.{ℕ, _<_}
+use Prim.Native.Nat.{ℕ, _≤_, _<_}
 use native.Mathlib.Omega.{arith}
+use lib.Dec.{eqb, ltb}
+use borrow.Author.Tests.{eqb-true, ltb-true}
 use Rattle.prelude.specs.Search.{lesser}
+use Rattle.prelude.proofs.Bools.{and-left, by-cases}
 use Rattle.layout.specs.declared.parts.Part.{Part}
-use Rattle.layout.specs.Layout.{nodeCount}
+use Rattle.layout.specs.Layout.{expressionCount, nodeCount}
 use Rattle.layout.specs.Entries.{partOf, node}
+use Rattle.layout.proofs.Layouts.{few-parts}
+use Rattle.fields.specs.Roles.{expression, child}
+use Rattle.fields.specs.Fields.{fieldOf}
 use Rattle.fields.specs.Children.{firstChild, secondChild, childCount}
-use Rattle.flow.specs.Flow.{Levels, Under, itself, inFirst, inSecond, Smallest, FailsUnder, lattice}
+use Rattle.entries.proofs.Holding.{holds-expression, right-field}
+use Rattle.uses.proofs.Used.{used-of}
+use Rattle.scope.specs.Reach.{liesIn}
+use Rattle.scope.specs.Contracts.{FieldUses}
+use Rattle.scope.proofs.Reaching.{lies-self, lies-deeper, lies-cases, lies-below}
+use Rattle.script.specs.Checked.{Checked}
+use Rattle.flow.specs.Flow.{Levels, Smallest, FailsIn, lattice}
 use Rattle.flow.specs.Needs.{needAt}
 use Rattle.flow.proofs.Least.{smallest-same, smallest-either}
+use Rattle.flow.proofs.Shapes.{Children, none, one, two, children, child-field}
 
-module _ (l : Levels) (s : List ℕ) (k : ℕ) where
+module _ (s : List ℕ) (k : ℕ) where
   abbrev part : Part
   part = partOf s (node s k)
 
-  -- node j lies under a child of k
-  abbrev Below : ℕ → Type 0
+  -- node j lies in a child of k
+  abbrev pub Below : ℕ → Type 0
   Below j =
-      ((0 < childCount (part .kind)) × Under s (firstChild part) j)
-      ⊎ ((1 < childCount (part .kind)) × Under s (secondChild part) j)
+      ((0 < childCount (part .kind)) × (liesIn s (node s j) (node s (firstChild part)) ≡ true))
+      ⊎ ((1 < childCount (part .kind)) × (liesIn s (node s j) (node s (secondChild part)) ≡ true))
 
-  abbrev pub FailsBelow : ℕ → Type 0
-  FailsBelow j = Below j × (needAt (lattice l) s j ≡ false)
+  abbrev pub FailsBelow : Levels → ℕ → Type 0
+  FailsBelow l j = Below j × (needAt (lattice l) s j ≡ false)
 
-  under-cases : (j : ℕ) → Under s k j → (k ≡ j) ⊎ Below j
-  under-cases j itself = inl refl
-  under-cases j (inFirst h u) = inr (inl (h, u))
-  under-cases j (inSecond h u) = inr (inr (h, u))
+  in-first :
+      (q : ℕ) → Children s k → 0 < childCount (part .kind) → liesIn s q (node s (firstChild part)) ≡ true →
+      liesIn s q (node s k) ≡ true
+  in-first q (none n e) h t = absurd (omega arith)
+  in-first q (one n e a) h t = lies-deeper s q a t
+  in-first q (two n e a b) h t = lies-deeper s q a t
 
-  under-below : (j : ℕ) → Below j → Under s k j
-  under-below j = ⊎-elim (λ h. inFirst (h .0) (h .1)) (λ h. inSecond (h .0) (h .1))
+  in-second :
+      (q : ℕ) → Children s k → 1 < childCount (part .kind) → liesIn s q (node s (secondChild part)) ≡ true →
+      liesIn s q (node s k) ≡ true
+  in-second q (none n e) h t = absurd (omega arith)
+  in-second q (one n e a) h t = absurd (omega arith)
+  in-second q (two n e a b) h t = lies-deeper s q b t
 
-  -- node k among the failing ones
-  module _ (h : k < nodeCount s) (f : ℕ) (w : Smallest FailsBelow (nodeCount s) f) where
-    pub passes : needAt (lattice l) s k ≡ true → Smallest (FailsUnder (lattice l) s k) (nodeCount s) f
-    passes e =
-        smallest-same FailsBelow (nodeCount s) (FailsUnder (lattice l) s k) f (λ j u. (under-below j (u .0), u .1))
-        (λ j u.
-        ⊎-elim (λ q. absurd (true≢false (sym e ∙ ap (needAt (lattice l) s) q ∙ u .1))) (λ b. (b, u .1))
-        (under-cases j (u .0)))
-        w
+module _ (s : List ℕ) (ok : Checked s) (k : ℕ) (h : k < nodeCount s) where
+  -- a field that uses a node holds a child
+  is-child :
+      {f u : ℕ} → FieldUses s (node s k) f u → expressionCount s ≤ u →
+      (fieldOf s (node s k) f .role ≡ child) × (u ≡ node s (fieldOf s (node s k) f .value))
+  is-child {f} {u} w l =
+      by-cases
+      (λ v. v ≡ u → (fieldOf s (node s k) f .role ≡ child) × (u ≡ node s (fieldOf s (node s k) f .value)))
+      (eqb (fieldOf s (node s k) f .role) expression)
+      (λ e v.
+      let t =
+      sym (holds-expression s (node s k) (fieldOf s (node s k) f) (eqb-true _ _ e))
+      ∙ right-field s (ok .joined .sound) (node s k) f (w .known) (w .inside) in
+      absurd
+      (omega (
+        arith,
+        ltb-true (fieldOf s (node s k) f .value) (expressionCount s)
+            (and-left (ltb (fieldOf s (node s k) f .value) (expressionCount s)) _ t),
+      )))
+      (λ _.
+      by-cases
+      (λ v. v ≡ u → (fieldOf s (node s k) f .role ≡ child) × (u ≡ node s (fieldOf s (node s k) f .value)))
+      (eqb (fieldOf s (node s k) f .role) child) (λ e v. (eqb-true _ _ e, sym v))
+      (λ _ v. absurd (omega (arith, w .known, w .before, few-parts (ok .laid)))))
+      (sym (used-of s (node s k) f) ∙ w .same)
 
-    only : Smallest (λ j. k ≡ j) (nodeCount s) k
-    only = record { within = omega arith; holds = λ _. refl; least = λ j e. omega arith }
+  pub node-cases : (j : ℕ) → liesIn s (node s j) (node s k) ≡ true → (k ≡ j) ⊎ Below s k j
+  node-cases j t =
+      lies-cases s (node s j) (node s k) (omega arith) t (λ e. inl (omega arith))
+      (λ f u w v.
+      let c = is-child w (omega (arith, lies-below s (node s j) u (omega (arith, w .before)) v)) in
+      let inside = subst (λ u. liesIn s (node s j) u ≡ true) (c .1) v in
+      inr
+      (⊎-elim (λ e. inl (e .0, subst (λ i. liesIn s (node s j) (node s i) ≡ true) (sym (e .1)) inside))
+      (λ e. inr (e .0, subst (λ i. liesIn s (node s j) (node s i) ≡ true) (sym (e .1)) inside))
+      (child-field s ok k h f (w .inside) (c .0))))
 
-    pub fails : needAt (lattice l) s k ≡ false → Smallest (FailsUnder (lattice l) s k) (nodeCount s) (lesser k f)
-    fails e =
-        smallest-same (λ j. (k ≡ j) ⊎ FailsBelow j) (nodeCount s) (FailsUnder (lattice l) s k) (lesser k f)
-        (λ j.
-        ⊎-elim (λ q. subst (FailsUnder (lattice l) s k) q (itself, e)) (λ u. (under-below j (u .0), u .1)))
-        (λ j u. ⊎-elim inl (λ b. inr (b, u .1)) (under-cases j (u .0)))
-        (smallest-either (λ j. k ≡ j) (nodeCount s) FailsBelow k f only w)
+  node-below : (j : ℕ) → Below s k j → liesIn s (node s j) (node s k) ≡ true
+  node-below j =
+      ⊎-elim (λ w. in-first s k (node s j) (children s ok k h) (w .0) (w .1))
+      (λ w. in-second s k (node s j) (children s ok k h) (w .0) (w .1))
+
+-- node k among the failing ones
+module _
+    (l : Levels) (s : List ℕ) (ok : Checked s) (k : ℕ) (h : k < nodeCount s) (f : ℕ)
+    (w : Smallest (FailsBelow s k l) (nodeCount s) f) where
+  pub passes : needAt (lattice l) s k ≡ true → Smallest (FailsIn (lattice l) s k) (nodeCount s) f
+  passes e =
+      smallest-same (FailsBelow s k l) (nodeCount s) (FailsIn (lattice l) s k) f
+      (λ j u. (node-below s ok k h j (u .0), u .1))
+      (λ j u.
+      ⊎-elim (λ q. absurd (true≢false (sym e ∙ ap (needAt (lattice l) s) q ∙ u .1))) (λ b. (b, u .1))
+      (node-cases s ok k h j (u .0)))
+      w
+
+  only : Smallest (λ j. k ≡ j) (nodeCount s) k
+  only = record { within = omega arith; holds = λ _. refl; least = λ j e. omega arith }
+
+  pub fails : needAt (lattice l) s k ≡ false → Smallest (FailsIn (lattice l) s k) (nodeCount s) (lesser k f)
+  fails e =
+      smallest-same (λ j. (k ≡ j) ⊎ FailsBelow s k l j) (nodeCount s) (FailsIn (lattice l) s k) (lesser k f)
+      (λ j.
+      ⊎-elim (λ q. subst (FailsIn (lattice l) s k) q (lies-self s (node s k), e))
+      (λ u. (node-below s ok k h j (u .0), u .1)))
+      (λ j u. ⊎-elim inl (λ b. inr (b, u .1)) (node-cases s ok k h j (u .0)))
+      (smallest-either (λ j. k ≡ j) (nodeCount s) (FailsBelow s k l) k f only w)

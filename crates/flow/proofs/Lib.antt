@@ -7,7 +7,6 @@ pub mod Shapes
 pub mod FailingNodes
 pub mod NodeFlows
 pub mod NodeReads
-pub mod UnderLast
 pub mod Everywhere
 pub mod Theorems
 pub mod ByKind

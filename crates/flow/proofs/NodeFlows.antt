@@ -23,7 +23,7 @@ use Rattle.flow.specs.declared.nodes.Own.{Own}
 use Rattle.language.specs.Kinds as kind
 use Rattle.language.specs.Kinds.{kindOf, hasWrite, hasTest, childrenOf}
 use Rattle.flow.specs.Nodes.{ownOf, writeFrom, testFrom, ownNeed, pairNeed, bothFrom, flowFrom, OwnWithin, FlowWithin}
-use Rattle.flow.specs.Flow.{Levels, Smallest, FailsUnder, lattice, Ready, Joins, Meets, FlowAt}
+use Rattle.flow.specs.Flow.{Levels, Smallest, FailsIn, lattice, Ready, Joins, Meets, FlowAt}
 use Rattle.flow.specs.Needs.{needAt}
 use Rattle.flow.proofs.BookLevels.{top-is, bottom-is, top-inside, bottom-inside, order-said, join-kept, meet-kept, join-inside, meet-inside, write-inside, test-inside}
 use Rattle.flow.proofs.ByKind.{together, pairHolds, write-by-kind, test-by-kind, need-by-kind}
@@ -37,7 +37,7 @@ pub record PartsAt (l : Levels) (s : List ℕ) (k : ℕ) (parts : Flow) (pair : 
   pub test : parts .test ≡ together (lattice l) (namesOf s) (childrenOf (processOf s k)) .test
   pub need : pair ≡ pairHolds (lattice l) (namesOf s) (partOf s (node s k) .kind) (childrenOf (processOf s k))
   pub inside : FlowWithin (l .book .count) parts
-  pub failing : Smallest (FailsBelow l s k) (nodeCount s) (parts .failing)
+  pub failing : Smallest (FailsBelow s k l) (nodeCount s) (parts .failing)
 
 -- node k, from its children together
 module _ {s : List ℕ} {c : Script} {l : Levels} (ready : Ready s c l) (k : ℕ) (h : k < nodeCount s) where
@@ -94,10 +94,10 @@ module _ {s : List ℕ} {c : Script} {l : Levels} (ready : Ready s c l) (k : ℕ
                 test = test-inside (ready .ordered) (partOf s (node s k) .kind) own parts known (at .inside);
               });
           failing =
-              subst (λ f. Smallest (FailsUnder (lattice l) s k) (nodeCount s) (f .failing)) (sym e)
-              (by-cases (Smallest (FailsUnder (lattice l) s k) (nodeCount s)) needHere
-              (λ t. passes l s k h (parts .failing) (at .failing) (sym need-same ∙ t))
-              (λ t. fails l s k h (parts .failing) (at .failing) (sym need-same ∙ t)));
+              subst (λ f. Smallest (FailsIn (lattice l) s k) (nodeCount s) (f .failing)) (sym e)
+              (by-cases (Smallest (FailsIn (lattice l) s k) (nodeCount s)) needHere
+              (λ t. passes l s (ready .checked) k h (parts .failing) (at .failing) (sym need-same ∙ t))
+              (λ t. fails l s (ready .checked) k h (parts .failing) (at .failing) (sym need-same ∙ t)));
         }
 
   abbrev count : ℕ
@@ -111,13 +111,13 @@ module _ {s : List ℕ} {c : Script} {l : Levels} (ready : Ready s c l) (k : ℕ
 
   pub first-view : Children s k → (count ≡ 0 → ⊥) → first < k
   first-view (none n q) m = absurd (m n)
-  first-view (one n q a) m = a
-  first-view (two n q a b) m = a
+  first-view (one n q a) m = omega (arith, a .before)
+  first-view (two n q a b) m = omega (arith, a .before)
 
   pub second-view : Children s k → (count ≡ 0 → ⊥) → (count ≡ 1 → ⊥) → second < k
   second-view (none n q) l m = absurd (l n)
   second-view (one n q a) l m = absurd (m n)
-  second-view (two n q a b) l m = b
+  second-view (two n q a b) l m = omega (arith, b .before)
 
   pub parts-none :
       Children s k → count ≡ 0 →
@@ -129,8 +129,8 @@ module _ {s : List ℕ} {c : Script} {l : Levels} (ready : Ready s c l) (k : ℕ
         need = sym (ap (pairHolds (lattice l) (namesOf s) (partOf s (node s k) .kind)) q);
         inside = record { write = top-inside (ready .ordered); test = bottom-inside (ready .ordered) };
         failing =
-            subst (Smallest (FailsBelow l s k) (nodeCount s)) (sym (nodes-are (ready .laid)))
-            (smallest-none (FailsBelow l s k) (nodeCount s)
+            subst (Smallest (FailsBelow s k l) (nodeCount s)) (sym (nodes-are (ready .laid)))
+            (smallest-none (FailsBelow s k l) (nodeCount s)
             (λ j u. ⊎-elim (λ h. absurd (omega (arith, h .0))) (λ h. absurd (omega (arith, h .0))) (u .0)));
       }
   parts-none (one n q a) m = absurd (omega arith)
@@ -145,7 +145,7 @@ module _ {s : List ℕ} {c : Script} {l : Levels} (ready : Ready s c l) (k : ℕ
         need = sym (ap (pairHolds (lattice l) (namesOf s) (partOf s (node s k) .kind)) q);
         inside = a .inside;
         failing =
-            smallest-same (FailsUnder (lattice l) s first) (nodeCount s) (FailsBelow l s k) (f .failing)
+            smallest-same (FailsIn (lattice l) s first) (nodeCount s) (FailsBelow s k l) (f .failing)
             (λ j u. (inl (omega arith, u .0), u .1))
             (λ j u. (⊎-elim (λ h. h .1) (λ h. absurd (omega (arith, h .0))) (u .0), u .1))
             (a .failing);
@@ -191,14 +191,14 @@ module _ {s : List ℕ} {c : Script} {l : Levels} (ready : Ready s c l) (k : ℕ
               (join-inside (ready .ordered) (f .test) (g .test) (a .inside .test) (b .inside .test));
         }
 
-    -- the failing nodes below k are those under its first child and those under its second
-    failing-both : count ≡ 2 → Smallest (FailsBelow l s k) (nodeCount s) (lesser (f .failing) (g .failing))
+    -- the failing nodes below k are those in its first child and those in its second
+    failing-both : count ≡ 2 → Smallest (FailsBelow s k l) (nodeCount s) (lesser (f .failing) (g .failing))
     failing-both n =
-        smallest-same (λ j. FailsUnder (lattice l) s first j ⊎ FailsUnder (lattice l) s second j) (nodeCount s)
-        (FailsBelow l s k) (lesser (f .failing) (g .failing))
+        smallest-same (λ j. FailsIn (lattice l) s first j ⊎ FailsIn (lattice l) s second j) (nodeCount s)
+        (FailsBelow s k l) (lesser (f .failing) (g .failing))
         (λ j. ⊎-elim (λ u. (inl (omega arith, u .0), u .1)) (λ u. (inr (omega arith, u .0), u .1)))
         (λ j u. ⊎-elim (λ h. inl (h .1, u .1)) (λ h. inr (h .1, u .1)) (u .0))
-        (smallest-either (FailsUnder (lattice l) s first) (nodeCount s) (FailsUnder (lattice l) s second) (f .failing)
+        (smallest-either (FailsIn (lattice l) s first) (nodeCount s) (FailsIn (lattice l) s second) (f .failing)
         (g .failing)
         (a .failing)
         (b .failing))
@@ -217,5 +217,5 @@ module _ {s : List ℕ} {c : Script} {l : Levels} (ready : Ready s c l) (k : ℕ
               ∙ sym (ap (pairHolds (lattice l) (namesOf s) (partOf s (node s k) .kind)) q);
           inside = subst (FlowWithin (l .book .count)) (sym e) inside-both;
           failing =
-              subst (λ f. Smallest (FailsBelow l s k) (nodeCount s) (f .failing)) (sym e) (failing-both n);
+              subst (λ f. Smallest (FailsBelow s k l) (nodeCount s) (f .failing)) (sym e) (failing-both n);
         }

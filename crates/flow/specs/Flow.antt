@@ -1,6 +1,6 @@
 -- Write level, test level and first failing node of a checked script under a checked book; what the walks ask and give.
 use mathlib.Core.Path.{_≡_}
-use mathlib.Core.Bool.{false}
+use mathlib.Core.Bool.{true, false}
 use mathlib.Core.List.{List}
 use Prim.Native.Nat.{ℕ, _≤_, _<_}
 use Rattle.book.specs.declared.Book.{Book}
@@ -15,7 +15,7 @@ use Rattle.layout.specs.declared.parts.Part.{Part}
 use Rattle.layout.specs.Layout.{expressionsAt, expressionCount, nodeCount, layoutOf}
 use Rattle.layout.specs.Contracts.{Laid}
 use Rattle.layout.specs.Entries.{partOf, node}
-use Rattle.fields.specs.Children.{firstChild, secondChild, childCount}
+use Rattle.scope.specs.Reach.{liesIn}
 use Rattle.tree.specs.Tree.{namesOf, expressionOf, processOf, tree}
 use Rattle.script.specs.Checked.{Checked, Levelled}
 use Rattle.flow.specs.declared.nodes.Flow.{Flow}
@@ -23,23 +23,15 @@ use Rattle.flow.specs.declared.nodes.Own.{Own}
 use Rattle.flow.specs.Needs.{needAt, firstFailing}
 use Rattle.flow.specs.Nodes.{ownOf, OwnWithin, FlowWithin}
 
--- node j lies under node k: it is k, or it lies under a child of k
-pub data Under (s : List ℕ) : ℕ → ℕ → Type 0 where
-  itself : {k : ℕ} → Under s k k
-  inFirst :
-      {k j : ℕ} → 0 < childCount (partOf s (node s k) .kind) → Under s (firstChild (partOf s (node s k))) j → Under s k j
-  inSecond :
-      {k j : ℕ} → 1 < childCount (partOf s (node s k) .kind) → Under s (secondChild (partOf s (node s k))) j → Under s k j
-
 -- the smallest number that P holds of, or n if it holds of none below n
 pub record Smallest (P : ℕ → Type 0) (n r : ℕ) : Type 0 where
   pub within : r ≤ n
   pub holds : r < n → P r
   pub least : (j : ℕ) → P j → r ≤ j
 
--- the nodes under k whose need fails
-abbrev pub FailsUnder : Lattice ℕ → List ℕ → ℕ → ℕ → Type 0
-FailsUnder 𝓛 s k j = Under s k j × (needAt 𝓛 s j ≡ false)
+-- the nodes in node k whose need fails
+abbrev pub FailsIn : Lattice ℕ → List ℕ → ℕ → ℕ → Type 0
+FailsIn 𝓛 s k j = (liesIn s (node s j) (node s k) ≡ true) × (needAt 𝓛 s j ≡ false)
 
 -- a book with its top and bottom, and its lattice
 pub record Levels : Type 0 where
@@ -117,7 +109,7 @@ pub record FlowAt (l : Levels) (s : List ℕ) (k : ℕ) (f : Flow) : Type 0 wher
   pub write : f .write ≡ writeLevel (lattice l) (namesOf s) (processOf s k)
   pub test : f .test ≡ testLevel (lattice l) (namesOf s) (processOf s k)
   pub inside : FlowWithin (l .book .count) f
-  pub failing : Smallest (FailsUnder (lattice l) s k) (nodeCount s) (f .failing)
+  pub failing : Smallest (FailsIn (lattice l) s k) (nodeCount s) (f .failing)
 
 -- .. of the whole script
 pub record FlowOf (l : Levels) (s : List ℕ) (f : Flow) : Type 0 where

@@ -2,7 +2,7 @@
 use mathlib.Core.Path.{_≡_, sym, ap, _∙_, subst}
 use mathlib.Core.Bool.{true, false, not}
 use mathlib.Core.List.{List}
-use Prim.Native.Nat.{ℕ, zero, suc, _+_, _*_, _<_}
+use Prim.Native.Nat.{ℕ, zero, suc, _<_}
 use native.Mathlib.Nat.{not-suc-le-zero}
 use native.Mathlib.Omega.{arith}
 use lib.Dec.{eqb}
@@ -11,14 +11,11 @@ use Rattle.prelude.proofs.Bools.{and-intro, or-second}
 use Rattle.language.specs.Shapes.{leavesAlone}
 use Rattle.layout.specs.Layout.{layoutOf, nameCount, nodeCount}
 use Rattle.layout.specs.Entries.{nameOf, session, isSession, node}
-use Rattle.fields.specs.Fields.{fieldCount}
-use Rattle.uses.specs.Uses.{used}
 use Rattle.scope.specs.Reach.{inReach}
 use Rattle.script.specs.Checked.{Checked}
 use Rattle.tree.specs.Tree.{processOf}
 use Rattle.layout.proofs.Layouts.{few-bounds}
-use Rattle.entries.proofs.Naming.{owned}
-use Rattle.scope.proofs.Reaching.{within-below, body-of, child-used}
+use Rattle.scope.proofs.Reaching.{body-before}
 use Rattle.tree.proofs.Views.{UsesName, NewName, NodeView, aNil, anAssign, aLet, anIf, aWhile, aSequence, anEmit, aLocal, aWatching, aWhen, aParallel, node-view}
 
 module _ (s : List ℕ) (ok : Checked s) where
@@ -26,12 +23,7 @@ module _ (s : List ℕ) (ok : Checked s) where
   pub reach-below :
       (x k : ℕ) → x < nameCount s → inReach s x (node s k) ≡ true → isSession s x ≡ false → k < nameOf s x .owner
   reach-below x k h r n =
-      let d : ℕ = node s (nameOf s x .owner) in
-      body-of s x (node s k) (sym (or-second (isSession s x) _ n) ∙ r)
-      (λ f l c w.
-      let v : used s (fieldCount * d + f) < d =
-      child-used s (ok .joined) d f (omega (arith, owned s (ok .joined .sound) x h n .inside)) l c in
-      omega (arith, v, within-below s d (used s (fieldCount * d + f)) (node s k) v w))
+      omega (arith, body-before s (ok .joined) x h n (node s k) (sym (or-second (isSession s x) _ n) ∙ r))
 
   module _ (x k : ℕ) (u : UsesName s (node s k) x 1) (h : k < nodeCount s) where
     -- a register is no signal

@@ -10,7 +10,7 @@ use native.Mathlib.Numerals.{add-one}
 use native.Mathlib.Omega.{arith}
 use native.Mathlib.Decide.{ℕ-discrete}
 use lib.Dec.{eqb}
-use lib.ListN.{getD, length, set, replicate, getD-replicate}
+use lib.ListN.{getD, length, set}
 use lib.Seq.{getD-set-same, getD-set-other}
 use borrow.Author.Tests.{eq-eqb, ne-eqb}
 use Rattle.prelude.proofs.Bools.{by-cases}
@@ -82,30 +82,26 @@ module _ (f : ℕ → Bool) where
       (λ t. count-longer m n (le-of-suc-le-suc l)))
       (eq-or-lt-of-le h)
 
--- a table that has for each v below m how often u is v below i
-abbrev pub Tally : (ℕ → ℕ) → ℕ → ℕ → List ℕ → Type 0
-Tally u m i t = (v : ℕ) → v < m → getD t v 0 ≡ count (λ k. eqb (u k) v) i
+-- a table that has for each v below m how often u is v below i, upon what it had before
+abbrev pub Tally : (ℕ → ℕ) → (ℕ → ℕ) → ℕ → ℕ → List ℕ → Type 0
+Tally before u m i t = (v : ℕ) → v < m → getD t v 0 ≡ before v + count (λ k. eqb (u k) v) i
 
-module _ (u : ℕ → ℕ) (m : ℕ) where
-  -- a loop that fills it: nothing, one value more below m, one that is not
-  pub tally-none : Tally u m 0 (replicate m 0)
-  unfolding count
-  tally-none v h = getD-replicate m v 0 0 h
-
+module _ (before u : ℕ → ℕ) (m : ℕ) where
+  -- a loop that fills it: one value more below m, one that is not
   pub tally-hit :
-      (t : List ℕ) (i v : ℕ) → length t ≡ m → v < m → v ≡ u i → Tally u m i t →
-      Tally u m (i + 1) (set t v (getD t v 0 + 1))
+      (t : List ℕ) (i v : ℕ) → length t ≡ m → v < m → v ≡ u i → Tally before u m i t →
+      Tally before u m (i + 1) (set t v (getD t v 0 + 1))
   tally-hit t i v n l e keeps w h =
       elim (ℕ-discrete w v) [
         | yes same ↦
             rw same
-            (getD-set-same t v _ 0 (omega arith) ∙ ap (λ k. k + 1) (keeps v l)
-            ∙ sym (count-hit (λ k. eqb (u k) v) i (eq-eqb _ _ (sym e))))
+            (getD-set-same t v _ 0 (omega arith)
+            ∙ omega (arith, keeps v l, count-hit (λ k. eqb (u k) v) i (eq-eqb _ _ (sym e))))
         | no other ↦
             getD-set-other t v w _ 0 other ∙ keeps w h
-            ∙ sym (count-miss (λ k. eqb (u k) w) i (ne-eqb _ _ (λ same. other (sym same ∙ sym e))))
+            ∙ sym (ap (λ n. before w + n) (count-miss (λ k. eqb (u k) w) i (ne-eqb _ _ (λ same. other (sym same ∙ sym e)))))
       ]
 
-  pub tally-miss : (t : List ℕ) (i : ℕ) → m ≤ u i → Tally u m i t → Tally u m (i + 1) t
+  pub tally-miss : (t : List ℕ) (i : ℕ) → m ≤ u i → Tally before u m i t → Tally before u m (i + 1) t
   tally-miss t i l keeps w h =
-      keeps w h ∙ sym (count-miss (λ k. eqb (u k) w) i (ne-eqb (u i) w (λ same. omega arith)))
+      keeps w h ∙ sym (ap (λ n. before w + n) (count-miss (λ k. eqb (u k) w) i (ne-eqb (u i) w (λ same. omega arith))))

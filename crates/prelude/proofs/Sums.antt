@@ -3,17 +3,12 @@ use mathlib.Core.Path.{_≡_, refl, sym, ap, ap₂, _∙_}
 use mathlib.Core.Bool.{Bool, true, false, cond}
 use mathlib.Core.Logic.{⊎-elim}
 use Prim.Native.Nat.{ℕ, zero, suc, _+_, _*_, _≤_, _<_}
-use native.Mathlib.Nat.{le-of-suc-le-suc, le-antisymm, eq-or-lt-of-le, suc-mul, zero-mul, zero-add, add-zero, add-le-add}
+use native.Mathlib.Nat.{le-of-suc-le-suc, le-antisymm, eq-or-lt-of-le, suc-mul, add-mul, zero-mul, zero-add, add-zero, add-le-add}
 use native.Mathlib.Decide.{decLt, ℕ-discrete}
 use native.Mathlib.Omega.{arith}
 use lib.Dec.{eqb, ltb}
 use borrow.Author.Tests.{lt-ltb, le-ltb, eq-eqb, ne-eqb}
-use Rattle.prelude.specs.Search.{count}
-
--- f 0 + .. + f (n - 1)
-unfoldable pub sum : (ℕ → ℕ) → ℕ → ℕ
-sum f zero = 0
-sum f (suc n) = sum f n + f n
+use Rattle.prelude.specs.Search.{count, sum}
 
 pub sum-none : (f : ℕ → ℕ) → sum f 0 ≡ 0
 unfolding sum
@@ -43,22 +38,42 @@ unfolding sum
 sum-nothing f zero e = refl
 sum-nothing f (suc n) e = omega (arith, sum-nothing f n (λ k h. e k (omega arith)), e n (omega arith))
 
+-- a sum holds each of its terms
+pub sum-holds : (f : ℕ → ℕ) (n k : ℕ) → k < n → f k ≤ sum f n
+unfolding sum
+sum-holds f zero k h = absurd (omega arith)
+sum-holds f (suc n) k h =
+    ⊎-elim (λ e. rw e (omega arith)) (λ l. omega (arith, sum-holds f n k l)) (eq-or-lt-of-le (le-of-suc-le-suc h))
+
+pub sum-found : (f : ℕ → ℕ) (n : ℕ) → 0 < sum f n → (k : ℕ) × (k < n) × (0 < f k)
+unfolding sum
+sum-found f zero h = absurd (omega arith)
+sum-found f (suc n) h =
+    elim (decLt 0 (f n)) [
+      | yes l ↦ (n, omega arith, l)
+      | no l ↦ let r = sum-found f n (omega arith) in (r .0, omega (arith, r .1), r .2)
+    ]
+
+-- a sum of 1 has one term
+pub sum-one : (f : ℕ → ℕ) (n i k : ℕ) → sum f n ≡ 1 → i < n → k < n → 0 < f i → 0 < f k → i ≡ k
+unfolding sum
+sum-one f zero i k e hi hk pi pk = absurd (omega arith)
+sum-one f (suc n) i k e hi hk pi pk =
+    ⊎-elim
+    (λ a.
+    ⊎-elim (λ b. a ∙ sym b) (λ b. absurd (omega (arith, e, pk, rw a at pi, sum-holds f n k b)))
+    (eq-or-lt-of-le (le-of-suc-le-suc hk)))
+    (λ a.
+    ⊎-elim (λ b. absurd (omega (arith, e, pi, rw b at pk, sum-holds f n i a)))
+    (λ b. sum-one f n i k (omega (arith, e, pi, sum-holds f n i a)) a b pi pk)
+    (eq-or-lt-of-le (le-of-suc-le-suc hk)))
+    (eq-or-lt-of-le (le-of-suc-le-suc hi))
+
 pub sum-longer : (f : ℕ → ℕ) (m n : ℕ) → m ≤ n → sum f m ≤ sum f n
 unfolding sum
 sum-longer f m zero h = rw (le-antisymm h (omega arith)) (omega arith)
 sum-longer f m (suc n) h =
     ⊎-elim (λ e. rw e (omega arith)) (λ l. omega (arith, sum-longer f m n (le-of-suc-le-suc l))) (eq-or-lt-of-le h)
-
--- by threes
-pub sum-threes : (f : ℕ → ℕ) (n : ℕ) → sum f (3 * n) ≡ sum (λ q. sum (λ i. f (3 * q + i)) 3) n
-unfolding sum
-sum-threes f zero = refl
-sum-threes f (suc n) =
-    let a : 3 * suc n ≡ suc (suc (suc (3 * n))) = omega arith in
-    let b : 3 * n ≡ 3 * n + 0 = omega arith in
-    let c : suc (3 * n) ≡ 3 * n + 1 = omega arith in
-    let d : suc (suc (3 * n)) ≡ 3 * n + 2 = omega arith in
-    ap (sum f) a ∙ omega (arith, sum-threes f n, ap f b, ap f c, ap f d)
 
 -- one place
 sum-at : (w : ℕ → ℕ) (u n : ℕ) → sum (λ q. cond (eqb u q) (w q) 0) n ≡ cond (ltb u n) (w u) 0
@@ -92,3 +107,14 @@ sum-by-value u w (suc m) n =
     once-more : (b : Bool) (c v : ℕ) → c * v + cond b v 0 ≡ cond b (suc c) c * v
     once-more true c v = sym (suc-mul c v)
     once-more false c v = add-zero (c * v)
+
+-- sums of sums, each value weighed once
+pub sum-exchanged :
+    (g : ℕ → ℕ → ℕ) (w : ℕ → ℕ) (m n : ℕ) →
+    sum (λ p. sum (λ q. g p q * w q) n) m ≡ sum (λ q. sum (λ p. g p q) m * w q) n
+unfolding sum
+sum-exchanged g w zero n = sym (sum-nothing (λ q. 0 * w q) n (λ q h. zero-mul (w q)))
+sum-exchanged g w (suc m) n =
+    ap (λ a. a + sum (λ q. g m q * w q) n) (sum-exchanged g w m n)
+    ∙ sym (sum-both (λ q. sum (λ p. g p q) m * w q) (λ q. g m q * w q) n)
+    ∙ sum-same _ _ n (λ q h. sym (add-mul (sum (λ p. g p q) m) (g m q) (w q)))

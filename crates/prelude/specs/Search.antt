@@ -1,7 +1,7 @@
--- Searches over the numbers below n, by a test that computes.
+-- Searches and sums over the numbers below n, by a test or a function that computes.
 -- 01 says 'smallest', 'first', 'some' and 'every' of levels, names, expressions and nodes: always by these.
 use mathlib.Core.Bool.{Bool, cond, not}
-use Prim.Native.Nat.{ℕ, zero, suc}
+use Prim.Native.Nat.{ℕ, zero, suc, _+_}
 use lib.Dec.{ltb, leb}
 
 -- the first of i, i + 1, .., i + m - 1 at which the test holds, or i + m
@@ -25,6 +25,11 @@ all f n = not (any (λ k. not (f k)) n)
 unfoldable pub count : (ℕ → Bool) → ℕ → ℕ
 count f zero = 0
 count f (suc n) = cond (f n) (suc (count f n)) (count f n)
+
+-- f 0 + .. + f (n - 1)
+unfoldable pub sum : (ℕ → ℕ) → ℕ → ℕ
+sum f zero = 0
+sum f (suc n) = sum f n + f n
 
 -- the lesser of two numbers
 abbrev pub lesser : ℕ → ℕ → ℕ

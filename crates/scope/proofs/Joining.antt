@@ -1,20 +1,22 @@
 -- What a file whose parts are right and used once tells of its fields: a part is used by one field, of a later part.
-use mathlib.Core.Path.{_≡_, refl, sym, _∙_}
+use mathlib.Core.Path.{_≡_, sym, _∙_, subst}
 use mathlib.Core.Bool.{true}
 use mathlib.Core.List.{List}
-use Prim.Native.Nat.{ℕ, suc, _/_, _%_, _<_}
+use Prim.Native.Nat.{ℕ, suc, _<_}
 use native.Mathlib.Omega.{arith}
 use lib.Dec.{eqb, ltb}
 use borrow.Author.Tests.{ltb-true, eqb-true, eq-eqb}
 use Rattle.prelude.proofs.Bools.{and-right, by-cases}
-use Rattle.prelude.proofs.Counts.{count-found, count-one}
+use Rattle.prelude.proofs.Counts.{count-found, count-some, count-one}
+use Rattle.prelude.proofs.Sums.{sum-holds, sum-found, sum-one}
 use Rattle.layout.specs.Layout.{mostParts, expressionCount, partCount}
 use Rattle.fields.specs.declared.Field.{Field}
 use Rattle.fields.specs.Roles.{expression, child}
-use Rattle.fields.specs.Fields.{fieldCount}
+use Rattle.fields.specs.Fields.{fieldCount, fieldOf}
 use Rattle.entries.specs.Faults.{holds}
 use Rattle.entries.proofs.Holding.{holds-expression, holds-child, right-field}
-use Rattle.uses.specs.Uses.{fieldAt, allFields, usedBy, used, timesUsed}
+use Rattle.uses.specs.Uses.{usedBy, used, timesIn, timesUsed}
+use Rattle.scope.specs.Contracts.{FieldUses}
 use Rattle.scope.specs.Joined.{Joined}
 
 module _ (s : List ℕ) (q : ℕ) (x : Field) where
@@ -29,27 +31,36 @@ module _ (s : List ℕ) (q : ℕ) (x : Field) where
       (λ m l. absurd (omega arith)))
 
 module _ (s : List ℕ) (joined : Joined s) where
-  -- what field i uses comes before the part that has the field
-  pub used-earlier : (i : ℕ) → i < allFields s → used s i < mostParts → used s i < i / fieldCount
+  -- a field that uses a part uses one before its own
+  pub field-uses : (p f q : ℕ) → p < partCount s → f < fieldCount → used s p f ≡ q → q < mostParts → FieldUses s p f q
   unfolding used
-  used-earlier i h =
-      uses-earlier s (i / fieldCount) (fieldAt s i)
-      (right-field s (joined .sound) (i / fieldCount) (i % fieldCount) (omega arith) (omega arith))
+  field-uses p f q h l e small =
+      let b = uses-earlier s p (fieldOf s p f) (right-field s (joined .sound) p f h l) (subst (λ u. u < mostParts) (sym e) small) in
+      record { known = h; inside = l; same = e; before = subst (λ u. u < p) e b }
 
-  -- each part but the last is used by a field
-  pub user : (q : ℕ) → suc q < partCount s → (i : ℕ) × (i < allFields s) × (used s i ≡ q)
-  unfolding timesUsed
-  user q h =
-      let r = count-found (λ i. eqb (used s i) q) (allFields s) (omega (arith, joined .once q h)) in
-      (r .0, r .1, eqb-true (used s (r .0)) q (r .2))
+  module _ (q : ℕ) (h : suc q < partCount s) (few : q < mostParts) where
+    -- each part but the last is used by a field
+    pub user : (p : ℕ) × (f : ℕ) × FieldUses s p f q
+    unfolding timesUsed
+    user =
+        let r = sum-found (timesIn s q) (partCount s) (omega (arith, joined .once q h)) in
+        let t = count-found (λ f. eqb (used s (r .0) f) q) fieldCount (r .2) in
+        (r .0, t .0, field-uses (r .0) (t .0) q (r .1) (t .1) (eqb-true (used s (r .0) (t .0)) q (t .2)) few)
 
-  -- no part is used by two fields
-  pub used-once :
-      (i k : ℕ) → i < allFields s → k < allFields s → used s i < mostParts → used s i ≡ used s k → i ≡ k
-  unfolding timesUsed
-  used-once i k hi hk l e =
-      count-one (λ j. eqb (used s j) (used s i)) (allFields s) i k
-      (joined .once (used s i) (omega (arith, used-earlier i hi l)))
-      hi hk
-      (eq-eqb (used s i) (used s i) refl)
-      (eq-eqb (used s k) (used s i) (sym e))
+  module _ {p f q m g : ℕ} (a : FieldUses s p f q) (b : FieldUses s m g q) where
+    times : {p f : ℕ} → FieldUses s p f q → 0 < timesIn s q p
+    times {p} {f} u = count-some (λ f. eqb (used s p f) q) fieldCount f (u .inside) (eq-eqb _ _ (u .same))
+
+    -- no part is used by two fields
+    pub used-once : (p ≡ m) × (f ≡ g)
+    unfolding timesUsed
+    used-once =
+        let once : timesUsed s q ≡ 1 = joined .once q (omega (arith, a .known, a .before)) in
+        let part : p ≡ m = sum-one (timesIn s q) (partCount s) p m once (a .known) (b .known) (times a) (times b) in (
+          part,
+          count-one (λ f. eqb (used s p f) q) fieldCount f g
+              (omega (arith, once, times a, sum-holds (timesIn s q) (partCount s) p (a .known)))
+              (a .inside) (b .inside)
+              (eq-eqb _ _ (a .same))
+              (eq-eqb _ _ (subst (λ n. used s n g ≡ q) (sym part) (b .same))),
+        )

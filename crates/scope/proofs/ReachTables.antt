@@ -1,8 +1,8 @@
 -- A table of the names in reach that is filled from the last field to the first: a part is used by a later one.
-use mathlib.Core.Path.{_≡_, sym, ap, _∙_, subst}
+use mathlib.Core.Path.{_≡_, sym, ap, ap₂, _∙_, subst}
 use mathlib.Core.Bool.{_||_}
 use mathlib.Core.List.{List}
-use Prim.Native.Nat.{ℕ, suc, _+_, _*_, _/_, _≤_, _<_}
+use Prim.Native.Nat.{ℕ, suc, _+_, _*_, _≤_, _<_}
 use native.Mathlib.Numerals.{lt-of-le-of-ne}
 use native.Mathlib.Omega.{arith}
 use native.Mathlib.Decide.{decLt, ℕ-discrete}
@@ -12,86 +12,96 @@ use Rattle.prelude.specs.Sets.{has, IsSet}
 use Rattle.layout.specs.Layout.{mostParts, nameCount, partCount}
 use Rattle.layout.specs.Entries.{isSession}
 use Rattle.fields.specs.Fields.{fieldCount}
-use Rattle.uses.specs.Uses.{used, allFields}
-use Rattle.scope.specs.Reach.{inReach}
-use Rattle.scope.specs.Contracts.{opens, KeepsReachAt, KeepsReachFrom}
+use Rattle.uses.specs.Uses.{used}
+use Rattle.scope.specs.Contracts.{FieldUses, opens, KeepsReachAt, KeepsReachFrom}
 use Rattle.scope.specs.Joined.{Joined}
-use Rattle.scope.proofs.Joining.{used-earlier, user, used-once}
+use Rattle.scope.proofs.Joining.{user}
 use Rattle.scope.proofs.Reaching.{reach-used, reach-last}
 
 module _ (s : List ℕ) (j : Joined s) (few : partCount s ≤ mostParts) where
   -- then so are those of all parts that only these fields can use
   pub right-from :
-      (i : ℕ) (sets : List ℕ) → KeepsReachFrom s i sets →
-      (q : ℕ) → q < partCount s → i ≤ fieldCount * q + fieldCount →
-      KeepsReachAt s q sets
-  right-from i sets h q l u =
+      (p : ℕ) (sets : List ℕ) → KeepsReachFrom s p 0 sets → (q : ℕ) → q < partCount s → p ≤ q + 1 → KeepsReachAt s q sets
+  right-from p sets h q l u =
       elim (decLt (suc q) (partCount s)) [
         | yes more ↦
-            let w = user s j q more in
-            let e : used s (w .0) ≡ q = w .2 in
-            let small : used s (w .0) < mostParts = omega arith in
-            subst (λ p. KeepsReachAt s p sets) e
-            (h .passed (w .0) (omega (arith, used-earlier s j (w .0) (w .1) small)) (w .1) small)
+            let w = user s j q more (omega arith) in
+            h .passed (w .0) (w .1) q (omega (arith, w .2 .before)) (w .2)
         | no end ↦
             let e : suc q ≡ partCount s = omega arith in
             λ x k. h .last q e x k ∙ sym (reach-last s j q x e k)
       ]
 
-  -- before the first field: part v is the last one
+  -- a later field to start from
+  pub fill-less :
+      (p f m g : ℕ) (sets : List ℕ) → fieldCount * p + f ≤ fieldCount * m + g → KeepsReachFrom s p f sets →
+      KeepsReachFrom s m g sets
+  fill-less p f m g sets l h =
+      record { long = h .long; last = h .last; passed = λ k i q a. h .passed k i q (omega arith) }
+
+  -- past the last field: part v is the last one
   pub fill-last :
-      (i v more : ℕ) (sets : List ℕ) → length sets ≡ mostParts → allFields s ≤ i → suc v ≡ partCount s →
-      IsSet (nameCount s) (isSession s) more → KeepsReachFrom s i (set sets v more)
-  fill-last i v more sets n h end new =
+      (p v more : ℕ) (sets : List ℕ) → length sets ≡ mostParts → partCount s ≤ p → suc v ≡ partCount s →
+      IsSet (nameCount s) (isSession s) more → KeepsReachFrom s p 0 (set sets v more)
+  fill-last p v more sets n h end new =
       record {
         long = simp length-set n;
         last =
             λ q e x l.
             let same : q ≡ v = omega arith in
             rw same (ap (λ m. has m x) (getD-set-same sets v more 0 (omega arith)) ∙ new x l);
-        passed = λ k l u _. absurd (omega arith);
+        passed = λ k g q l u. absurd (omega (arith, u .known, u .inside));
       }
 
   -- a field that uses no part
-  pub fill-skip : (i k : ℕ) (sets : List ℕ) → i ≤ suc k → mostParts ≤ used s k → KeepsReachFrom s i sets → KeepsReachFrom s k sets
-  fill-skip i k sets next none h =
+  pub fill-skip :
+      (p n f : ℕ) (sets : List ℕ) → n ≤ suc f → f < fieldCount → mostParts ≤ used s p f → KeepsReachFrom s p n sets →
+      KeepsReachFrom s p f sets
+  fill-skip p n f sets next inside none h =
       record {
         long = h .long;
         last = h .last;
         passed =
-            λ m l u part.
-            elim (ℕ-discrete k m) [
-              | yes e ↦ absurd (omega (arith, ap (used s) e))
-              | no e ↦ h .passed m (omega (arith, lt-of-le-of-ne l e)) u part
+            λ m g q l u.
+            elim (ℕ-discrete (fieldCount * p + f) (fieldCount * m + g)) [
+              | yes e ↦
+                  let part : m ≡ p = omega (arith, e, inside, u .inside) in
+                  let field : g ≡ f = omega (arith, e, inside, u .inside) in
+                  absurd (omega (arith, u .known, u .before, rw (part, field) at (u .same)))
+              | no e ↦ h .passed m g q (omega (arith, lt-of-le-of-ne l e)) u
             ];
       }
 
   -- a field that uses part v, whose set is made of that of the field's own part
   pub fill-more :
-      (i k v more : ℕ) (sets : List ℕ) → i ≤ suc k → k < allFields s → v ≡ used s k → v < mostParts →
-      IsSet (nameCount s) (λ x. opens s k x || has (getD sets (k / fieldCount) 0) x) more →
-      KeepsReachFrom s i sets → KeepsReachFrom s k (set sets v more)
-  fill-more i k v more sets next l e small new h =
-      let uses : used s k < mostParts = omega arith in
-      let earlier : used s k < k / fieldCount = used-earlier s j k l uses in
+      (p n f v more : ℕ) (sets : List ℕ) → n ≤ suc f → FieldUses s p f v →
+      IsSet (nameCount s) (λ x. opens s p f x || has (getD sets p 0) x) more →
+      KeepsReachFrom s p n sets → KeepsReachFrom s p f (set sets v more)
+  fill-more p n f v more sets next w new h =
       record {
         long = simp length-set (h .long);
-        last = λ q end. rw (getD-set-other sets v q more 0 (λ same. omega arith)) (h .last q end);
+        last = λ q end. rw (getD-set-other sets v q more 0 (λ same. omega (arith, w .before, w .known))) (h .last q end);
         passed =
-            λ m low high part.
-            elim (ℕ-discrete k m) [
+            λ m g q l u.
+            elim (ℕ-discrete v q) [
               | yes same ↦
-                  subst (λ p. KeepsReachAt s p (set sets v more)) (e ∙ ap (used s) same)
+                  subst (λ q. KeepsReachAt s q (set sets v more)) same
                   (λ x named.
-                  ap (λ n. has n x) (getD-set-same sets v more 0 (omega (arith, h .long)))
+                  ap (λ n. has n x) (getD-set-same sets v more 0 (omega (arith, h .long, w .before, w .known)))
                   ∙ new x named
-                  ∙ ap (λ b. opens s k x || b) (right-from i sets h (k / fieldCount) (omega arith) (omega arith) x named)
-                  ∙ sym (reach-used s j k x l uses named)
-                  ∙ ap (inReach s x) (sym e))
+                  ∙ ap (λ b. opens s p f x || b)
+                  (right-from (suc p) sets (fill-less p n (suc p) 0 sets (omega (arith, w .inside)) h) p (w .known)
+                  (omega arith) x named)
+                  ∙ sym (reach-used s j w x named))
               | no differ ↦
-                  rw
-                  (getD-set-other sets v (used s m) more 0
-                  (λ same. differ (used-once s j k m l high uses (sym (same ∙ e)))))
-                  (h .passed m (omega (arith, lt-of-le-of-ne low differ)) high part)
+                  rw (getD-set-other sets v q more 0 (λ e. differ (sym e)))
+                  (h .passed m g q (omega (arith, lt-of-le-of-ne l (other m g q u differ))) u)
             ];
       }
+    where
+      -- a field that uses another part is another field
+      other : (m g q : ℕ) → FieldUses s m g q → (v ≡ q → ⊥) → fieldCount * p + f ≡ fieldCount * m + g → ⊥
+      other m g q u differ e =
+          let part : m ≡ p = omega (arith, e, w .inside, u .inside) in
+          let field : g ≡ f = omega (arith, e, w .inside, u .inside) in
+          differ (sym (w .same) ∙ sym (ap₂ (used s) part field) ∙ u .same)

@@ -1,9 +1,9 @@
 -- The names in reach in a part: those in reach where it is used, and in the body of a declaration the declared name.
 -- So they can be found from the last part down.
 use mathlib.Core.Path.{_≡_, refl, sym, ap, _∙_, subst}
-use mathlib.Core.Bool.{Bool, true, false, _&&_, _||_, false≢true}
+use mathlib.Core.Bool.{Bool, true, false, _||_, false≢true}
 use mathlib.Core.List.{List}
-use Prim.Native.Nat.{ℕ, zero, suc, _+_, _*_, _/_, _%_, _≤_, _<_}
+use Prim.Native.Nat.{ℕ, zero, suc, _+_, _-_, _≤_, _<_}
 use native.Mathlib.Nat.{not-suc-le-zero}
 use native.Mathlib.Decide.{decLt, ℕ-discrete}
 use native.Mathlib.Omega.{arith}
@@ -20,190 +20,199 @@ use Rattle.layout.specs.Entries.{nameOf, isSession, node}
 use Rattle.fields.specs.Roles.{child, isNew}
 use Rattle.fields.specs.Fields.{fieldCount, fieldOf}
 use Rattle.entries.proofs.Holding.{holds-child, right-field}
-use Rattle.entries.proofs.Naming.{owned, is-new, named-new}
-use Rattle.uses.specs.Uses.{fieldAt, allFields, used}
-use Rattle.uses.proofs.Used.{field-of, used-of, used-child}
-use Rattle.scope.specs.Reach.{within, inBody, inReach}
-use Rattle.scope.specs.Contracts.{opens}
+use Rattle.entries.proofs.Naming.{Owned, owned, is-new, named-new}
+use Rattle.uses.specs.Uses.{used}
+use Rattle.uses.proofs.Used.{used-of, used-child}
+use Rattle.scope.specs.Reach.{liesIn, inBody, inReach}
+use Rattle.scope.specs.Contracts.{FieldUses, opens}
 use Rattle.scope.specs.Joined.{Joined}
-use Rattle.scope.proofs.Joining.{used-earlier, used-once}
+use Rattle.scope.proofs.Joining.{user, used-once}
 
 module _ (s : List ℕ) where
-  -- `within` at a part, from what it says of the parts before
-  abbrev inPart : ℕ → List (ℕ → Bool) → ℕ → Bool
-  inPart p before q =
-      eqb p q || any (λ f. getD before (used s (fieldCount * p + f)) (λ _. false) q) fieldCount
+  -- `liesIn` at a part, from what it says of the parts before
+  abbrev inPart : ℕ → ℕ → List Bool → Bool
+  inPart q p before = eqb q p || any (λ f. getD before (used s p f) false) fieldCount
 
-  pub within-self : (p : ℕ) → within s p p ≡ true
-  unfolding within entry
-  within-self p = or-first (eqb p p) _ (eq-eqb p p refl)
+  pub lies-self : (p : ℕ) → liesIn s p p ≡ true
+  unfolding liesIn entry
+  lies-self p = or-first (eqb p p) _ (eq-eqb p p refl)
 
-  pub within-step :
-      (p q f : ℕ) → f < fieldCount → used s (fieldCount * p + f) < p → within s (used s (fieldCount * p + f)) q ≡ true →
-      within s p q ≡ true
-  unfolding within entry
-  within-step p q f h l e =
-      or-true (eqb p q) _
-      (any-some (λ f. getD (course inPart p) (used s (fieldCount * p + f)) (λ _. false) q) fieldCount f h
-      (ap (λ g. g q) (earlier inPart (λ _. false) p (used s (fieldCount * p + f)) l) ∙ e))
+  -- what lies in a part that p uses lies in p
+  pub lies-deeper : {p f u : ℕ} (q : ℕ) → FieldUses s p f u → liesIn s q u ≡ true → liesIn s q p ≡ true
+  unfolding liesIn entry
+  lies-deeper {p} {f} {u} q w e =
+      or-true (eqb q p) _
+      (any-some (λ f. getD (course (inPart q) p) (used s p f) false) fieldCount f (w .inside)
+      (ap (λ v. getD (course (inPart q) p) v false) (w .same) ∙ earlier (inPart q) false p u (w .before) ∙ e))
 
   -- q is p, or lies in a part that a field of p uses
-  pub within-cases :
-      {M : Type 0} (p q : ℕ) → within s p q ≡ true → (p ≡ q → M) →
-      ((f : ℕ) → f < fieldCount → used s (fieldCount * p + f) < p → within s (used s (fieldCount * p + f)) q ≡ true → M) → M
-  unfolding within entry
-  within-cases {M} p q e here below =
-      or-cases (eqb p q) _ e (λ t. here (eqb-true p q t))
-      (λ t. go (some-of-any (λ f. getD (course inPart p) (used s (fieldCount * p + f)) (λ _. false) q) fieldCount t))
+  pub lies-cases :
+      {M : Type 0} (q p : ℕ) → p < partCount s → liesIn s q p ≡ true → (q ≡ p → M) →
+      ((f u : ℕ) → FieldUses s p f u → liesIn s q u ≡ true → M) → M
+  unfolding liesIn entry
+  lies-cases {M} q p h e here below =
+      or-cases (eqb q p) _ e (λ t. here (eqb-true q p t))
+      (λ t. go (some-of-any (λ f. getD (course (inPart q) p) (used s p f) false) fieldCount t))
     where
-      go : (f : ℕ) × (f < fieldCount) × (getD (course inPart p) (used s (fieldCount * p + f)) (λ _. false) q ≡ true) → M
+      go : (f : ℕ) × (f < fieldCount) × (getD (course (inPart q) p) (used s p f) false ≡ true) → M
       go r =
-          let u : ℕ = used s (fieldCount * p + r .0) in
+          let u : ℕ = used s p (r .0) in
           elim (decLt u p) [
-            | yes l ↦ below (r .0) (r .1) l (sym (ap (λ g. g q) (earlier inPart (λ _. false) p u l)) ∙ r .2)
-            | no l ↦
-                absurd (false≢true (sym (ap (λ g. g q) (not-earlier inPart (λ _. false) p u (omega arith))) ∙ r .2))
+            | yes l ↦
+                below (r .0) u (record { known = h; inside = r .1; same = refl; before = l })
+                (sym (earlier (inPart q) false p u l) ∙ r .2)
+            | no l ↦ absurd (false≢true (sym (not-earlier (inPart q) false p u (omega arith)) ∙ r .2))
           ]
 
+  lies-under : (n q p : ℕ) → p < n → p < partCount s → liesIn s q p ≡ true → q ≤ p
+  lies-under zero q p l h e = absurd (not-suc-le-zero l)
+  lies-under (suc n) q p l h e =
+      lies-cases q p h e (λ t. omega arith)
+      (λ f u w t. omega (arith, w .before, lies-under n q u (omega (arith, w .before)) (omega (arith, w .before)) t))
+
   -- a part has no greater number than the part in which it lies
-  pub within-below : (n p q : ℕ) → p < n → within s p q ≡ true → q ≤ p
-  within-below zero p q h e = absurd (not-suc-le-zero h)
-  within-below (suc n) p q h e =
-      within-cases p q e (λ t. omega arith)
-      (λ f l u w. omega (arith, within-below n (used s (fieldCount * p + f)) q (omega arith) w))
+  pub lies-below : (q p : ℕ) → p < partCount s → liesIn s q p ≡ true → q ≤ p
+  lies-below q p = lies-under (suc p) q p (omega arith)
 
-  -- the part and the field that field i is
-  field-at : (i : ℕ) → fieldCount * (i / fieldCount) + i % fieldCount ≡ i
-  field-at i = omega arith
+  -- where a part lies, what it uses lies
+  module _ {p f q : ℕ} (w : FieldUses s p f q) where
+    down-below : (n b : ℕ) → b < n → b < partCount s → liesIn s p b ≡ true → liesIn s q b ≡ true
+    down-below zero b l h e = absurd (not-suc-le-zero l)
+    down-below (suc n) b l h e =
+        lies-cases p b h e (λ t. subst (λ d. liesIn s q d ≡ true) t (lies-deeper q w (lies-self q)))
+        (λ g u v t.
+        lies-deeper q v (down-below n u (omega (arith, v .before)) (omega (arith, v .before)) t))
 
-  pub opens-of :
-      (q f x : ℕ) → f < fieldCount →
-      opens s (fieldCount * q + f) x
-      ≡ (eqb (fieldOf s q f .role) child && (isNew (fieldOf s q 0 .role) && eqb (fieldOf s q 0 .value) x))
-  opens-of q f x h =
-      let a : (fieldCount * q + f) / fieldCount ≡ q = omega arith in
-      let b : (fieldCount * q + f) % fieldCount ≡ f = omega arith in
-      rw (a, b)
+    pub lies-down : (b : ℕ) → b < partCount s → liesIn s p b ≡ true → liesIn s q b ≡ true
+    lies-down b = down-below (suc b) b (omega arith)
 
-module _ (s : List ℕ) (joined : Joined s) where
-  -- what lies in the part that field i uses ..
-  module _ (i : ℕ) (h : i < allFields s) (l : used s i < mostParts) where
-    within-down : (n b : ℕ) → b < n → within s b (i / fieldCount) ≡ true → within s b (used s i) ≡ true
-    within-down zero b u e = absurd (not-suc-le-zero u)
-    within-down (suc n) b u e =
-        within-cases s b (i / fieldCount) e
-        (λ t.
-        let same : fieldCount * b + i % fieldCount ≡ i = omega arith in
-        within-step s b (used s i) (i % fieldCount) (omega arith)
-        (subst (λ k. used s k < b) (sym same) (omega (arith, used-earlier s joined i h l)))
-        (subst (λ k. within s (used s k) (used s i) ≡ true) (sym same) (within-self s (used s i))))
-        (λ f a v w.
-        within-step s b (used s i) f a v (within-down n (used s (fieldCount * b + f)) (omega arith) w))
+-- .. and only there, but for the used part itself
+module _ (s : List ℕ) (joined : Joined s) {p f q : ℕ} (w : FieldUses s p f q) where
+  up-below : (n b : ℕ) → b < n → b < partCount s → liesIn s q b ≡ true → (q ≡ b → ⊥) → liesIn s p b ≡ true
+  up-below zero b l h e ne = absurd (not-suc-le-zero l)
+  up-below (suc n) b l h e ne =
+      lies-cases s q b h e (λ t. absurd (ne t))
+      (λ g u v t.
+      elim (ℕ-discrete q u) [
+        | yes same ↦
+            subst (λ d. liesIn s p d ≡ true)
+            (used-once s joined w (subst (FieldUses s b g) (sym same) v) .0) (lies-self s p)
+        | no other ↦
+            lies-deeper s p v (up-below n u (omega (arith, v .before)) (omega (arith, v .before)) t other)
+      ])
 
-    pub within-up :
-        (n b : ℕ) → b < n → b < partCount s → within s b (used s i) ≡ true → (b ≡ used s i → ⊥) →
-        within s b (i / fieldCount) ≡ true
-    within-up zero b u v e ne = absurd (not-suc-le-zero u)
-    within-up (suc n) b u v e ne =
-        within-cases s b (used s i) e (λ t. absurd (ne t))
-        (λ f a w t.
-        elim (ℕ-discrete (used s (fieldCount * b + f)) (used s i)) [
-          | yes q ↦
-              let same : i ≡ fieldCount * b + f = used-once s joined i (fieldCount * b + f) h (omega arith) l (sym q) in
-              subst (λ k. within s b k ≡ true) (omega arith) (within-self s b)
-          | no q ↦
-              within-step s b (i / fieldCount) f a w
-              (within-up n (used s (fieldCount * b + f)) (omega arith) (omega arith) t q)
-        ])
+  pub lies-up : (b : ℕ) → b < partCount s → liesIn s q b ≡ true → (q ≡ b → ⊥) → liesIn s p b ≡ true
+  lies-up b = up-below (suc b) b (omega arith)
 
-module _ (s : List ℕ) (x q : ℕ) where
+-- every part lies in the last: each other is used by a later one
+module _ (s : List ℕ) (joined : Joined s) (few : partCount s ≤ mostParts) where
+  last-from : (d q : ℕ) → partCount s ≤ q + d → q < partCount s → liesIn s q (partCount s - 1) ≡ true
+  last-from zero q l h = absurd (omega arith)
+  last-from (suc d) q l h =
+      elim (decLt (suc q) (partCount s)) [
+        | yes more ↦
+            let w = user s joined q more (omega arith) in
+            lies-down s (w .2) (partCount s - 1) (omega arith)
+            (last-from d (w .0) (omega (arith, w .2 .before)) (w .2 .known))
+        | no end ↦
+            let e : q ≡ partCount s - 1 = omega arith in
+            subst (λ p. liesIn s q p ≡ true) e (lies-self s q)
+      ]
+
+  pub lies-last : (q : ℕ) → q < partCount s → liesIn s q (partCount s - 1) ≡ true
+  lies-last q h = last-from (partCount s) q (omega arith) h
+
+-- the body of an owned name
+module _ (s : List ℕ) (joined : Joined s) (x : ℕ) (known : x < nameCount s) (own : isSession s x ≡ false) where
+  abbrev owner : ℕ
+  owner = node s (nameOf s x .owner)
+
+  declaration : Owned s (joined .sound) x
+  declaration = owned s (joined .sound) x known own
+
   in-body :
-      (f : ℕ) → f < fieldCount → eqb (fieldOf s (node s (nameOf s x .owner)) f .role) child ≡ true →
-      within s (used s (fieldCount * node s (nameOf s x .owner) + f)) q ≡ true → inBody s x q ≡ true
+      {f b : ℕ} (q : ℕ) → FieldUses s owner f b → eqb (fieldOf s owner f .role) child ≡ true → liesIn s q b ≡ true →
+      inBody s x q ≡ true
   unfolding inBody
-  in-body f h e w =
-      any-some _ fieldCount f h
-      (and-intro (eqb (fieldOf s (node s (nameOf s x .owner)) f .role) child) _ e w)
+  in-body {f} q w e t =
+      any-some _ fieldCount f (w .inside)
+      (and-intro (eqb (fieldOf s owner f .role) child) _ e (subst (λ u. liesIn s q u ≡ true) (sym (w .same)) t))
 
   pub body-of :
-      {M : Type 0} → inBody s x q ≡ true →
-      ((f : ℕ) → f < fieldCount → eqb (fieldOf s (node s (nameOf s x .owner)) f .role) child ≡ true →
-      within s (used s (fieldCount * node s (nameOf s x .owner) + f)) q ≡ true → M) → M
+      {M : Type 0} (q : ℕ) → inBody s x q ≡ true →
+      ((f b : ℕ) → FieldUses s owner f b → eqb (fieldOf s owner f .role) child ≡ true → liesIn s q b ≡ true → M) → M
   unfolding inBody
-  body-of e go =
+  body-of q e go =
       let r = some-of-any _ fieldCount e in
-      let c : Bool = eqb (fieldOf s (node s (nameOf s x .owner)) (r .0) .role) child in
-      go (r .0) (r .1) (and-left c _ (r .2)) (and-right c _ (r .2))
+      let f : ℕ = r .0 in
+      let c : Bool = eqb (fieldOf s owner f .role) child in
+      let role = and-left c _ (r .2) in
+      let inside : owner < partCount s = omega (arith, declaration .inside) in
+      let held = eqb-true (fieldOf s owner f .role) child role in
+      let before : used s owner f < owner =
+      subst (λ u. u < owner) (sym (used-of s owner f ∙ used-child (expressionCount s) (fieldOf s owner f) held))
+      (ltb-true _ _ (sym (holds-child s owner (fieldOf s owner f) held) ∙ right-field s (joined .sound) owner f inside (r .1))) in
+      go f (used s owner f) (record { known = inside; inside = r .1; same = refl; before = before }) role
+      (and-right c _ (r .2))
 
-module _ (s : List ℕ) (joined : Joined s) where
-  -- a child comes before its parent
-  pub child-used :
-      (d f : ℕ) → d < partCount s → f < fieldCount → eqb (fieldOf s d f .role) child ≡ true → used s (fieldCount * d + f) < d
-  child-used d f h l e =
-      let c = eqb-true (fieldOf s d f .role) child e in
-      subst (λ u. u < d) (sym (used-of s d f l ∙ used-child (expressionCount s) (fieldOf s d f) c))
-      (ltb-true _ _ (sym (holds-child s d (fieldOf s d f) c) ∙ right-field s (joined .sound) d f h l))
+  -- what lies in the body of x comes before the declaration
+  pub body-before : (q : ℕ) → inBody s x q ≡ true → q < owner
+  body-before q e =
+      body-of q e (λ f b w c t. omega (arith, w .before, lies-below s q b (omega (arith, w .before, w .known)) t))
 
-  -- the names in reach in the part that field i uses
-  module _ (i x : ℕ) (h : i < allFields s) (l : used s i < mostParts) (known : x < nameCount s) where
-    opened : opens s i x ≡ true → inBody s x (used s i) ≡ true
+-- the names in reach in the part that field f of part p uses
+module _ (s : List ℕ) (joined : Joined s) {p f q : ℕ} (w : FieldUses s p f q) (x : ℕ) (known : x < nameCount s) where
+  module _ (own : isSession s x ≡ false) where
+    opened : opens s p f x ≡ true → inBody s x q ≡ true
     opened o =
-        let p : ℕ = i / fieldCount in
-        let c : Bool = eqb (fieldAt s i .role) child in
+        let c : Bool = eqb (fieldOf s p f .role) child in
         let right = and-right c _ o in
         let n = and-left (isNew (fieldOf s p 0 .role)) _ right in
         let e : fieldOf s p 0 .value ≡ x = eqb-true _ _ (and-right (isNew (fieldOf s p 0 .role)) _ right) in
         let d : node s (nameOf s x .owner) ≡ p =
         subst (λ y. node s (nameOf s y .owner) ≡ p) e
-        (named-new s (joined .sound) p 0 (omega arith) (omega arith) n .own n) in
-        in-body s x (used s i) (i % fieldCount) (omega arith)
-        (subst (λ k. eqb (fieldOf s k (i % fieldCount) .role) child ≡ true) (sym d) (and-left c _ o))
-        (subst (λ k. within s (used s k) (used s i) ≡ true)
-        (sym (ap (λ k. fieldCount * k + i % fieldCount) d ∙ field-at s i))
-        (within-self s (used s i)))
+        (named-new s (joined .sound) p 0 (w .known) (omega arith) n .own n) in
+        in-body s joined x known own q (subst (λ k. FieldUses s k f q) (sym d) w)
+        (subst (λ k. eqb (fieldOf s k f .role) child ≡ true) (sym d) (and-left c _ o))
+        (lies-self s q)
 
-    down : inBody s x (i / fieldCount) ≡ true → inBody s x (used s i) ≡ true
-    down b =
-        body-of s x (i / fieldCount) b
-        (λ f a c w.
-        let b : ℕ = used s (fieldCount * node s (nameOf s x .owner) + f) in
-        in-body s x (used s i) f a c (within-down s joined i h l (suc b) b (omega arith) w))
+    down : inBody s x p ≡ true → inBody s x q ≡ true
+    down e =
+        body-of s joined x known own p e
+        (λ g b v c t.
+        in-body s joined x known own q v c (lies-down s w b (omega (arith, v .before, v .known)) t))
 
-    up : inBody s x (used s i) ≡ true → isSession s x ≡ false → (opens s i x || inBody s x (i / fieldCount)) ≡ true
-    up b n =
-        let o = owned s (joined .sound) x known n in
-        let d : ℕ = node s (nameOf s x .owner) in
-        body-of s x (used s i) b
-        (λ f a c w.
-        let v : used s (fieldCount * d + f) < d = child-used d f (omega (arith, o .inside)) a c in
-        elim (ℕ-discrete (used s (fieldCount * d + f)) (used s i)) [
-          | yes e ↦
-              let same : i ≡ fieldCount * d + f =
-              used-once s joined i (fieldCount * d + f) h (omega (arith, o .inside)) l (sym e) in
-              or-first (opens s i x) _
-              (and-intro (eqb (fieldAt s i .role) child) _
-              (ap (λ k. eqb (fieldAt s k .role) child) same ∙ ap (λ y. eqb (y .role) child) (field-of s d f a) ∙ c)
-              (subst
-              (λ k. (isNew (fieldOf s k 0 .role) && eqb (fieldOf s k 0 .value) x) ≡ true)
-              (omega arith)
-              (and-intro (isNew (fieldOf s d 0 .role)) _ (is-new s (joined .sound) x o) (eq-eqb _ _ (o .itself)))))
-          | no ne ↦
-              or-true (opens s i x) _
-              (in-body s x (i / fieldCount) f a c
-              (within-up s joined i h l d (used s (fieldCount * d + f)) v (omega (arith, v, o .inside)) w ne))
+    up : inBody s x q ≡ true → (opens s p f x || inBody s x p) ≡ true
+    up e =
+        body-of s joined x known own q e
+        (λ g b v c t.
+        elim (ℕ-discrete q b) [
+          | yes same ↦
+              let only = used-once s joined w (subst (FieldUses s _ g) (sym same) v) in
+              or-first (opens s p f x) _
+              (subst (λ k. opens s k f x ≡ true) (sym (only .0))
+              (subst (λ g. opens s (node s (nameOf s x .owner)) g x ≡ true) (sym (only .1))
+              (and-intro (eqb (fieldOf s (node s (nameOf s x .owner)) g .role) child) _ c
+              (and-intro (isNew (fieldOf s (node s (nameOf s x .owner)) 0 .role)) _
+              (is-new s (joined .sound) x (declaration s joined x known own))
+              (eq-eqb _ _ (declaration s joined x known own .itself))))))
+          | no other ↦
+              or-true (opens s p f x) _
+              (in-body s joined x known own p v c
+              (lies-up s joined w b (omega (arith, v .before, v .known)) t other))
         ])
 
-    pub reach-used : inReach s x (used s i) ≡ (opens s i x || inReach s x (i / fieldCount))
-    reach-used =
-        by-both-ways (isSession s x) refl
-      where
-        by-both-ways :
-            (b : Bool) → isSession s x ≡ b →
-            (b || inBody s x (used s i)) ≡ (opens s i x || (b || inBody s x (i / fieldCount)))
-        by-both-ways true e = sym (or-true (opens s i x) true refl)
-        by-both-ways false e =
-            same-truth _ _ (λ b. up b e) (λ b. or-cases (opens s i x) _ b opened down)
+  pub reach-used : inReach s x q ≡ (opens s p f x || inReach s x p)
+  reach-used =
+      by-both-ways (isSession s x) refl
+    where
+      by-both-ways :
+          (b : Bool) → isSession s x ≡ b → (b || inBody s x q) ≡ (opens s p f x || (b || inBody s x p))
+      by-both-ways true e = sym (or-true (opens s p f x) true refl)
+      by-both-ways false e =
+          same-truth _ _ (up e) (λ b. or-cases (opens s p f x) _ b (opened e) (down e))
 
+module _ (s : List ℕ) (joined : Joined s) where
   -- in the last part: the session names
   pub reach-last : (q x : ℕ) → suc q ≡ partCount s → x < nameCount s → inReach s x q ≡ isSession s x
   reach-last q x e known = go (isSession s x) refl
@@ -212,10 +221,4 @@ module _ (s : List ℕ) (joined : Joined s) where
       go true n = refl
       go false n =
           fails (inBody s x q)
-          (λ b.
-          let o = owned s (joined .sound) x known n in
-          let d : ℕ = node s (nameOf s x .owner) in
-          body-of s x q b
-          (λ f a c w.
-          let v : used s (fieldCount * d + f) < d = child-used d f (omega (arith, o .inside)) a c in
-          absurd (omega (arith, o .inside, v, within-below s d (used s (fieldCount * d + f)) q v w))))
+          (λ b. omega (arith, body-before s joined x known n q b, declaration s joined x known n .inside))

@@ -2,7 +2,7 @@
 -- a use; a let's expression lies outside it.'
 use mathlib.Core.Bool.{Bool, false, not, _&&_, _||_}
 use mathlib.Core.List.{List}
-use Prim.Native.Nat.{ℕ, _+_, _*_}
+use Prim.Native.Nat.{ℕ}
 use lib.Dec.{eqb}
 use lib.ListN.{getD}
 use Rattle.prelude.specs.declared.Refusal.{Refusal}
@@ -15,16 +15,15 @@ use Rattle.fields.specs.Roles.{child, isUse}
 use Rattle.fields.specs.Fields.{fieldCount, fieldOf}
 use Rattle.uses.specs.Uses.{used}
 
--- part q lies in part p: it is p, or it lies in a part that a field of p uses
-unfoldable pub within : List ℕ → ℕ → ℕ → Bool
-within s =
-    entry (λ p earlier q. eqb p q || any (λ f. getD earlier (used s (fieldCount * p + f)) (λ _. false) q) fieldCount)
+-- part q lies in part p: it is p, or it lies in a part that a field of p uses; `earlier` has this for the parts before p
+unfoldable pub liesIn : List ℕ → ℕ → ℕ → Bool
+liesIn s q = entry (λ p earlier. eqb q p || any (λ f. getD earlier (used s p f) false) fieldCount)
 
 -- part q lies inside the body of the declaration of x: in a child of the node that owns x
 unfoldable pub inBody : List ℕ → ℕ → ℕ → Bool
 inBody s x q =
     let d : ℕ = node s (nameOf s x .owner) in
-    any (λ f. eqb (fieldOf s d f .role) child && within s (used s (fieldCount * d + f)) q) fieldCount
+    any (λ f. eqb (fieldOf s d f .role) child && liesIn s q (used s d f)) fieldCount
 
 -- x may be used in part q
 abbrev pub inReach : List ℕ → ℕ → ℕ → Bool

@@ -11,7 +11,7 @@ use uses::used_at;
 ghost use mathlib.Core.Path.{_≡_};
 ghost use mathlib.Core.Bool.{_||_};
 ghost use lib.Dec.{eqb};
-ghost use Prim.Native.Nat.{_+_, _*_, _<_};
+ghost use Prim.Native.Nat.{_+_, _<_};
 ghost use Rattle.prelude.specs.Search.{first};
 ghost use Rattle.prelude.specs.Sets.{has, IsSet};
 ghost use Rattle.layout.specs.Layout.{mostNames};
@@ -61,7 +61,7 @@ fn session_names(s: &[u8], c: Script) -> u64
 // in the body of a declaration the declared name is, too.
 fn entered(s: &[u8], c: Script, q: usize, f: usize, set: u64) -> u64
     requires { ⌜ Laid (now s) c × (Sound (now s) × ((q < c .expressions + c .nodes) × (f < fieldCount))) ⌝ }
-    ensures { λ r. ⌜ IsSet (c .names) (λ x. opens (now (s .entry)) (fieldCount * q + f) x || has set x) r ⌝ }
+    ensures { λ r. ⌜ IsSet (c .names) (λ x. opens (now (s .entry)) q f x || has set x) r ⌝ }
 {
     let field = field_at(s, c, q, f);
     if field.role != roles::CHILD {
@@ -76,8 +76,8 @@ fn entered(s: &[u8], c: Script, q: usize, f: usize, set: u64) -> u64
 
 // Finds the names in reach in the parts that the fields of part q use, where those of the later parts are found.
 fn enter_fields(s: &[u8], c: Script, q: usize, sets: &mut [u64; Script::MAX_PARTS])
-    requires { ⌜ Laid (now s) c × (Joined (now s) × ((q < c .expressions + c .nodes) × KeepsReachFrom (now s) (fieldCount * (q + 1)) (now sets))) ⌝ }
-    ensures { λ r. ⌜ KeepsReachFrom (now (s .entry)) (fieldCount * q) (now (sets .exit)) ⌝ }
+    requires { ⌜ Laid (now s) c × (Joined (now s) × ((q < c .expressions + c .nodes) × KeepsReachFrom (now s) (q + 1) 0 (now sets))) ⌝ }
+    ensures { λ r. ⌜ KeepsReachFrom (now (s .entry)) q 0 (now (sets .exit)) ⌝ }
 {
     let mut f = Part::FIELDS;
     while 0 < f {

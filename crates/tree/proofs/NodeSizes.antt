@@ -11,10 +11,10 @@ use lib.Dec.{eqb, ltb}
 use lib.ListN.{length, set}
 use lib.Seq.{getD-set-same, getD-set-other}
 use borrow.Author.Tests.{lt-ltb, le-ltb, ne-eqb, eqb-true, ltb-true, ltb-false}
-use Rattle.prelude.specs.Search.{count}
+use Rattle.prelude.specs.Search.{sum}
 use Rattle.prelude.proofs.Bools.{and-left, by-cases}
-use Rattle.prelude.proofs.Sums.{sum, sum-none, sum-more, sum-nothing, sum-same, sum-below, sum-both, sum-longer, sum-threes, sum-by-value}
-use Rattle.prelude.proofs.Counts.{count-none, count-longer}
+use Rattle.prelude.proofs.Sums.{sum-none, sum-more, sum-nothing, sum-same, sum-below, sum-both, sum-longer, sum-exchanged, sum-by-value}
+use Rattle.prelude.proofs.Counts.{count-none}
 use Rattle.layout.specs.Layout.{mostParts, layoutOf, expressionCount, nodeCount, partCount}
 use Rattle.layout.specs.Entries.{partOf, node}
 use Rattle.layout.proofs.Layouts.{few-bounds, few-parts}
@@ -23,10 +23,10 @@ use Rattle.fields.specs.Roles.{nodeRows, roleIn, expression, child}
 use Rattle.fields.specs.Fields.{fieldCount, fieldOf, valueOf}
 use Rattle.entries.specs.Faults.{holds}
 use Rattle.entries.proofs.Holding.{holds-expression, holds-child, right-field}
-use Rattle.uses.specs.Uses.{allFields, usedBy, used, timesUsed}
+use Rattle.uses.specs.Uses.{usedBy, used, timesIn, timesUsed}
 use Rattle.uses.proofs.Used.{used-of, used-child}
 use Rattle.script.specs.Checked.{Checked}
-use Rattle.scope.proofs.Joining.{used-earlier}
+use Rattle.scope.proofs.Joining.{field-uses}
 use Rattle.language.specs.Shapes.{size}
 use Rattle.tree.specs.Tree.{processOf, tree}
 use Rattle.tree.specs.Contracts.{childSize, KeepsSizes}
@@ -94,9 +94,9 @@ module _ (s : List ℕ) (ok : Checked s) where
     child-below : fieldOf s q f .role ≡ child → node s (fieldOf s q f .value) < q
     child-below e = ltb-true _ _ (sym (holds-child s q (fieldOf s q f) e) ∙ right)
 
-    added-used : (n : ℕ) → q < n → n ≤ partCount s → addedBy q f ≡ weight n (used s (fieldCount * q + f))
+    added-used : (n : ℕ) → q < n → n ≤ partCount s → addedBy q f ≡ weight n (used s q f)
     added-used n a b =
-        subst (λ u. addedBy q f ≡ weight n u) (sym (used-of s q f l))
+        subst (λ u. addedBy q f ≡ weight n u) (sym (used-of s q f))
         (by-cases (λ v. v ≡ weight n (usedBy E (fieldOf s q f))) (eqb (fieldOf s q f .role) child)
         (λ t.
         let e = eqb-true (fieldOf s q f .role) child t in
@@ -152,34 +152,35 @@ module _ (s : List ℕ) (ok : Checked s) where
 
   -- how often the first n parts use part q
   abbrev times : ℕ → ℕ → ℕ
-  times n q = count (λ i. eqb (used s i) q) (fieldCount * n)
+  times n q = sum (timesIn s q) n
 
   total-size : (n : ℕ) → n ≤ partCount s → sum partSize n ≡ n - E + sum (λ q. times n q * partSize q) n
   total-size n h =
       sum-same partSize (λ q. cond (ltb q E) 0 1 + sum (addedBy q) fieldCount) n (λ q l. part-size q (omega arith))
       ∙ sum-both (λ q. cond (ltb q E) 0 1) (λ q. sum (addedBy q) fieldCount) n
       ∙ ap₂ (λ a b. a + b) (nodes-below n)
-      (sum-same (λ q. sum (addedBy q) fieldCount) (λ q. sum (λ f. weight n (used s (fieldCount * q + f))) fieldCount) n
-      (λ q l.
-      sum-same (addedBy q) (λ f. weight n (used s (fieldCount * q + f))) fieldCount
-      (λ f u. added-used q f u (omega arith) n l h))
-      ∙ sym (sum-threes (λ i. weight n (used s i)) n)
-      ∙ sum-by-value (used s) partSize (fieldCount * n) n)
+      (sum-same (λ q. sum (addedBy q) fieldCount) (λ p. sum (λ q. timesIn s q p * partSize q) n) n
+      (λ p l.
+      sum-same (addedBy p) (λ f. weight n (used s p f)) fieldCount
+      (λ f u. added-used p f u (omega arith) n l h)
+      ∙ sum-by-value (used s p) partSize fieldCount n)
+      ∙ sum-exchanged (λ p q. timesIn s q p) partSize n n)
 
   module _ (m : ℕ) (h : m < partCount s) where
     -- no part before uses a part
     not-used : times (suc m) m ≡ 0
     not-used =
-        count-none (λ i. eqb (used s i) m) (fieldCount * suc m)
-        (λ i l.
-        ne-eqb (used s i) m
-        (λ e. omega (arith, e, used-earlier s (ok .joined) i (omega arith) (omega (arith, e, few-parts (ok .laid))))))
+        sum-nothing (timesIn s m) (suc m)
+        (λ p l.
+        count-none (λ f. eqb (used s p f) m) fieldCount
+        (λ f u.
+        ne-eqb (used s p f) m
+        (λ e. omega (arith, field-uses s (ok .joined) p f m (omega arith) u e (omega (arith, few-parts (ok .laid))) .before))))
 
     used-times : (q : ℕ) → q < m → times (suc m) q ≤ 1
     unfolding timesUsed
     used-times q l =
-        le-trans (count-longer (λ i. eqb (used s i) q) (fieldCount * suc m) (allFields s) (omega arith))
-        (le-of-eq (ok .joined .once q (omega arith)))
+        le-trans (sum-longer (timesIn s q) (suc m) (partCount s) h) (le-of-eq (ok .joined .once q (omega arith)))
 
     up-to : sum (λ q. times (suc m) q * partSize q) (suc m) ≡ sum (λ q. times (suc m) q * partSize q) m
     up-to =
@@ -200,7 +201,6 @@ module _ (s : List ℕ) (ok : Checked s) where
     last-part : suc m ≡ partCount s → partSize m ≡ nodeCount s
     unfolding timesUsed
     last-part e =
-        let all : fieldCount * suc m ≡ allFields s = omega arith in
         omega (
           arith,
           sum-more partSize m,
@@ -208,7 +208,7 @@ module _ (s : List ℕ) (ok : Checked s) where
           up-to,
           sum-same (λ q. times (suc m) q * partSize q) partSize m
               (λ q l.
-              ap (λ n. n * partSize q) (ap (count (λ i. eqb (used s i) q)) all ∙ ok .joined .once q (omega arith)) ∙ one-mul (partSize q)),
+              ap (λ n. n * partSize q) (ap (sum (timesIn s q)) e ∙ ok .joined .once q (omega arith)) ∙ one-mul (partSize q)),
         )
 
   pub size-within : (k : ℕ) → k < nodeCount s → nodeSize k ≤ suc k

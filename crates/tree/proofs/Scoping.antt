@@ -87,28 +87,28 @@ module _ (s : List ℕ) (ok : Checked s) where
 
   scoped-view :
       (scope : ℕ → Bool) (k : ℕ) → k < nodeCount s → Covers scope (node s k) →
-      ((j : ℕ) (new : ℕ → Bool) → UsesNode s k j new → ScopedNode (λ x. new x || scope x) j) → NodeView s k →
+      ((f j : ℕ) (new : ℕ → Bool) → UsesNode s k f j new → ScopedNode (λ x. new x || scope x) j) → NodeView s k →
       ScopedNode scope k
   scoped-view scope k h c go (aNil n q) = subst (Scoped (namesOf s) scope) (sym q) tt
   scoped-view scope k h c go (anAssign n q x e) =
       subst (Scoped (namesOf s) scope) (sym q) (register-in c x, reads scope c e)
   scoped-view scope k h c go (aLet n q x e p) =
-      subst (Scoped (namesOf s) scope) (sym q) (declares h x, reads scope c e, go _ _ p)
+      subst (Scoped (namesOf s) scope) (sym q) (declares h x, reads scope c e, go _ _ _ p)
   scoped-view scope k h c go (anIf n q e p r) =
-      subst (Scoped (namesOf s) scope) (sym q) (reads scope c e, go _ _ p, go _ _ r)
-  scoped-view scope k h c go (aWhile n q e p) = subst (Scoped (namesOf s) scope) (sym q) (reads scope c e, go _ _ p)
-  scoped-view scope k h c go (aSequence n q p r) = subst (Scoped (namesOf s) scope) (sym q) (go _ _ p, go _ _ r)
+      subst (Scoped (namesOf s) scope) (sym q) (reads scope c e, go _ _ _ p, go _ _ _ r)
+  scoped-view scope k h c go (aWhile n q e p) = subst (Scoped (namesOf s) scope) (sym q) (reads scope c e, go _ _ _ p)
+  scoped-view scope k h c go (aSequence n q p r) = subst (Scoped (namesOf s) scope) (sym q) (go _ _ _ p, go _ _ _ r)
   scoped-view scope k h c go (anEmit n q x) = subst (Scoped (namesOf s) scope) (sym q) (signal-in c x)
-  scoped-view scope k h c go (aLocal n q x p) = subst (Scoped (namesOf s) scope) (sym q) (declares h x, go _ _ p)
-  scoped-view scope k h c go (aWatching n q x p) = subst (Scoped (namesOf s) scope) (sym q) (signal-in c x, go _ _ p)
-  scoped-view scope k h c go (aWhen n q x p) = subst (Scoped (namesOf s) scope) (sym q) (signal-in c x, go _ _ p)
-  scoped-view scope k h c go (aParallel n q p r) = subst (Scoped (namesOf s) scope) (sym q) (go _ _ p, go _ _ r)
+  scoped-view scope k h c go (aLocal n q x p) = subst (Scoped (namesOf s) scope) (sym q) (declares h x, go _ _ _ p)
+  scoped-view scope k h c go (aWatching n q x p) = subst (Scoped (namesOf s) scope) (sym q) (signal-in c x, go _ _ _ p)
+  scoped-view scope k h c go (aWhen n q x p) = subst (Scoped (namesOf s) scope) (sym q) (signal-in c x, go _ _ _ p)
+  scoped-view scope k h c go (aParallel n q p r) = subst (Scoped (namesOf s) scope) (sym q) (go _ _ _ p, go _ _ _ r)
 
   scoped-node : (n k : ℕ) (scope : ℕ → Bool) → k < n → k < nodeCount s → Covers scope (node s k) → ScopedNode scope k
   scoped-node zero k scope l h c = absurd (not-suc-le-zero l)
   scoped-node (suc n) k scope l h c =
       scoped-view scope k h c
-      (λ j new u.
+      (λ f j new u.
       scoped-node n j (λ x. new x || scope x) (omega (arith, u .before)) (omega (arith, u .before))
       (covers-part (u .part) c))
       (node-view s ok k h)

@@ -2,7 +2,7 @@
 use mathlib.Core.Path.{_≡_, refl, sym, ap, ap₂, _∙_, subst}
 use mathlib.Core.Bool.{Bool, true, false, cond, _&&_, _||_}
 use mathlib.Core.List.{List}
-use Prim.Native.Nat.{ℕ, _+_, _*_, _≤_, _<_}
+use Prim.Native.Nat.{ℕ, _≤_, _<_}
 use native.Mathlib.Omega.{arith}
 use lib.Dec.{eqb, ltb}
 use lib.ListN.{getD}
@@ -15,18 +15,17 @@ use Rattle.prelude.proofs.Courses.{earlier}
 use Rattle.language.specs.Syntax.{Exp, Operator, add, subtract, multiply, divide, less, equal, constant, register, binary, negated, Proc, nil, assign, letIn, ifThenElse, while, sequence, emit, local, watching, when, parallel}
 use Rattle.layout.specs.Layout.{nameCount, expressionCount, nodeCount, partCount}
 use Rattle.layout.specs.Entries.{nameOf, partOf, node}
-use Rattle.layout.proofs.Layouts.{few-parts}
 use Rattle.fields.specs.Roles as roles
 use Rattle.fields.specs.Roles.{expressionRows, nodeRows, roleIn, isUse, isNew}
 use Rattle.fields.specs.Fields.{fieldCount, fieldOf}
 use Rattle.entries.specs.Faults.{kindFor}
 use Rattle.entries.proofs.Holding.{holds-expression, holds-child, right-field, right-kind}
 use Rattle.entries.proofs.Naming.{named-use, named-new}
-use Rattle.uses.specs.Uses.{used}
 use Rattle.uses.proofs.Used.{used-of, used-child, used-expression}
 use Rattle.scope.specs.Reach.{inReach, isOutOfReach, missesName}
 use Rattle.script.specs.Checked.{Checked}
-use Rattle.scope.proofs.Reaching.{opens-of, reach-used}
+use Rattle.scope.specs.Contracts.{FieldUses}
+use Rattle.scope.proofs.Reaching.{reach-used}
 use Rattle.tree.specs.Tree.{constantOf, expressionsFrom, noExpression, expressionOf, processesFrom, processOf}
 
 -- the kind of a binary expression
@@ -71,8 +70,10 @@ module _ (s : List ℕ) where
     pub known : e < expressionCount s
     pub part : UsesPart q e nothing
 
-  pub record UsesNode (k j : ℕ) (new : ℕ → Bool) : Type 0 where
+  -- by field f
+  pub record UsesNode (k f j : ℕ) (new : ℕ → Bool) : Type 0 where
     pub before : j < k
+    pub field : FieldUses s (node s k) f (node s j)
     pub part : UsesPart (node s k) (node s j) new
 
   pub data ExpressionView (e : ℕ) : Type 0 where
@@ -107,31 +108,31 @@ module _ (s : List ℕ) where
     aLet :
         partOf s (node s k) .kind ≡ 2 →
         processOf s k ≡ letIn (a k) (level (a k)) (expressionOf s (b k)) (processOf s (c k)) →
-        NewName (node s k) (a k) 0 → UsesExpression (node s k) (b k) → UsesNode k (c k) (eqb (a k)) → NodeView k
+        NewName (node s k) (a k) 0 → UsesExpression (node s k) (b k) → UsesNode k 2 (c k) (eqb (a k)) → NodeView k
     anIf :
         partOf s (node s k) .kind ≡ 3 →
         processOf s k ≡ ifThenElse (expressionOf s (a k)) (processOf s (b k)) (processOf s (c k)) →
-        UsesExpression (node s k) (a k) → UsesNode k (b k) nothing → UsesNode k (c k) nothing → NodeView k
+        UsesExpression (node s k) (a k) → UsesNode k 1 (b k) nothing → UsesNode k 2 (c k) nothing → NodeView k
     aWhile :
         partOf s (node s k) .kind ≡ 4 → processOf s k ≡ while (expressionOf s (a k)) (processOf s (b k)) →
-        UsesExpression (node s k) (a k) → UsesNode k (b k) nothing → NodeView k
+        UsesExpression (node s k) (a k) → UsesNode k 1 (b k) nothing → NodeView k
     aSequence :
         partOf s (node s k) .kind ≡ 5 → processOf s k ≡ sequence (processOf s (a k)) (processOf s (b k)) →
-        UsesNode k (a k) nothing → UsesNode k (b k) nothing → NodeView k
+        UsesNode k 0 (a k) nothing → UsesNode k 1 (b k) nothing → NodeView k
     anEmit :
         partOf s (node s k) .kind ≡ 6 → processOf s k ≡ emit (a k) → UsesName (node s k) (a k) 1 → NodeView k
     aLocal :
         partOf s (node s k) .kind ≡ 7 → processOf s k ≡ local (a k) (level (a k)) (processOf s (b k)) →
-        NewName (node s k) (a k) 1 → UsesNode k (b k) (eqb (a k)) → NodeView k
+        NewName (node s k) (a k) 1 → UsesNode k 1 (b k) (eqb (a k)) → NodeView k
     aWatching :
         partOf s (node s k) .kind ≡ 8 → processOf s k ≡ watching (a k) (processOf s (b k)) →
-        UsesName (node s k) (a k) 1 → UsesNode k (b k) nothing → NodeView k
+        UsesName (node s k) (a k) 1 → UsesNode k 1 (b k) nothing → NodeView k
     aWhen :
         partOf s (node s k) .kind ≡ 9 → processOf s k ≡ when (a k) (processOf s (b k)) →
-        UsesName (node s k) (a k) 1 → UsesNode k (b k) nothing → NodeView k
+        UsesName (node s k) (a k) 1 → UsesNode k 1 (b k) nothing → NodeView k
     aParallel :
         partOf s (node s k) .kind ≡ 10 → processOf s k ≡ parallel (processOf s (a k)) (processOf s (b k)) →
-        UsesNode k (a k) nothing → UsesNode k (b k) nothing → NodeView k
+        UsesNode k 0 (a k) nothing → UsesNode k 1 (b k) nothing → NodeView k
 
 module _ (s : List ℕ) (ok : Checked s) where
   module _ (q : ℕ) (h : q < partCount s) (f : ℕ) (l : f < fieldCount) where
@@ -162,17 +163,13 @@ module _ (s : List ℕ) (ok : Checked s) where
     brings r r₀ x = eqb r roles.child && (isNew r₀ && eqb (fieldOf s q 0 .value) x)
 
     uses-part :
-        (p r r₀ : ℕ) → used s (fieldCount * q + f) ≡ p → p < q → fieldOf s q f .role ≡ r → fieldOf s q 0 .role ≡ r₀ →
-        UsesPart s q p (brings r r₀)
-    uses-part p r r₀ u before e e₀ =
-        let i : ℕ = fieldCount * q + f in
+        (p r r₀ : ℕ) → FieldUses s q f p → fieldOf s q f .role ≡ r → fieldOf s q 0 .role ≡ r₀ → UsesPart s q p (brings r r₀)
+    uses-part p r r₀ w e e₀ =
         record {
-          before = before;
+          before = w .before;
           reach =
               λ x known.
-              ap (inReach s x) (sym u)
-              ∙ reach-used s (ok .joined) i x (omega arith) (omega (arith, u, few-parts (ok .laid))) known
-              ∙ ap₂ (λ o k. o || inReach s x k) (opens-of s q f x l ∙ ap₂ (λ r r₀. brings r r₀ x) e e₀) (omega arith);
+              reach-used s (ok .joined) w x known ∙ ap₂ (λ r r₀. brings r r₀ x || inReach s x q) e e₀;
         }
 
     uses-expression : fieldOf s q f .role ≡ roles.expression → UsesExpression s q (fieldOf s q f .value)
@@ -182,8 +179,14 @@ module _ (s : List ℕ) (ok : Checked s) where
         record {
           known = ltb-true _ _ (and-left (ltb v (expressionCount s)) _ t);
           part =
-              uses-part v roles.expression _ (used-of s q f l ∙ used-expression _ (fieldOf s q f) e)
-              (ltb-true _ _ (and-right (ltb v (expressionCount s)) _ t)) e refl;
+              uses-part v roles.expression _
+              (record {
+                known = h;
+                inside = l;
+                same = used-of s q f ∙ used-expression _ (fieldOf s q f) e;
+                before = ltb-true _ _ (and-right (ltb v (expressionCount s)) _ t);
+              })
+              e refl;
         }
 
   module _ (k : ℕ) (h : k < nodeCount s) where
@@ -192,17 +195,14 @@ module _ (s : List ℕ) (ok : Checked s) where
 
     uses-node :
         (f r₀ : ℕ) → f < fieldCount → fieldOf s q f .role ≡ roles.child → fieldOf s q 0 .role ≡ r₀ →
-        UsesNode s k (fieldOf s q f .value) (λ x. isNew r₀ && eqb (fieldOf s q 0 .value) x)
+        UsesNode s k f (fieldOf s q f .value) (λ x. isNew r₀ && eqb (fieldOf s q 0 .value) x)
     uses-node f r₀ l e e₀ =
         let v : ℕ = fieldOf s q f .value in
         let t : node s v < q =
         ltb-true _ _ (sym (holds-child s q (fieldOf s q f) e) ∙ right-field s (ok .joined .sound) q f (omega arith) l) in
-        record {
-          before = omega arith;
-          part =
-              uses-part q (omega arith) f l (node s v) roles.child r₀
-              (used-of s q f l ∙ used-child _ (fieldOf s q f) e) t e e₀;
-        }
+        let w : FieldUses s q f (node s v) =
+        record { known = omega arith; inside = l; same = used-of s q f ∙ used-child _ (fieldOf s q f) e; before = t } in
+        record { before = omega arith; field = w; part = uses-part q (omega arith) f l (node s v) roles.child r₀ w e e₀ }
 
     inside : q < partCount s
     inside = omega arith
@@ -230,9 +230,9 @@ module _ (s : List ℕ) (ok : Checked s) where
     unfolding processOf entry
     process n e = ap (λ n. getD (processesFrom s (partOf s q) (λ j. getD (course made k) j nil)) n nil) e
 
-    part-of : {j : ℕ} {new : ℕ → Bool} → UsesNode s k j new → getD (course made k) j nil ≡ processOf s j
+    part-of : {f j : ℕ} {new : ℕ → Bool} → UsesNode s k f j new → getD (course made k) j nil ≡ processOf s j
     unfolding processOf
-    part-of {j} u = earlier made nil k j (u .before)
+    part-of {j = j} u = earlier made nil k j (u .before)
 
     let-view : partOf s q .kind ≡ 2 → NodeView s k
     let-view e =

@@ -1,24 +1,45 @@
--- The part that a field uses, by the field's role.
-use mathlib.Core.Path.{_≡_, ap}
+-- The part that a field uses, by the field's role; how often the parts so far use one.
+use mathlib.Core.Path.{_≡_, refl, sym, ap, _∙_}
 use mathlib.Core.List.{List}
-use Prim.Native.Nat.{ℕ, _+_, _*_, _/_, _%_, _<_}
+use Prim.Native.Nat.{ℕ, zero, suc, _+_, _*_, _≤_}
+use native.Mathlib.Nat.{add-zero}
+use native.Mathlib.Numerals.{add-one}
 use native.Mathlib.Omega.{arith}
-use Rattle.layout.specs.Layout.{expressionCount}
+use lib.Dec.{eqb}
+use lib.ListN.{replicate, getD-replicate}
+use Rattle.prelude.specs.Search.{count, sum}
+use Rattle.prelude.proofs.Counts.{count-within}
+use Rattle.layout.specs.Layout.{mostParts, expressionCount, partCount}
 use Rattle.fields.specs.declared.Field.{Field}
 use Rattle.fields.specs.Roles.{expression, child}
 use Rattle.fields.specs.Fields.{fieldCount, fieldOf}
-use Rattle.uses.specs.Uses.{fieldAt, usedBy, used}
+use Rattle.uses.specs.Uses.{usedBy, used, timesIn, timesUsed}
+use Rattle.uses.specs.Contracts.{KeepsTimes, KeepsTimesTo}
 
 module _ (s : List ℕ) where
-  pub field-of : (q f : ℕ) → f < fieldCount → fieldAt s (fieldCount * q + f) ≡ fieldOf s q f
-  field-of q f h =
-      let a : (fieldCount * q + f) / fieldCount ≡ q = omega arith in
-      let b : (fieldCount * q + f) % fieldCount ≡ f = omega arith in
-      rw (a, b)
-
-  pub used-of : (q f : ℕ) → f < fieldCount → used s (fieldCount * q + f) ≡ usedBy (expressionCount s) (fieldOf s q f)
+  pub used-of : (p f : ℕ) → used s p f ≡ usedBy (expressionCount s) (fieldOf s p f)
   unfolding used
-  used-of q f h = ap (usedBy (expressionCount s)) (field-of q f h)
+  used-of p f = refl
+
+  pub times-within : (q n : ℕ) → sum (timesIn s q) n ≤ fieldCount * n
+  unfolding sum
+  times-within q zero = omega arith
+  times-within q (suc n) = omega (arith, times-within q n, count-within (λ f. eqb (used s n f) q) fieldCount)
+
+  -- before the first field, and past the last field of a part
+  pub times-none : KeepsTimesTo s 0 0 (replicate mostParts 0)
+  unfolding sum count
+  times-none = (refl, λ q h. getD-replicate mostParts q 0 0 h)
+
+  pub times-part : (p : ℕ) (times : List ℕ) → KeepsTimesTo s p fieldCount times → KeepsTimesTo s (p + 1) 0 times
+  unfolding sum count
+  times-part p times keeps =
+      (keeps .0, λ q h. keeps .1 q h ∙ sym (add-zero _ ∙ ap (sum (timesIn s q)) (add-one p)))
+
+  -- past the last part
+  pub times-all : (p : ℕ) (times : List ℕ) → p ≡ partCount s → KeepsTimesTo s p 0 times → KeepsTimes s times
+  unfolding timesUsed count
+  times-all p times all keeps q h = keeps .1 q h ∙ add-zero _ ∙ ap (sum (timesIn s q)) all
 
 pub used-expression : (n : ℕ) (x : Field) → x .role ≡ expression → usedBy n x ≡ x .value
 used-expression n x e = rw e

@@ -1,22 +1,15 @@
 -- 01, 'Script file': 'Each expression, and each node but the last, is used exactly once.'
 use mathlib.Core.Bool.{Bool, cond, not}
 use mathlib.Core.List.{List}
-use Prim.Native.Nat.{ℕ, _+_, _-_, _*_, _/_, _%_}
+use Prim.Native.Nat.{ℕ, _+_, _-_}
 use lib.Dec.{eqb}
 use Rattle.prelude.specs.declared.Refusal.{Refusal}
-use Rattle.prelude.specs.Search.{count}
+use Rattle.prelude.specs.Search.{count, sum}
 use Rattle.layout.specs.Layout.{mostParts, expressionCount, partCount}
 use Rattle.layout.specs.Places.{atFirstPart}
 use Rattle.fields.specs.declared.Field.{Field}
 use Rattle.fields.specs.Roles.{expression, child}
 use Rattle.fields.specs.Fields.{fieldCount, fieldOf}
-
--- the fields of all parts in one row: field i is field i % 3 of part i / 3
-abbrev pub fieldAt : List ℕ → ℕ → Field
-fieldAt s i = fieldOf s (i / fieldCount) (i % fieldCount)
-
-abbrev pub allFields : List ℕ → ℕ
-allFields s = fieldCount * partCount s
 
 -- the part that a field uses; `mostParts`, which is the number of no part, if it uses none
 abbrev pub usedBy : ℕ → Field → ℕ
@@ -25,11 +18,17 @@ usedBy expressions x =
     (cond (eqb (x .role) child) (expressions + x .value)
     mostParts)
 
-unfoldable pub used : List ℕ → ℕ → ℕ
-used s i = usedBy (expressionCount s) (fieldAt s i)
+-- the part that field f of part p uses
+unfoldable pub used : List ℕ → ℕ → ℕ → ℕ
+used s p f = usedBy (expressionCount s) (fieldOf s p f)
 
+-- how often part p uses part q: by how many of its fields
+abbrev pub timesIn : List ℕ → ℕ → ℕ → ℕ
+timesIn s q p = count (λ f. eqb (used s p f) q) fieldCount
+
+-- how often all parts together use part q
 unfoldable pub timesUsed : List ℕ → ℕ → ℕ
-timesUsed s q = count (λ i. eqb (used s i) q) (allFields s)
+timesUsed s q = sum (timesIn s q) (partCount s)
 
 abbrev pub isLoose : List ℕ → ℕ → Bool
 isLoose s q = not (eqb (timesUsed s q) 1)

@@ -10,7 +10,7 @@ ghost use mathlib.Core.Path.{_≡_};
 ghost use mathlib.Core.Bool.{not};
 ghost use lib.Dec.{eqb};
 ghost use lib.ListN.{getD};
-ghost use Prim.Native.Nat.{_+_, _*_, _<_, _≤_};
+ghost use Prim.Native.Nat.{_+_, _<_, _≤_};
 ghost use Rattle.prelude.specs.Search.{first};
 ghost use Rattle.layout.specs.Layout.{mostParts};
 ghost use Rattle.layout.specs.Contracts.{Laid};
@@ -35,15 +35,15 @@ fn used_by(c: Script, field: Field) -> usize
 // The part that field f of part q uses, or MAX_PARTS.
 pub fn used_at(s: &[u8], c: Script, q: usize, f: usize) -> usize
     requires { ⌜ Laid (now s) c × ((q < c .expressions + c .nodes) × (f < fieldCount)) ⌝ }
-    ensures { λ r. ⌜ r ≡ used (now (s .entry)) (fieldCount * q + f) ⌝ }
+    ensures { λ r. ⌜ r ≡ used (now (s .entry)) q f ⌝ }
 {
     used_by(c, field_at(s, c, q, f))
 }
 
 // Counts what the fields of part q use, where those of the parts before it are counted.
 fn count_fields(s: &[u8], c: Script, q: usize, times: &mut [u16; Script::MAX_PARTS])
-    requires { ⌜ Laid (now s) c × ((q < c .expressions + c .nodes) × KeepsTimesTo (now s) (fieldCount * q) (now times)) ⌝ }
-    ensures { λ r. ⌜ KeepsTimesTo (now (s .entry)) (fieldCount * (q + 1)) (now (times .exit)) ⌝ }
+    requires { ⌜ Laid (now s) c × ((q < c .expressions + c .nodes) × KeepsTimesTo (now s) q 0 (now times)) ⌝ }
+    ensures { λ r. ⌜ KeepsTimesTo (now (s .entry)) (q + 1) 0 (now (times .exit)) ⌝ }
 {
     let mut f: usize = 0;
     while f < Part::FIELDS {

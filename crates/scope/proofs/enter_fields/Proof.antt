@@ -1,21 +1,21 @@
 -- `enter_fields`: the sets of the last part and of the parts that the fields from field f of part q on use are right.
-use mathlib.Core.Path.{_≡_, subst}
+use mathlib.Core.Path.{_≡_, sym, subst}
 use mathlib.Core.Bool.{_||_}
-use Prim.Native.Nat.{_+_, _*_, _-_, _/_, _≤_}
+use Prim.Native.Nat.{_+_, _-_, _≤_}
 use native.Mathlib.Omega.{arith}
 use lib.ListN.{getD}
 use Rattle.prelude.specs.Sets.{has, IsSet}
-use Rattle.layout.specs.Layout.{nameCount}
 use Rattle.layout.proofs.Layouts.{few-bounds, names-are, parts-are, few-parts}
 use Rattle.fields.specs.Fields.{fieldCount}
 use Rattle.scope.specs.Contracts.{opens, KeepsReachFrom}
-use Rattle.scope.proofs.ReachTables.{fill-skip, fill-more}
+use Rattle.scope.proofs.Joining.{field-uses}
+use Rattle.scope.proofs.ReachTables.{fill-less, fill-skip, fill-more}
 use borrow.Author.Needs.{needs}
 use Rattle.scope.proofs.enter_fields.Statement.{statement}
 use Rattle.scope.proofs.enter_fields.Tie as tie
 
 abbrev Inv-loop : tie.InvT-loop
-Inv-loop s c q sets₀ f₀ sets f = (f ≤ fieldCount) × KeepsReachFrom s (fieldCount * q + f) sets
+Inv-loop s c q sets₀ f₀ sets f = (f ≤ fieldCount) × KeepsReachFrom s q f sets
 
 abbrev μ-loop : tie.MeasureT-loop
 μ-loop s c q sets₀ f₀ sets f = f
@@ -23,9 +23,11 @@ abbrev μ-loop : tie.MeasureT-loop
 loop-holds : tie.Need-loop-holds Inv-loop μ-loop
 loop-holds c =
     let start = c .before in
-    let q = start .args .q in
-    let all : fieldCount * (q + 1) ≡ fieldCount * q + fieldCount = omega arith in
-    (search needs, subst (λ i. KeepsReachFrom (start .args .s .now) i (start .args .sets .now)) all (start .pre .1 .1 .1))
+    let pre = start .pre in (
+      search needs,
+      fill-less (start .args .s .now) (pre .1 .0) (few-parts (pre .0)) (start .args .q + 1) 0 (start .args .q) fieldCount
+          (start .args .sets .now) (omega arith) (pre .1 .1 .1),
+    )
 
 sub-f : tie.Need-sub-f Inv-loop μ-loop
 sub-f c = search needs
@@ -59,16 +61,15 @@ loop-again c =
     let laid = start .pre .0 in
     let s = start .args .s .now in
     let q = start .args .q in
-    let k = fieldCount * q + (loop .f - 1) in
-    let own : q ≡ k / fieldCount = omega (arith, loop .inv .0) in (
+    let f = loop .f - 1 in
+    let uses =
+    field-uses s (start .pre .1 .0) q f _ (omega (arith, parts-are laid)) (omega (arith, loop .inv .0))
+    (sym (c .before .before .before .used-at .ensures))
+    (c .before .before .if1 .taken) in (
       search needs,
-      fill-more s (start .pre .1 .0) (few-parts laid) (fieldCount * q + loop .f) k _ _ (loop .sets) (omega arith)
-          (omega (arith, parts-are laid, loop .inv .0))
-          (c .before .before .before .used-at .ensures)
-          (c .before .before .if1 .taken)
-          (subst (λ p. IsSet (nameCount s) (λ x. opens s k x || has (getD (loop .sets) p 0) x) (c .entered .result)) own
-          (subst (λ n. IsSet n (λ x. opens s k x || has (getD (loop .sets) q 0) x) (c .entered .result)) (names-are laid)
-          (c .entered .ensures)))
+      fill-more s (start .pre .1 .0) (few-parts laid) q (loop .f) f _ _ (loop .sets) (omega arith) uses
+          (subst (λ n. IsSet n (λ x. opens s q f x || has (getD (loop .sets) q 0) x) (c .entered .result)) (names-are laid)
+          (c .entered .ensures))
           (loop .inv .1),
     )
 
@@ -80,8 +81,9 @@ loop-again-2 c =
     let start = c .before .before .before .before .before in
     let loop = c .before .before .before .loop in (
       search needs,
-      fill-skip _ (start .pre .1 .0) (few-parts (start .pre .0)) (fieldCount * start .args .q + loop .f) _ (loop .sets)
+      fill-skip _ (start .pre .1 .0) (few-parts (start .pre .0)) (start .args .q) (loop .f) _ (loop .sets)
           (omega arith)
+          (omega (arith, loop .inv .0))
           (rw (c .before .used-at .ensures) at (c .if1 .left))
           (loop .inv .1),
     )
@@ -90,8 +92,8 @@ returns : tie.Need-returns Inv-loop μ-loop
 returns c =
     let start = c .before .before .before in
     let loop = c .before .loop in
-    let none : fieldCount * start .args .q + loop .f ≡ fieldCount * start .args .q = omega (arith, c .loop-test .left) in
-    subst (λ i. KeepsReachFrom (start .args .s .now) i (loop .sets)) none (loop .inv .1)
+    let none : loop .f ≡ 0 = omega (arith, c .loop-test .left) in
+    subst (λ f. KeepsReachFrom (start .args .s .now) (start .args .q) f (loop .sets)) none (loop .inv .1)
 
 pub enter-fields-spec : {M : Type 1} → statement M
 enter-fields-spec =

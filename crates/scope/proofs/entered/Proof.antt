@@ -18,7 +18,7 @@ returns : tie.Need-returns
 returns c =
     let start = c .before .before .before .before in
     λ x h.
-    opens-none (start .args .s .now) (start .args .q) (start .args .f) x (start .pre .1 .1 .1) _ _ (c .before .before .field-at .ensures)
+    opens-none (start .args .s .now) (start .args .q) (start .args .f) x _ _ (c .before .before .field-at .ensures)
     (ne-eqb _ _ (c .if1 .taken))
 
 field-at-requires-2 : tie.Need-field-at-requires-2
@@ -31,7 +31,7 @@ returns-2 : tie.Need-returns-2
 returns-2 c =
     let start = c .before .before .before .before .before .before .before in
     λ x h.
-    opens-no-name (start .args .s .now) (start .args .q) (start .args .f) x (start .pre .1 .1 .1) _ _
+    opens-no-name (start .args .s .now) (start .args .q) (start .args .f) x _ _
     (c .before .before .before .before .before .field-at .ensures) _ (c .before .before .field-at2 .ensures)
     (eq-eqb _ _ (c .before .before .before .if1 .left))
     (sym (c .before .is-new .ensures) ∙ not-true _ (c .if2 .taken))
@@ -57,7 +57,7 @@ returns-3 c =
     let start = c .before .before .before .before .before .before .before .before in
     λ x h.
     c .with-name .ensures x (omega (arith, few-bounds (start .args .c) (start .pre .0 .few)))
-    ∙ opens-name (start .args .s .now) (start .args .q) (start .args .f) x (start .pre .1 .1 .1) _ _
+    ∙ opens-name (start .args .s .now) (start .args .q) (start .args .f) x _ _
     (c .before .before .before .before .before .before .field-at .ensures) _ (c .before .before .before .field-at2 .ensures)
     (eq-eqb _ _ (c .before .before .before .before .if1 .left))
     (new (c .before))

@@ -1,7 +1,7 @@
 -- `first_out_of_reach`: the sets of the last part and of the parts that the fields of the parts from q on use are right,
 -- and what is found among the parts from q on.
 use mathlib.Core.Path.{_≡_, refl, sym, _∙_, subst}
-use Prim.Native.Nat.{_+_, _*_, _-_, _≤_, _<_}
+use Prim.Native.Nat.{_+_, _-_, _≤_, _<_}
 use native.Mathlib.Omega.{arith}
 use lib.ListN.{replicate}
 use Rattle.prelude.specs.Sets.{IsSet}
@@ -9,7 +9,6 @@ use Rattle.prelude.proofs.Searches.{SmallestFrom, down-none, down-hit, down-mis
 use Rattle.layout.specs.Layout.{mostParts}
 use Rattle.layout.specs.Entries.{isSession}
 use Rattle.layout.proofs.Layouts.{few-bounds, names-are, parts-are, few-parts}
-use Rattle.fields.specs.Fields.{fieldCount}
 use Rattle.scope.specs.Reach.{isOutOfReach}
 use Rattle.scope.specs.Contracts.{KeepsReachFrom}
 use Rattle.scope.proofs.ReachTables.{right-from, fill-last}
@@ -19,7 +18,7 @@ use Rattle.scope.proofs.first_out_of_reach.Tie as tie
 
 abbrev Inv-loop : tie.InvT-loop
 Inv-loop s c sets₀ n outside₀ q₀ sets outside q =
-    (q ≤ n) × (KeepsReachFrom s (fieldCount * q) sets × SmallestFrom (isOutOfReach s) n q outside)
+    (q ≤ n) × (KeepsReachFrom s q 0 sets × SmallestFrom (isOutOfReach s) n q outside)
 
 abbrev μ-loop : tie.MeasureT-loop
 μ-loop s c sets₀ n outside₀ q₀ sets outside q = q
@@ -62,13 +61,13 @@ enter-fields-requires : tie.Need-enter-fields-requires Inv-loop μ-loop
 enter-fields-requires c κs =
     let start = c .before .before .before .before .before .before in
     let loop = c .before .before .loop in
-    let here : fieldCount * loop .q ≡ fieldCount * (loop .q - 1 + 1) = omega (arith, c .before .loop-test .taken) in (
+    let here : loop .q ≡ loop .q - 1 + 1 = omega (arith, c .before .loop-test .taken) in (
       start .pre .0,
       (
         start .pre .1,
         (
           omega (arith, loop .inv .0, c .before .loop-test .taken),
-          subst (λ i. KeepsReachFrom (start .args .s .now) i (loop .sets)) here (loop .inv .1 .0),
+          subst (λ p. KeepsReachFrom (start .args .s .now) p 0 (loop .sets)) here (loop .inv .1 .0),
         ),
       ),
     )

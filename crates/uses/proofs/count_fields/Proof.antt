@@ -1,7 +1,7 @@
 -- `count_fields`: the table has how often the fields below field f of part q use each part.
 use mathlib.Core.Path.{_≡_, subst}
 use mathlib.Core.Logic.{⊎-elim}
-use Prim.Native.Nat.{_+_, _*_, _-_, _≤_}
+use Prim.Native.Nat.{_-_, _≤_}
 use native.Mathlib.Omega.{arith}
 use lib.Dec.{eqb}
 use lib.ListN.{length-set}
@@ -10,22 +10,19 @@ use Rattle.layout.proofs.Layouts.{few-bounds}
 use Rattle.fields.specs.Fields.{fieldCount}
 use Rattle.uses.specs.Uses.{used}
 use Rattle.uses.specs.Contracts.{KeepsTimesTo}
+use Rattle.uses.proofs.Used.{times-within, times-part}
 use borrow.Author.Needs.{needs}
 use Rattle.uses.proofs.count_fields.Statement.{statement}
 use Rattle.uses.proofs.count_fields.Tie as tie
 
 abbrev Inv-loop : tie.InvT-loop
-Inv-loop s c q times₀ f₀ times f = (f ≤ fieldCount) × KeepsTimesTo s (fieldCount * q + f) times
+Inv-loop s c q times₀ f₀ times f = (f ≤ fieldCount) × KeepsTimesTo s q f times
 
 abbrev μ-loop : tie.MeasureT-loop
 μ-loop s c q times₀ f₀ times f = fieldCount - f
 
 loop-holds : tie.Need-loop-holds Inv-loop μ-loop
-loop-holds c =
-    let start = c .before in
-    let q = start .args .q in
-    let none : fieldCount * q ≡ fieldCount * q + 0 = omega arith in
-    (search needs, subst (λ i. KeepsTimesTo (start .args .s .now) i (start .args .times .now)) none (start .pre .1 .1))
+loop-holds c = (search needs, c .before .pre .1 .1)
 
 used-at-requires : tie.Need-used-at-requires Inv-loop μ-loop
 used-at-requires c κs = search needs
@@ -40,11 +37,13 @@ add-times : tie.Need-add-times Inv-loop μ-loop
 add-times c =
     let start = c .before .before .before .before .before .before in
     let loop = c .before .before .before .before .loop in
+    let part = c .before .before .used-at .result in
     omega (
       arith,
       few-bounds (start .args .c) (start .pre .0 .few),
       loop .inv .1 .1 _ (c .before .if1 .taken),
-      count-within (λ k. eqb (used (start .args .s .now) k) (c .before .before .used-at .result)) (fieldCount * start .args .q + loop .f),
+      times-within (start .args .s .now) part (start .args .q),
+      count-within (λ g. eqb (used (start .args .s .now) (start .args .q) g) part) (loop .f),
     )
 
 mul-times-2 : tie.Need-mul-times-2 Inv-loop μ-loop
@@ -61,27 +60,25 @@ loop-less c = search needs
 
 loop-again : tie.Need-loop-again Inv-loop μ-loop
 loop-again c =
-    let start = c .before .before .before .before .before in
     let loop = c .before .before .before .loop in
-    let i = fieldCount * start .args .q + loop .f in
     let part = c .before .used-at .ensures in
     let long = loop .inv .1 .0 in
-    let tally = loop .inv .1 .1 in
-    let next : i + 1 ≡ fieldCount * start .args .q + (loop .f + 1) = omega arith in (
+    let tally = loop .inv .1 .1 in (
       search needs,
-      subst (λ k. KeepsTimesTo (start .args .s .now) k (c .if1 .times)) next
-          (⊎-elim
-          (λ w. rw (w .2) (simp length-set long, tally-hit _ _ (loop .times) i _ long (w .0 .taken) part tally))
-          (λ w. rw (w .1) (long, tally-miss _ _ (loop .times) i (rw part at (w .0 .left)) tally))
-          (c .if1 .came)),
+      ⊎-elim
+          (λ w. rw (w .2) (simp length-set long, tally-hit _ _ _ (loop .times) (loop .f) _ long (w .0 .taken) part tally))
+          (λ w. rw (w .1) (long, tally-miss _ _ _ (loop .times) (loop .f) (rw part at (w .0 .left)) tally))
+          (c .if1 .came),
     )
 
 returns : tie.Need-returns Inv-loop μ-loop
 returns c =
     let start = c .before .before .before in
+    let loop = c .before .loop in
+    let all : loop .f ≡ fieldCount = omega (arith, c .loop-test .left, loop .inv .0) in
+    let s = start .args .s .now in
     let q = start .args .q in
-    let all : fieldCount * q + c .before .loop .f ≡ fieldCount * (q + 1) = omega (arith, c .loop-test .left, c .before .loop .inv .0) in
-    subst (λ i. KeepsTimesTo (start .args .s .now) i (c .before .loop .times)) all (c .before .loop .inv .1)
+    times-part s q (loop .times) (subst (λ f. KeepsTimesTo s q f (loop .times)) all (loop .inv .1))
 
 pub count-fields-spec : {M : Type 1} → statement M
 count-fields-spec =

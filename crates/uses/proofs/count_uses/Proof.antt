@@ -1,20 +1,15 @@
 -- `count_uses`: the table has how often the fields of the parts below q use each part.
-use mathlib.Core.Path.{refl, ap, _∙_}
-use Prim.Native.Nat.{_*_, _-_, _≤_}
+use Prim.Native.Nat.{_-_, _≤_}
 use native.Mathlib.Omega.{arith}
-use Rattle.prelude.specs.Search.{count}
-use Rattle.prelude.proofs.Counts.{tally-none}
-use Rattle.layout.specs.Layout.{mostParts}
 use Rattle.layout.proofs.Layouts.{few-bounds, parts-are}
-use Rattle.fields.specs.Fields.{fieldCount}
-use Rattle.uses.specs.Uses.{timesUsed}
 use Rattle.uses.specs.Contracts.{KeepsTimesTo}
+use Rattle.uses.proofs.Used.{times-none, times-all}
 use borrow.Author.Needs.{needs}
 use Rattle.uses.proofs.count_uses.Statement.{statement}
 use Rattle.uses.proofs.count_uses.Tie as tie
 
 abbrev Inv-loop : tie.InvT-loop
-Inv-loop s c times₀ n q₀ times q = (q ≤ n) × KeepsTimesTo s (fieldCount * q) times
+Inv-loop s c times₀ n q₀ times q = (q ≤ n) × KeepsTimesTo s q 0 times
 
 abbrev μ-loop : tie.MeasureT-loop
 μ-loop s c times₀ n q₀ times q = n - q
@@ -23,7 +18,7 @@ add-n : tie.Need-add-n Inv-loop μ-loop
 add-n c = let start = c .before .before in omega (arith, few-bounds (start .args .c) (start .pre .few))
 
 loop-holds : tie.Need-loop-holds Inv-loop μ-loop
-loop-holds c = (search needs, (refl, tally-none _ mostParts))
+loop-holds c = (search needs, times-none _)
 
 count-fields-requires : tie.Need-count-fields-requires Inv-loop μ-loop
 count-fields-requires c κs = (c .before .before .before .before .before .pre, (c .before .loop-test .taken, c .before .before .loop .inv .1))
@@ -38,9 +33,10 @@ loop-again : tie.Need-loop-again Inv-loop μ-loop
 loop-again c = (search needs, c .count-fields .ensures)
 
 returns : tie.Need-returns Inv-loop μ-loop
-unfolding timesUsed
 returns c =
-    λ q h. c .before .loop .inv .1 .1 q h ∙ ap (count _) (omega (arith, parts-are (c .before .before .before .before .pre)))
+    let start = c .before .before .before .before in
+    let loop = c .before .loop in
+    times-all (start .args .s .now) (loop .q) (loop .times) (omega (arith, parts-are (start .pre), c .loop-test .left, loop .inv .0)) (loop .inv .1)
 
 pub count-uses-spec : {M : Type 1} → statement M
 count-uses-spec =

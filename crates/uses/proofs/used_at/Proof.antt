@@ -25,7 +25,7 @@ returns c =
     let start = c .before .before .before in
     c .used-by .ensures
     ∙ rw (c .before .field-at .ensures, expressions-are (start .pre .0))
-    (sym (used-of (start .args .s .now) (start .args .q) (start .args .f) (start .pre .1 .1)))
+    (sym (used-of (start .args .s .now) (start .args .q) (start .args .f)))
 
 pub used-at-spec : {M : Type 1} → statement M
 used-at-spec = tie.close (tie.spec field-at-requires used-by-requires returns)
