@@ -1,9 +1,7 @@
-// The tail of a script file, and the layout that it gives: refusals 4 and 5.
-use crate::Script;
+// The tail of a script file: refusal 4.
 use crate::parts::word_at;
 ghost use mathlib.Core.Path.{_≡_};
-ghost use mathlib.Core.Bool.{true};
-ghost use Rattle.layout.specs.Layout.{offsetsAreRight, tailIsRight, countsAreRight, layoutOf};
+ghost use Rattle.layout.specs.Layout.{offsetsAreRight, tailIsRight};
 
 // The last two bytes of a file.
 const MARK: usize = 0x5354;
@@ -42,34 +40,4 @@ pub fn tail_is_right(s: &[u8]) -> bool
         return false;
     }
     offsets_are_right(word_at(s, tail), word_at(s, tail + 2), tail)
-}
-
-pub fn layout_of(s: &[u8]) -> Script
-    requires { ⌜ tailIsRight (now s) ≡ true ⌝ }
-    ensures { λ r. ⌜ r ≡ layoutOf (now (s .entry)) ⌝ }
-{
-    let tail = s.len() - 8;
-    let expressions = word_at(s, tail);
-    let nodes = word_at(s, tail + 2);
-    Script {
-        names: expressions / 4,
-        expressions: (nodes - expressions) / 8,
-        nodes: (tail - nodes) / 8,
-        offset: expressions,
-    }
-}
-
-pub fn counts_are_right(c: Script) -> bool
-    ensures { λ r. ⌜ r ≡ countsAreRight c ⌝ }
-{
-    if Script::MAX_NAMES < c.names {
-        return false;
-    }
-    if Script::MAX_EXPRESSIONS < c.expressions {
-        return false;
-    }
-    if c.nodes < 1 {
-        return false;
-    }
-    c.nodes <= Script::MAX_NODES
 }

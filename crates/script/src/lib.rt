@@ -36,8 +36,8 @@ fn refusal(s: &[u8], levels: usize) -> Refusal
     if !tail::tail_is_right(s) {
         return refused(4, 0);
     }
-    let c = tail::layout_of(s);
-    if !tail::counts_are_right(c) {
+    let c = Script::layout_of(s);
+    if !c.counts_are_right() {
         return refused(5, 0);
     }
     entry_refusal(s, c, levels)
@@ -61,6 +61,6 @@ pub fn load(s: &[u8], levels: usize) -> Loaded
     }
     Loaded {
         refusal,
-        script: tail::layout_of(s),
+        script: Script::layout_of(s),
     }
 }

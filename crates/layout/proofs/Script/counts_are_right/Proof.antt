@@ -1,7 +1,7 @@
 -- `counts_are_right`: each way out decides one test of the definition.
 use borrow.Author.Tests.{le-leb, lt-leb}
-use Rattle.layout.proofs.tail.counts_are_right.Statement.{statement}
-use Rattle.layout.proofs.tail.counts_are_right.Tie as tie
+use Rattle.layout.proofs.Script.counts_are_right.Statement.{statement}
+use Rattle.layout.proofs.Script.counts_are_right.Tie as tie
 
 returns : tie.Need-returns
 returns c = rw (lt-leb _ _ (c .if1 .taken))
