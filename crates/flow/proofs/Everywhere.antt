@@ -54,8 +54,10 @@ module _ (𝓛 : Lattice ℕ) (s : List ℕ) (ok : Checked s) where
     first-need (none n q) h e = absurd (omega arith)
     first-need (one n q a) h e =
         (omega (arith, a .before), and-left (needsAt first) true (sym (ap (needsOf 𝓛 (namesOf s)) q) ∙ children-need e))
-    first-need (two n q a b) h e =
-        (omega (arith, a .before), and-left (needsAt first) (needsAt second && true) (sym (ap (needsOf 𝓛 (namesOf s)) q) ∙ children-need e))
+    first-need (two n q a b) h e = (
+      omega (arith, a .before),
+      and-left (needsAt first) (needsAt second && true) (sym (ap (needsOf 𝓛 (namesOf s)) q) ∙ children-need e),
+    )
 
     second-need :
         Children s k → 1 < childCount (partOf s (node s k) .kind) → needsAt k ≡ true →
@@ -76,7 +78,8 @@ module _ (𝓛 : Lattice ℕ) (s : List ℕ) (ok : Checked s) where
       where
         go : Children s k → ofChildren ≡ true
         go (none n q) = ap (needsOf 𝓛 (namesOf s)) q
-        go (one n q a) = ap (needsOf 𝓛 (namesOf s)) q ∙ and-intro (needsAt first) true (below first (omega (arith, a .before))) refl
+        go (one n q a) =
+            ap (needsOf 𝓛 (namesOf s)) q ∙ and-intro (needsAt first) true (below first (omega (arith, a .before))) refl
         go (two n q a b) =
             ap (needsOf 𝓛 (namesOf s)) q
             ∙ and-intro (needsAt first) (needsAt second && true) (below first (omega (arith, a .before)))

@@ -1,4 +1,5 @@
--- Write level, test level and first failing node of a checked script under a checked book; what the walks ask and give.
+-- Write level, test level and first failing node of a checked script under a checked book: what the walks ask and give,
+-- no part of what is promised.
 use mathlib.Core.Path.{_≡_}
 use mathlib.Core.Bool.{true, false}
 use mathlib.Core.List.{List}

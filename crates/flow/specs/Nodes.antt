@@ -1,6 +1,6 @@
 -- 01's list of W, T and the needs, by the number of a node's kind: what a node has, from what it brings itself and what
 -- its children have. `join` and `leq` are those of a lattice, or what a table keeps and a book says.
--- proofs/ByKind.antt shows that this is `writeLevel`, `testLevel` and `need`.
+-- proofs/ByKind.antt shows that this is `writeLevel`, `testLevel` and `need`; no part of what is promised.
 use mathlib.Core.Bool.{Bool, true, cond, _&&_, _||_}
 use Prim.Native.Nat.{ℕ, _<_}
 use lib.Dec.{eqb}

@@ -35,7 +35,8 @@ module _ (s : List ℕ) (joined : Joined s) where
   pub field-uses : (p f q : ℕ) → p < partCount s → f < fieldCount → used s p f ≡ q → q < mostParts → FieldUses s p f q
   unfolding used
   field-uses p f q h l e small =
-      let b = uses-earlier s p (fieldOf s p f) (right-field s (joined .sound) p f h l) (subst (λ u. u < mostParts) (sym e) small) in
+      let right = right-field s (joined .sound) p f h l in
+      let b = uses-earlier s p (fieldOf s p f) right (subst (λ u. u < mostParts) (sym e) small) in
       record { known = h; inside = l; same = e; before = subst (λ u. u < p) e b }
 
   module _ (q : ℕ) (h : suc q < partCount s) (few : q < mostParts) where

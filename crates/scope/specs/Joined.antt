@@ -1,4 +1,4 @@
--- What a file has that refusals 6 to 9 leave.
+-- What functions ask of a file that refusals 6 to 9 leave, no part of what is promised.
 use mathlib.Core.Path.{_≡_}
 use mathlib.Core.List.{List}
 use Prim.Native.Nat.{ℕ, suc, _<_}

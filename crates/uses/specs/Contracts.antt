@@ -12,7 +12,7 @@ use Rattle.uses.specs.Uses.{used, timesIn, timesUsed}
 abbrev pub KeepsTimes : List ℕ → List ℕ → Type 0
 KeepsTimes s times = (q : ℕ) → q < mostParts → getD times q 0 ≡ timesUsed s q
 
--- .. and one that keeps how often the parts before p and the first f fields of part p use it
+-- one that keeps how often the parts before p and the first f fields of part p use it
 abbrev pub KeepsTimesTo : List ℕ → ℕ → ℕ → List ℕ → Type 0
 KeepsTimesTo s p f times =
     (length times ≡ mostParts)

@@ -22,7 +22,7 @@ usedBy expressions x =
 unfoldable pub used : List ℕ → ℕ → ℕ → ℕ
 used s p f = usedBy (expressionCount s) (fieldOf s p f)
 
--- how often part p uses part q: by how many of its fields
+-- how often part q is used in part p: by how many fields of p
 abbrev pub timesIn : List ℕ → ℕ → ℕ → ℕ
 timesIn s q p = count (λ f. eqb (used s p f) q) fieldCount
 

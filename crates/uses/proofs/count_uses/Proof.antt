@@ -36,7 +36,9 @@ returns : tie.Need-returns Inv-loop μ-loop
 returns c =
     let start = c .before .before .before .before in
     let loop = c .before .loop in
-    times-all (start .args .s .now) (loop .q) (loop .times) (omega (arith, parts-are (start .pre), c .loop-test .left, loop .inv .0)) (loop .inv .1)
+    times-all (start .args .s .now) (loop .q) (loop .times)
+    (omega (arith, parts-are (start .pre), c .loop-test .left, loop .inv .0))
+    (loop .inv .1)
 
 pub count-uses-spec : {M : Type 1} → statement M
 count-uses-spec =
