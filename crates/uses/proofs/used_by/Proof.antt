@@ -1,11 +1,12 @@
 -- `used_by`: each way out decides one test of the definition.
 use borrow.Author.Tests.{eq-eqb, ne-eqb}
+use Rattle.fields.specs.Roles.{expression}
 use borrow.Author.Needs.{needs}
 use Rattle.uses.proofs.used_by.Statement.{statement}
 use Rattle.uses.proofs.used_by.Tie as tie
 
 returns : tie.Need-returns
-returns c = rw (eq-eqb _ _ (c .if1 .taken))
+returns c = rw (eq-eqb _ expression (c .if1 .taken))
 
 add-result : tie.Need-add-result
 add-result c = search needs

@@ -1,4 +1,5 @@
 -- `offsets_are_right`: each way out decides one test of the definition.
+use Prim.Native.Nat.{_-_, _%_}
 use borrow.Author.Tests.{le-leb, lt-leb, eq-eqb, ne-eqb}
 use Rattle.layout.proofs.tail.offsets_are_right.Statement.{statement}
 use Rattle.layout.proofs.tail.offsets_are_right.Tie as tie
@@ -19,11 +20,12 @@ returns-3 c =
 
 returns-4 : tie.Need-returns-4
 returns-4 c =
+    let a = c .before .before .before .before .args in
     rw (
       le-leb _ _ (c .before .before .before .if1 .left),
       le-leb _ _ (c .before .before .if2 .left),
       eq-eqb _ _ (c .before .if3 .left),
-      ne-eqb _ _ (c .if4 .taken),
+      ne-eqb ((a .nodes - a .expressions) % 8) 0 (c .if4 .taken),
     )
 
 returns-5 : tie.Need-returns-5

@@ -16,7 +16,7 @@ word-at-requires c κs = search needs
 
 returns-2 : tie.Need-returns-2
 returns-2 c =
-    rw (le-leb _ _ (c .before .before .if1 .left), ne-eqb _ _ (λ e. c .if2 .taken (c .before .word-at .ensures ∙ e)))
+    rw (le-leb _ _ (c .before .before .if1 .left), ne-eqb _ 21332 (λ e. c .if2 .taken (c .before .word-at .ensures ∙ e)))
 
 add-word-at-2 : tie.Need-add-word-at-2
 add-word-at-2 c = search needs
