@@ -5,19 +5,20 @@ use mathlib.Core.List.{List}
 use mathlib.Core.Logic.{_⊎_, inl, inr, ⊎-elim}
 use Prim.Native.Nat.{ℕ, _≤_, _<_}
 use native.Mathlib.Omega.{arith}
-use lib.Dec.{eqb, ltb}
-use borrow.Author.Tests.{eqb-true, ltb-true}
+use lib.Dec.{ltb}
+use borrow.Author.Tests.{ltb-true}
 use Rattle.prelude.specs.Search.{lesser}
-use Rattle.prelude.proofs.Bools.{and-left, by-cases}
+use Rattle.prelude.proofs.Bools.{and-left}
 use Rattle.layout.specs.declared.parts.Part.{Part}
 use Rattle.layout.specs.Layout.{expressionCount, nodeCount}
 use Rattle.layout.specs.Entries.{partOf, node}
 use Rattle.layout.proofs.Layouts.{few-parts}
-use Rattle.fields.specs.Roles.{expression, child}
+use Rattle.fields.specs.declared.Field.{Field}
+use Rattle.fields.specs.Roles.{child}
 use Rattle.fields.specs.Fields.{fieldOf}
 use Rattle.fields.specs.Children.{firstChild, secondChild, childCount}
 use Rattle.entries.proofs.Holding.{holds-expression, right-field}
-use Rattle.uses.proofs.Used.{used-of}
+use Rattle.uses.proofs.Used.{used-of, used-by-role}
 use Rattle.scope.specs.Reach.{liesIn}
 use Rattle.scope.specs.Contracts.{FieldUses}
 use Rattle.scope.proofs.Reaching.{lies-self, lies-deeper, lies-cases, lies-below}
@@ -60,24 +61,18 @@ module _ (s : List ℕ) (ok : Checked s) (k : ℕ) (h : k < nodeCount s) where
       {f u : ℕ} → FieldUses s (node s k) f u → expressionCount s ≤ u →
       (fieldOf s (node s k) f .role ≡ child) × (u ≡ node s (fieldOf s (node s k) f .value))
   is-child {f} {u} w l =
-      by-cases
-      (λ v. v ≡ u → (fieldOf s (node s k) f .role ≡ child) × (u ≡ node s (fieldOf s (node s k) f .value)))
-      (eqb (fieldOf s (node s k) f .role) expression)
+      let x : Field = fieldOf s (node s k) f in
+      let right = right-field s (ok .joined .sound) (node s k) f (w .known) (w .inside) in
+      used-by-role (λ v. v ≡ u → (x .role ≡ child) × (u ≡ node s (x .value))) (expressionCount s) x
       (λ e v.
-      let t =
-      sym (holds-expression s (node s k) (fieldOf s (node s k) f) (eqb-true _ _ e))
-      ∙ right-field s (ok .joined .sound) (node s k) f (w .known) (w .inside) in
       absurd
       (omega (
         arith,
-        ltb-true (fieldOf s (node s k) f .value) (expressionCount s)
-            (and-left (ltb (fieldOf s (node s k) f .value) (expressionCount s)) _ t),
+        ltb-true (x .value) (expressionCount s)
+            (and-left (ltb (x .value) (expressionCount s)) _ (sym (holds-expression s (node s k) x e) ∙ right)),
       )))
-      (λ _.
-      by-cases
-      (λ v. v ≡ u → (fieldOf s (node s k) f .role ≡ child) × (u ≡ node s (fieldOf s (node s k) f .value)))
-      (eqb (fieldOf s (node s k) f .role) child) (λ e v. (eqb-true _ _ e, sym v))
-      (λ _ v. absurd (omega (arith, w .known, w .before, few-parts (ok .laid)))))
+      (λ e v. (e, sym v))
+      (λ v. absurd (omega (arith, w .known, w .before, few-parts (ok .laid))))
       (sym (used-of s (node s k) f) ∙ w .same)
 
   pub node-cases : (j : ℕ) → liesIn s (node s j) (node s k) ≡ true → (k ≡ j) ⊎ Below s k j

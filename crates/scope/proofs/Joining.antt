@@ -6,16 +6,16 @@ use Prim.Native.Nat.{ℕ, suc, _<_}
 use native.Mathlib.Omega.{arith}
 use lib.Dec.{eqb, ltb}
 use borrow.Author.Tests.{ltb-true, eqb-true, eq-eqb}
-use Rattle.prelude.proofs.Bools.{and-right, by-cases}
+use Rattle.prelude.proofs.Bools.{and-right}
 use Rattle.prelude.proofs.Counts.{count-found, count-some, count-one}
 use Rattle.prelude.proofs.Sums.{sum-holds, sum-found, sum-one}
 use Rattle.layout.specs.Layout.{mostParts, expressionCount, partCount}
 use Rattle.fields.specs.declared.Field.{Field}
-use Rattle.fields.specs.Roles.{expression, child}
 use Rattle.fields.specs.Fields.{fieldCount, fieldOf}
 use Rattle.entries.specs.Faults.{holds}
 use Rattle.entries.proofs.Holding.{holds-expression, holds-child, right-field}
 use Rattle.uses.specs.Uses.{usedBy, used, timesIn, timesUsed}
+use Rattle.uses.proofs.Used.{used-by-role}
 use Rattle.scope.specs.Contracts.{FieldUses}
 use Rattle.scope.specs.Joined.{Joined}
 
@@ -23,12 +23,10 @@ module _ (s : List ℕ) (q : ℕ) (x : Field) where
   -- what a right field uses comes before its part
   uses-earlier : holds s q x ≡ true → usedBy (expressionCount s) x < mostParts → usedBy (expressionCount s) x < q
   uses-earlier h =
-      by-cases (λ u. u < mostParts → u < q) (eqb (x .role) expression)
-      (λ e l. ltb-true _ _ (and-right (ltb (x .value) (expressionCount s)) _ (sym (holds-expression s q x (eqb-true _ _ e)) ∙ h)))
-      (λ n.
-      by-cases (λ u. u < mostParts → u < q) (eqb (x .role) child)
-      (λ e l. ltb-true _ _ (sym (holds-child s q x (eqb-true _ _ e)) ∙ h))
-      (λ m l. absurd (omega arith)))
+      used-by-role (λ u. u < mostParts → u < q) (expressionCount s) x
+      (λ e l. ltb-true _ _ (and-right (ltb (x .value) (expressionCount s)) _ (sym (holds-expression s q x e) ∙ h)))
+      (λ e l. ltb-true _ _ (sym (holds-child s q x e) ∙ h))
+      (λ l. absurd (omega arith))
 
 module _ (s : List ℕ) (joined : Joined s) where
   -- a field that uses a part uses one before its own

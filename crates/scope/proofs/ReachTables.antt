@@ -32,6 +32,14 @@ module _ (s : List ℕ) (j : Joined s) (few : partCount s ≤ mostParts) where
             λ x k. h .last q e x k ∙ sym (reach-last s j q x e k)
       ]
 
+  -- one field, by its number among all
+  same-field :
+      (p f m g : ℕ) → f < fieldCount → g < fieldCount → fieldCount * p + f ≡ fieldCount * m + g → used s p f ≡ used s m g
+  same-field p f m g h l e =
+      let part : p ≡ m = omega arith in
+      let field : f ≡ g = omega arith in
+      ap₂ (used s) part field
+
   -- a later field to start from
   pub fill-less :
       (p f m g : ℕ) (sets : List ℕ) → fieldCount * p + f ≤ fieldCount * m + g → KeepsReachFrom s p f sets →
@@ -64,10 +72,7 @@ module _ (s : List ℕ) (j : Joined s) (few : partCount s ≤ mostParts) where
         passed =
             λ m g q l u.
             elim (ℕ-discrete (fieldCount * p + f) (fieldCount * m + g)) [
-              | yes e ↦
-                  let part : m ≡ p = omega (arith, e, inside, u .inside) in
-                  let field : g ≡ f = omega (arith, e, inside, u .inside) in
-                  absurd (omega (arith, u .known, u .before, rw (part, field) at (u .same)))
+              | yes e ↦ absurd (omega (arith, u .known, u .before, u .same, same-field p f m g inside (u .inside) e))
               | no e ↦ h .passed m g q (omega (arith, lt-of-le-of-ne l e)) u
             ];
       }
@@ -95,13 +100,12 @@ module _ (s : List ℕ) (j : Joined s) (few : partCount s ≤ mostParts) where
                   ∙ sym (reach-used s j w x named))
               | no differ ↦
                   rw (getD-set-other sets v q more 0 (λ e. differ (sym e)))
-                  (h .passed m g q (omega (arith, lt-of-le-of-ne l (other m g q u differ))) u)
+                  (h .passed m g q
+                  (omega (
+                    arith,
+                    lt-of-le-of-ne l
+                        (λ e. differ (sym (w .same) ∙ same-field p f m g (w .inside) (u .inside) e ∙ u .same)),
+                  ))
+                  u)
             ];
       }
-    where
-      -- a field that uses another part is another field
-      other : (m g q : ℕ) → FieldUses s m g q → (v ≡ q → ⊥) → fieldCount * p + f ≡ fieldCount * m + g → ⊥
-      other m g q u differ e =
-          let part : m ≡ p = omega (arith, e, w .inside, u .inside) in
-          let field : g ≡ f = omega (arith, e, w .inside, u .inside) in
-          differ (sym (w .same) ∙ sym (ap₂ (used s) part field) ∙ u .same)

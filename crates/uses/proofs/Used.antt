@@ -7,7 +7,9 @@ use native.Mathlib.Numerals.{add-one}
 use native.Mathlib.Omega.{arith}
 use lib.Dec.{eqb}
 use lib.ListN.{replicate, getD-replicate}
+use borrow.Author.Tests.{eqb-true}
 use Rattle.prelude.specs.Search.{count, sum}
+use Rattle.prelude.proofs.Bools.{by-cases}
 use Rattle.prelude.proofs.Counts.{count-within}
 use Rattle.layout.specs.Layout.{mostParts, expressionCount, partCount}
 use Rattle.fields.specs.declared.Field.{Field}
@@ -46,3 +48,10 @@ used-expression n x e = rw e
 
 pub used-child : (n : ℕ) (x : Field) → x .role ≡ child → usedBy n x ≡ n + x .value
 used-child n x e = rw e
+
+pub used-by-role :
+    (M : ℕ → Type 0) (n : ℕ) (x : Field) → (x .role ≡ expression → M (x .value)) → (x .role ≡ child → M (n + x .value)) →
+    M mostParts → M (usedBy n x)
+used-by-role M n x operand node none =
+    by-cases M (eqb (x .role) expression) (λ e. operand (eqb-true _ _ e))
+    (λ _. by-cases M (eqb (x .role) child) (λ e. node (eqb-true _ _ e)) (λ _. none))

@@ -1,5 +1,6 @@
 -- `used_by`: each way out decides one test of the definition.
 use borrow.Author.Tests.{eq-eqb, ne-eqb}
+use Rattle.fields.specs.Roles.{expression}
 use borrow.Author.Needs.{needs}
 use Rattle.fields.specs.Roles.{expression}
 use Rattle.uses.proofs.used_by.Statement.{statement}

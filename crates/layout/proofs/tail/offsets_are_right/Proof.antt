@@ -1,6 +1,5 @@
 -- `offsets_are_right`: each way out decides one test of the definition.
-use Prim.Native.Nat.{ℕ, _-_, _%_}
-use native.Mathlib.Omega.{arith}
+use Prim.Native.Nat.{_-_, _%_}
 use borrow.Author.Tests.{le-leb, lt-leb, eq-eqb, ne-eqb}
 use Rattle.layout.proofs.tail.offsets_are_right.Statement.{statement}
 use Rattle.layout.proofs.tail.offsets_are_right.Tie as tie
@@ -21,22 +20,21 @@ returns-3 c =
 
 returns-4 : tie.Need-returns-4
 returns-4 c =
-    let piece : ℕ = c .before .before .before .before .args .nodes - c .before .before .before .before .args .expressions in
+    let a = c .before .before .before .before .args in
     rw (
       le-leb _ _ (c .before .before .before .if1 .left),
       le-leb _ _ (c .before .before .if2 .left),
       eq-eqb _ _ (c .before .if3 .left),
-      ne-eqb (piece % 8) 0 (λ e. c .if4 .taken (omega arith)),
+      ne-eqb ((a .nodes - a .expressions) % 8) 0 (c .if4 .taken),
     )
 
 returns-5 : tie.Need-returns-5
 returns-5 c =
-    let piece : ℕ = c .before .before .before .before .args .nodes - c .before .before .before .before .args .expressions in
     rw (
       le-leb _ _ (c .before .before .before .if1 .left),
       le-leb _ _ (c .before .before .if2 .left),
       eq-eqb _ _ (c .before .if3 .left),
-      eq-eqb (piece % 8) 0 (omega arith),
+      eq-eqb _ _ (c .if4 .left),
     )
 
 pub offsets-are-right-spec : {M : Type 1} → statement M
