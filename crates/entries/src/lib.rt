@@ -3,8 +3,8 @@ mod names; // names.rt: refusal 6
 mod parts; // parts.rt: refusals 7 and 8
 
 use layout::Script;
-use prelude::Refusal;
 use layout::places::refused;
+use prelude::Refusal;
 ghost use mathlib.Core.Path.{_≡_};
 ghost use Rattle.layout.specs.Contracts.{Laid};
 ghost use Rattle.entries.specs.Faults.{faultRefusal};

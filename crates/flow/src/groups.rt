@@ -15,12 +15,14 @@ pub fn is_either(kind: usize, one: usize, other: usize) -> bool
 pub fn has_signal(kind: usize) -> bool
     ensures { λ r. ⌜ r ≡ hasSignal kind ⌝ }
 {
-    is_either(kind, process_kinds::EMIT, process_kinds::LOCAL) || is_either(kind, process_kinds::WATCHING, process_kinds::WHEN)
+    is_either(kind, process_kinds::EMIT, process_kinds::LOCAL)
+        || is_either(kind, process_kinds::WATCHING, process_kinds::WHEN)
 }
 
 // A node of this kind tests its expression or its signal.
 pub fn has_test(kind: usize) -> bool
     ensures { λ r. ⌜ r ≡ hasTest kind ⌝ }
 {
-    is_either(kind, process_kinds::IF, process_kinds::WHILE) || is_either(kind, process_kinds::WATCHING, process_kinds::WHEN)
+    is_either(kind, process_kinds::IF, process_kinds::WHILE)
+        || is_either(kind, process_kinds::WATCHING, process_kinds::WHEN)
 }

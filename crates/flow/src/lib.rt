@@ -5,9 +5,9 @@ mod walk; // walk.rt: the walk over the nodes
 pub mod nodes; // nodes.rt: what a node has, from what its children have
 mod groups; // groups.rt: the groups of kinds that the levels tell apart
 
+use crate::nodes::Flow;
 use book::Book;
 use layout::Script;
-use crate::nodes::Flow;
 use pairs::table::PairTable;
 ghost use Rattle.flow.specs.Flow.{levelsOf, Ready, Joins, Meets, FlowOf};
 

@@ -1,11 +1,11 @@
 // What a node brings itself.
 use crate::expressions::level_of;
-use layout::parts::Part;
-use layout::parts::name_at;
-use crate::nodes::Own;
-use language::process_kinds;
 use crate::groups;
 use crate::groups::is_either;
+use crate::nodes::Own;
+use language::process_kinds;
+use layout::parts::Part;
+use layout::parts::name_at;
 use pairs::table::PairTable;
 ghost use Rattle.flow.specs.Flow.{Levels, Reads, IsNode, OwnOf};
 

@@ -1,10 +1,10 @@
 // The walk over the nodes.
+use crate::nodes::Flow;
 use crate::own;
 use book::Book;
 use fields::children::children_of;
 use fields::roles::child_count;
 use layout::parts::part_at;
-use crate::nodes::Flow;
 use pairs::table::PairTable;
 ghost use Prim.Native.Nat.{_<_};
 ghost use Rattle.flow.specs.Flow.{Levels, Walks, FlowAt};

@@ -1,8 +1,8 @@
 // The script file: any bytes in; out comes a checked script, or a refusal.
 use layout::Script;
-use prelude::Refusal;
 use layout::places::refused;
 use layout::tail;
+use prelude::Refusal;
 ghost use mathlib.Core.Path.{_≡_};
 ghost use Rattle.layout.specs.Contracts.{Laid};
 ghost use Rattle.script.specs.Refusals.{entryRefusal, refusal};
