@@ -13,7 +13,7 @@ use Rattle.tree.specs.Tree.{namesOf, tree}
 use Rattle.runner.specs.Outcome.{words}
 use Rattle.runner.specs.Contracts.{endingNumber}
 use Rattle.results.specs.declared.Verdict.{Verdict}
-use Rattle.results.specs.declared.Report.{Report}
+use Rattle.results.specs.declared.RunResult.{RunResult}
 use Rattle.results.specs.Reports.{verdictBy, refusedReport, reportBy}
 use Rattle.checker.specs.Refusals.{checkRefusal}
 use Rattle.arguments.specs.Refusals.{runRefusal}
@@ -36,7 +36,7 @@ runOf b s reader values limit log =
 
 -- what a call of run leaves
 pub record Left : Type 0 where
-  pub report : Report
+  pub report : RunResult
   pub values : List ℤ
   pub log : List ℕ
 

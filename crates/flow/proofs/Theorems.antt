@@ -3,7 +3,7 @@ use mathlib.Core.Path.{_≡_, refl, sym, ap, _∙_, subst}
 use mathlib.Core.Bool.{true, cond}
 use mathlib.Core.List.{List}
 use Prim.Native.Nat.{ℕ}
-use Rattle.book.specs.declared.Loaded.{Loaded}
+use Rattle.book.specs.declared.LoadedBook.{LoadedBook}
 use Rattle.order.specs.Order.{LevelLattice}
 use Rattle.lattice.specs.Refusals.{isAccepted}
 use Rattle.book.specs.Load.{bookOf, noBook}
@@ -18,7 +18,7 @@ pub needs-everywhere : NeedsEverywhere
 needs-everywhere = record { everywhere = everywhere.everywhere; enough = enough; first = needs-first }
 
 module _
-    (b : List ℕ) (r : Loaded) (join meet : List (List ℕ)) (w : Loads b r join meet) (accepted : isAccepted b ≡ true) where
+    (b : List ℕ) (r : LoadedBook) (join meet : List (List ℕ)) (w : Loads b r join meet) (accepted : isAccepted b ≡ true) where
   book-is : r .book ≡ bookOf b
   unfolding loaded
   book-is = ap (λ z. z .book) (w .result) ∙ ap (λ t. cond t (bookOf b) noBook) accepted

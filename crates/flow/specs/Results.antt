@@ -4,7 +4,7 @@ use mathlib.Core.Bool.{true}
 use mathlib.Core.List.{List}
 use Prim.Native.Nat.{ℕ, _<_}
 use lib.Dec.{eqb}
-use Rattle.book.specs.declared.Loaded.{Loaded}
+use Rattle.book.specs.declared.LoadedBook.{LoadedBook}
 use Rattle.lattice.specs.Refusals.{isAccepted}
 use Rattle.lattice.specs.Load.{Loads}
 use Rattle.lattice.specs.Lattice.{Lattice, bookLattice}
@@ -30,11 +30,11 @@ pub record NeedsEverywhere : Type 0 where
 -- What a caller of `find_flow` has of a book that `load` accepted, with its tables.
 pub record CallersReady : Type 0 where
   pub ordered :
-      (b : List ℕ) (r : Loaded) (join meet : List (List ℕ)) → Loads b r join meet → isAccepted b ≡ true →
+      (b : List ℕ) (r : LoadedBook) (join meet : List (List ℕ)) → Loads b r join meet → isAccepted b ≡ true →
       Ordered (levelsOf (r .book))
   pub tables :
-      (b : List ℕ) (r : Loaded) (join meet : List (List ℕ)) → Loads b r join meet → isAccepted b ≡ true →
+      (b : List ℕ) (r : LoadedBook) (join meet : List (List ℕ)) → Loads b r join meet → isAccepted b ≡ true →
       Joins (levelsOf (r .book)) join × Meets (levelsOf (r .book)) meet
   pub same :
-      (b : List ℕ) (r : Loaded) (join meet : List (List ℕ)) → Loads b r join meet → isAccepted b ≡ true →
+      (b : List ℕ) (r : LoadedBook) (join meet : List (List ℕ)) → Loads b r join meet → isAccepted b ≡ true →
       lattice (levelsOf (r .book)) ≡ bookLattice b

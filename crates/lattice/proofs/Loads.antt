@@ -8,7 +8,7 @@ use borrow.Author.Tests.{eq-eqb, ne-eqb, lt-ltb, le-ltb}
 use Rattle.prelude.specs.declared.Refusal.{Refusal}
 use Rattle.prelude.specs.Refusals.{refusedBy, notRefused, passes}
 use Rattle.prelude.proofs.Searches.{first-within}
-use Rattle.book.specs.declared.Loaded.{Loaded}
+use Rattle.book.specs.declared.LoadedBook.{LoadedBook}
 use Rattle.book.specs.LevelBook.{mostLevels, count, rows, atOrBelow}
 use Rattle.order.specs.Rows.{InOrder}
 use Rattle.order.specs.Refusals as orders
@@ -21,7 +21,7 @@ use Rattle.lattice.specs.Refusals.{refusal, isAccepted}
 use Rattle.lattice.specs.Load.{loaded, Loads}
 
 -- what the first two refusals leave: the book as it was read, in order
-module _ (s : List ℕ) (r : Loaded) (read : r ≡ orders-load.loaded s) where
+module _ (s : List ℕ) (r : LoadedBook) (read : r ≡ orders-load.loaded s) where
   module _ (zero : r .refusal .number ≡ 0) where
     passes-both : passes (orders.refusal s) ≡ true
     unfolding orders-load.loaded
@@ -47,7 +47,7 @@ module _ (s : List ℕ) (r : Loaded) (read : r ≡ orders-load.loaded s) where
 
   -- a refusal, whatever the tables then are
   refuses :
-      (x : Refusal) (join meet : List (List ℕ)) (l : Loaded) → passes x ≡ false → refusal s ≡ x → l ≡ answer x noBook →
+      (x : Refusal) (join meet : List (List ℕ)) (l : LoadedBook) → passes x ≡ false → refusal s ≡ x → l ≡ answer x noBook →
       Loads s l join meet
   unfolding loaded
   refuses x join meet l none e q =
@@ -74,7 +74,7 @@ module _ (s : List ℕ) (r : Loaded) (read : r ≡ orders-load.loaded s) where
       unfolding refusal
       lacks l = rw (passes-both zero, sym (paired .first-place), lt-ltb p (mostLevels * mostLevels) l)
 
-      pub pair-way : p < mostLevels * mostLevels → (x : Loaded) → x ≡ answer (refusedBy 3 p) noBook → Loads s x join meet
+      pub pair-way : p < mostLevels * mostLevels → (x : LoadedBook) → x ≡ answer (refusedBy 3 p) noBook → Loads s x join meet
       pair-way l x e = refuses (refusedBy 3 p) join meet x refl (lacks l) e
 
       most : mostLevels * mostLevels ≤ p → p ≡ mostLevels * mostLevels

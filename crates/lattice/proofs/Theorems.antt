@@ -7,7 +7,7 @@ use native.Mathlib.Decide.{decLt}
 use native.Mathlib.Omega.{arith}
 use borrow.Author.Tests.{lt-ltb, le-ltb}
 use Rattle.prelude.proofs.Bools.{by-cases}
-use Rattle.book.specs.declared.Loaded.{Loaded}
+use Rattle.book.specs.declared.LoadedBook.{LoadedBook}
 use Rattle.order.specs.Order.{Relation, leastUpper, greatestLower, LevelLattice}
 use Rattle.book.specs.LevelBook.{mostLevels, count, rows, atOrBelow}
 use Rattle.lattice.specs.Refusals.{isAccepted}
@@ -85,7 +85,7 @@ module _ (s : List ℕ) (i j : ℕ) (hi : i < count s) (hj : j < count s) where
 
 -- A loaded book has no more levels than a book can have, refused or not.
 pub loads-few :
-    (s : List ℕ) (r : Loaded) (join meet : List (List ℕ)) → Loads s r join meet → r .book .count ≤ mostLevels
+    (s : List ℕ) (r : LoadedBook) (join meet : List (List ℕ)) → Loads s r join meet → r .book .count ≤ mostLevels
 unfolding loaded
 loads-few s r join meet w =
     subst

@@ -1,7 +1,7 @@
 // The lattice of a level book: any bytes in; out comes a checked book with the join and meet of every pair, or a
 // refusal; and the greatest and the least level of all.
 use book::Book;
-use book::Loaded;
+use book::LoadedBook;
 use book::sets;
 use pairs::table::PairTable;
 ghost use mathlib.Core.Path.{_≡_};
@@ -15,7 +15,7 @@ ghost use Rattle.lattice.specs.Load.{Loads};
 
 // Checks a level book of any bytes. Where it is not refused, `join` and `meet` then keep the least common upper
 // and the greatest common lower level of every pair.
-pub fn load(s: &[u8], join: &mut PairTable, meet: &mut PairTable) -> Loaded
+pub fn load(s: &[u8], join: &mut PairTable, meet: &mut PairTable) -> LoadedBook
     requires { ⌜ Square mostLevels (now join) × Square mostLevels (now meet) ⌝ }
     ensures { λ r. ⌜ Loads (now (s .entry)) r (now (join .exit)) (now (meet .exit)) ⌝ }
 {

@@ -12,14 +12,14 @@ use Rattle.layout.specs.Layout.{mostParts, expressionCount, partCount}
 use Rattle.fields.specs.declared.Field.{Field}
 use Rattle.fields.specs.Roles.{expression, child}
 use Rattle.fields.specs.Fields.{fieldCount}
-use Rattle.entries.specs.Faults.{holds}
+use Rattle.entries.specs.Faults.{fieldIsRight}
 use Rattle.entries.proofs.Holding.{holds-expression, holds-child, right-field}
 use Rattle.uses.specs.Uses.{fieldAt, allFields, usedBy, used, timesUsed}
 use Rattle.scope.specs.Joined.{Joined}
 
 module _ (s : List ℕ) (q : ℕ) (x : Field) where
   -- what a right field uses comes before its part
-  uses-earlier : holds s q x ≡ true → usedBy (expressionCount s) x < mostParts → usedBy (expressionCount s) x < q
+  uses-earlier : fieldIsRight s q x ≡ true → usedBy (expressionCount s) x < mostParts → usedBy (expressionCount s) x < q
   uses-earlier h =
       by-cases (λ u. u < mostParts → u < q) (eqb (x .role) expression)
       (λ e l. ltb-true _ _ (and-right (ltb (x .value) (expressionCount s)) _ (sym (holds-expression s q x (eqb-true _ _ e)) ∙ h)))

@@ -4,7 +4,7 @@ use mathlib.Core.Bool.{true, cond}
 use borrow.Author.Tests.{eq-eqb, ne-eqb}
 use denote.Ref.{now}
 use Rattle.prelude.specs.Refusals.{passes}
-use Rattle.book.specs.declared.Loaded.{Loaded}
+use Rattle.book.specs.declared.LoadedBook.{LoadedBook}
 use Rattle.lattice.specs.Refusals as books
 use Rattle.book.specs.Load.{noBook, bookOf}
 use Rattle.lattice.specs.Load.{loaded}
@@ -18,7 +18,7 @@ use Rattle.checker.proofs.prepare.Tie as tie
 -- the book's refusal
 book-refusal : (c : tie.After-load) → c .load .result .refusal ≡ books.refusal (now ((c .before .before .before .before .before) .args .b))
 unfolding loaded
-book-refusal c = ap (λ (z : Loaded). z .refusal) (c .load .ensures .result)
+book-refusal c = ap (λ (z : LoadedBook). z .refusal) (c .load .ensures .result)
 
 book-right : (c : tie.Else1) → books.isAccepted (now ((c .before .before .before .before .before .before .before) .args .b)) ≡ true
 book-right c = ap passes (sym (book-refusal ((c .before .before)))) ∙ eq-eqb _ 0 (c .if1 .left)
@@ -26,7 +26,7 @@ book-right c = ap passes (sym (book-refusal ((c .before .before)))) ∙ eq-eqb _
 book-is : (c : tie.Else1) → c .before .before .load .result .book ≡ bookOf (now ((c .before .before .before .before .before .before .before) .args .b))
 unfolding loaded
 book-is c =
-    ap (λ (z : Loaded). z .book) (c .before .before .load .ensures .result)
+    ap (λ (z : LoadedBook). z .book) (c .before .before .load .ensures .result)
     ∙ ap (λ t. cond t (bookOf (now ((c .before .before .before .before .before .before .before) .args .b))) noBook) (book-right c)
 
 load-requires : tie.Need-load-requires
