@@ -18,7 +18,7 @@ use Rattle.program.specs.declared.forms.Front.{Front}
 use Rattle.program.specs.Forms.{nothing, itself, frontOf, partIn}
 use Rattle.program.proofs.Fronts.{front-form}
 use Rattle.residual.specs.Residual.{own}
-use Rattle.residual.specs.Nodes.{left, inFront}
+use Rattle.residual.specs.Nodes.{residualOf, inFront}
 use Rattle.residual.proofs.Sights.{alone-within, beside-above, Sight, sees-nothing, sees-itself, sees-alone, sees-before, sees-watched, sees-guarded, sees-beside}
 use Rattle.moves.specs.Contracts.{IsWriter}
 use Rattle.language.specs.Kinds.{hasWrite}
@@ -27,7 +27,7 @@ use Rattle.advance.specs.Contracts.{ownNext, Leads, ownMove, Follows}
 
 nil-seen :
     {words : List ℕ} {k : ℕ} {st : List ℕ} {f : Front} → Sight words k st f → f .form ≡ nothing →
-    isNil (left words k st) ≡ true
+    isNil (residualOf words k st) ≡ true
 unfolding isNil
 nil-seen (sees-nothing e r) q = ap isNil r
 nil-seen (sees-itself e o m) q = absurd (omega (arith, e, q))

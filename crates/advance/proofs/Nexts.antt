@@ -12,7 +12,7 @@ use Rattle.prelude.proofs.Bools.{by-cases}
 use Rattle.program.specs.Program.{seenBy}
 use Rattle.program.specs.declared.forms.Front.{Front}
 use Rattle.program.specs.Forms.{itself, before, partIn}
-use Rattle.residual.specs.Nodes.{At, NodeIn, left, inFront}
+use Rattle.residual.specs.Nodes.{At, NodeIn, residualOf, inFront}
 use Rattle.language.specs.Frames.{alone}
 use Rattle.residual.proofs.Sights.{Inside}
 use Rattle.instants.proofs.Deciding.{Found, Part, sees, front-part}
@@ -106,9 +106,9 @@ module _ (words : List ℕ) (k : ℕ) (st : List ℕ) (vs : List ℤ) (f : Front
           came (byPart g n p a) (Again d) r = tt
           came (byPart g n p a) (Rests why d) r =
               let front = front-kept g ys l (a .front) in
-              let same : left words (inFront words k (reached f st ys) .child) (partIn (inFront words k (reached f st ys)) (reached f st ys)) ≡ left words (f .child) ys =
-              ap (λ (z : Front). left words (z .child) (partIn z (reached f st ys))) (sym front)
-              ∙ ap (left words (f .child)) (put-back g ys l) in
+              let same : residualOf words (inFront words k (reached f st ys) .child) (partIn (inFront words k (reached f st ys)) (reached f st ys)) ≡ residualOf words (f .child) ys =
+              ap (λ (z : Front). residualOf words (z .child) (partIn z (reached f st ys))) (sym front)
+              ∙ ap (residualOf words (f .child)) (put-back g ys l) in
               record {
                 time = path-time (r .path) (counted .time);
                 form-is = ap (λ (z : Front). z .form) front;

@@ -11,7 +11,7 @@ use lib.Seq.{length-take-le, take-length, drop-length, take-append-le, drop-appe
 use Rattle.program.specs.Program.{seenBy}
 use Rattle.program.specs.declared.forms.Front.{Front}
 use Rattle.language.specs.Frames.{alone}
-use Rattle.residual.specs.Nodes.{Valued, At, left}
+use Rattle.residual.specs.Nodes.{Valued, At, residualOf}
 use Rattle.residual.proofs.Sights.{Inside, beside-above, Sight, sees-nothing, sees-itself, sees-alone, sees-before, sees-watched, sees-guarded, sees-beside, length-put, part-put}
 use Rattle.instants.proofs.Deciding.{Found, sees, front-part}
 use Rattle.moves.specs.declared.counts.Counts.{Counts}
@@ -91,7 +91,7 @@ pub record Placed (words : List ℕ) (k : ℕ) (st : List ℕ) (j a b : ℕ) : T
   pub order : a ≤ b
   pub within : b ≤ length st
   pub at : At words j (midOf a (b - a) st)
-  pub after : (ys : List ℕ) → length ys ≡ b - a → left words k (putMid a (b - a) st ys) ≡ left words j ys
+  pub after : (ys : List ℕ) → length ys ≡ b - a → residualOf words k (putMid a (b - a) st ys) ≡ residualOf words j ys
 
 -- the node itself
 pub itself-placed : (words : List ℕ) (k : ℕ) (st : List ℕ) → At words k st → Placed words k st k 0 (length st)
@@ -101,7 +101,7 @@ itself-placed words k st at =
       order = omega arith;
       within = le-refl (length st);
       at = subst (At words k) (sym (mid-whole st)) at;
-      after = λ ys l. ap (left words k) (put-whole st ys);
+      after = λ ys l. ap (residualOf words k) (put-whole st ys);
     }
 
 module _ {words : List ℕ} {k : ℕ} {st : List ℕ} {j a b : ℕ} (p : Placed words k st j a b) where
@@ -109,8 +109,8 @@ module _ {words : List ℕ} {k : ℕ} {st : List ℕ} {j a b : ℕ} (p : Placed 
   long = mid-len a b st (p .within)
 
   -- what is left of it is what is left of the node
-  pub same-left : left words k st ≡ left words j (midOf a (b - a) st)
-  same-left = ap (left words k) (sym (put-same a (b - a) st)) ∙ p .after (midOf a (b - a) st) long
+  pub same-left : residualOf words k st ≡ residualOf words j (midOf a (b - a) st)
+  same-left = ap (residualOf words k) (sym (put-same a (b - a) st)) ∙ p .after (midOf a (b - a) st) long
 
   -- its own bytes have changed
   module _ (ys : List ℕ) (l : length ys ≡ b - a) where
@@ -127,7 +127,7 @@ module _ {words : List ℕ} {k : ℕ} {st : List ℕ} {j a b : ℕ} (p : Placed 
           order = p .order;
           within = omega (arith, p .within, bytes-kept);
           at = record { known = p .at .known; whole = ap length put-back ∙ l ∙ sym long ∙ p .at .whole };
-          after = λ zs m. ap (left words k) (put-over a b st ys zs (p .order) (p .within) l) ∙ p .after zs m;
+          after = λ zs m. ap (residualOf words k) (put-over a b st ys zs (p .order) (p .within) l) ∙ p .after zs m;
         }
 
   -- its part that stands alone stands there
@@ -161,7 +161,7 @@ module _ {words : List ℕ} {k : ℕ} {st : List ℕ} {j a b : ℕ} (p : Placed 
               length-put (f .from) (f .to - f .from) (midOf a (b - a) st) ys
               (omega (arith, inside .order, inside .within)) l
               ∙ long in
-              ap (left words k) (put-mid a (b - a) (f .from) (f .to - f .from) st h w ys)
+              ap (residualOf words k) (put-mid a (b - a) (f .from) (f .to - f .from) st h w ys)
               ∙ p .after (putMid (f .from) (f .to - f .from) (midOf a (b - a) st) ys) d
               ∙ inside .after ys l);
         }

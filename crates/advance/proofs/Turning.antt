@@ -13,7 +13,7 @@ use Rattle.program.specs.declared.forms.Front.{Front}
 use Rattle.program.specs.Forms.{itself, guarded, partIn}
 use Rattle.residual.specs.Residual.{own}
 use Rattle.language.specs.Frames.{Frame, alone, beforeThe, watchedBy, guardedBy, besideThe, Open}
-use Rattle.residual.specs.Nodes.{left, inFront}
+use Rattle.residual.specs.Nodes.{residualOf, inFront}
 use Rattle.residual.proofs.Sights.{signalAt, Inside, alone-within, beside-above, Sight, sees-nothing, sees-itself, sees-alone, sees-before, sees-watched, sees-guarded, sees-beside, own-put, length-put, part-put}
 use Rattle.moves.specs.declared.counts.Counts.{Counts}
 use Rattle.moves.specs.declared.counts.Reason.{Reason}
@@ -34,9 +34,9 @@ module _ (words : List ℕ) (k : ℕ) (st : List ℕ) (f : Front) (vs : List ℤ
   pub record Going : Type 0 where
     pub frame : Frame ℕ
     pub inside : Inside words k st f frame
-    pub opened : Open frame (left words (f .child) (partIn f st)) vs
+    pub opened : Open frame (residualOf words (f .child) (partIn f st)) vs
     pub shown :
-        (ys : List ℕ) (ws : List ℤ) → Open frame (left words (f .child) ys) ws → f .form ≡ guarded →
+        (ys : List ℕ) (ws : List ℤ) → Open frame (residualOf words (f .child) ys) ws → f .form ≡ guarded →
         present ws (signalAt words k) ≡ true
 
   pub going :
@@ -63,7 +63,7 @@ module _ (words : List ℕ) (k : ℕ) (st : List ℕ) (f : Front) (vs : List ℤ
       }
   going (sees-beside e o g q i j r) h p =
       record {
-        frame = besideThe (left words (g .child) (partIn g st));
+        frame = besideThe (residualOf words (g .child) (partIn g st));
         inside = i;
         opened = tt;
         shown = λ ys ws o q. absurd (omega (arith, beside-above e, q));
@@ -92,7 +92,7 @@ module _ {words : List ℕ} {k : ℕ} {st : List ℕ} {f : Front} {vs : List ℤ
     pub path-in : Path seen limit room (nodeAt words k st vs log c) (nodeAt words k (reached f st ys) ws log′ d)
     path-in = rw (g .inside .whole, g .inside .after ys l) (lift (g .frame) (g .opened) p)
 
-    pub stays-open : Open (g .frame) (left words (f .child) ys) ws
+    pub stays-open : Open (g .frame) (residualOf words (f .child) ys) ws
     stays-open = open-path (g .frame) (g .opened) p
 
     pub spent-in :

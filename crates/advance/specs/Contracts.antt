@@ -13,7 +13,7 @@ use Rattle.program.specs.Program.{kindAt, aAt}
 use Rattle.program.specs.declared.forms.Front.{Front}
 use Rattle.program.specs.Forms.{over, itself, before, watched, guarded, beside, partIn}
 use Rattle.residual.specs.Residual.{own}
-use Rattle.residual.specs.Nodes.{NodeIn, inFront, left}
+use Rattle.residual.specs.Nodes.{NodeIn, inFront, residualOf}
 use Rattle.moves.specs.declared.counts.Counts.{Counts}
 use Rattle.moves.specs.declared.counts.Reason.{Reason}
 use Rattle.moves.specs.declared.counts.Reason.the-variants.{Nil, Suspended, Spent, Full}
@@ -29,7 +29,7 @@ use Rattle.advance.specs.declared.Turned.the-variants as turn
 
 -- what is left of the part in front of node k
 abbrev pub frontLeft : List ℕ → ℕ → List ℕ → Proc ℕ
-frontLeft words k st = left words (inFront words k st .child) (partIn (inFront words k st) st)
+frontLeft words k st = residualOf words (inFront words k st .child) (partIn (inFront words k st) st)
 
 -- the node itself as its own part
 abbrev pub itselfOf : ℕ → ℕ → Front
@@ -69,7 +69,7 @@ pub data Leads (words : List ℕ) (k : ℕ) (st : List ℕ) (values : List ℤ) 
 
 -- what comes next at node k
 abbrev pub Follows : List ℕ → ℕ → List ℕ → List ℤ → Next → Type 0
-Follows words k st values (Rests why) = Stands (left words k st) values why
+Follows words k st values (Rests why) = Stands (residualOf words k st) values why
 Follows words k st values (Inside f) = Alone words k st f
 Follows words k st values (Part f moving) = Leads words k st values f moving
 
@@ -133,7 +133,7 @@ pub data Settles (limit : ℕ) (p : Proc ℕ) (s : List ℤ) (p′ : Proc ℕ) (
 abbrev pub LeftBy : List ℕ → ℕ → List ℕ → List ℤ → ℕ → List ℕ → Moved → Moved → Type 0
 LeftBy words k st values limit st′ m (moved.Again c) = (m ≡ moved.Again c) × (st′ ≡ st)
 LeftBy words k st values limit st′ m (moved.Rests why c) =
-    Settles limit (left words k st) values (left words k st′) why c m
+    Settles limit (residualOf words k st) values (residualOf words k st′) why c m
 
 pub record Leaves
     (words : List ℕ) (k : ℕ) (st : List ℕ) (values : List ℤ) (limit form : ℕ) (part : Moved) (st′ : List ℕ) (m : Moved)

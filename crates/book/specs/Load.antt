@@ -3,11 +3,11 @@ use mathlib.Core.List.{List}
 use Prim.Native.Nat.{ℕ}
 use lib.ListN.{replicate}
 use Rattle.prelude.specs.declared.Refusal.{Refusal}
-use Rattle.book.specs.declared.Loaded.{Loaded}
+use Rattle.book.specs.declared.LoadedBook.{LoadedBook}
 use Rattle.book.specs.declared.Book.{Book}
 use Rattle.book.specs.LevelBook.{mostLevels, count, rows}
 
-abbrev pub answer : Refusal → Book → Loaded
+abbrev pub answer : Refusal → Book → LoadedBook
 answer r b = record { refusal = r; book = b }
 
 -- "A refusal's other returned numbers are 0"

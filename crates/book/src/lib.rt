@@ -24,25 +24,25 @@ impl Book {
 }
 
 // What the bytes of a book give: the refusal, and beside it the checked book, which is empty where it is refused.
-pub struct Loaded {
+pub struct LoadedBook {
     pub refusal: Refusal,
     pub book: Book,
 }
 
-// Level i is at or below level j.
-pub fn at_or_below(b: Book, i: usize, j: usize) -> bool
+// Level i is at or below level j, by the rows of a book.
+pub fn at_or_below(rows: &[u16; Book::MAX_LEVELS], i: usize, j: usize) -> bool
     requires { ⌜ (i < mostLevels) × (j < mostLevels) ⌝ }
-    ensures { λ r. ⌜ r ≡ atOrBelow (b .rows) i j ⌝ }
+    ensures { λ r. ⌜ r ≡ atOrBelow (now (rows .entry)) i j ⌝ }
 {
-    sets::has(b.rows[i], j)
+    sets::has(rows[i], j)
 }
 
 // A refusal, with the empty book beside it.
-pub fn refused(number: u32, place: usize) -> Loaded
+pub fn refused(number: u32, place: usize) -> LoadedBook
     requires { ⌜ place ≤ mostLevels * mostLevels ⌝ }
     ensures { λ r. ⌜ r ≡ answer (refusedBy number place) noBook ⌝ }
 {
-    Loaded {
+    LoadedBook {
         refusal: Refusal {
             number,
             place: place as u32,

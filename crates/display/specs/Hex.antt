@@ -8,6 +8,7 @@ use lib.ListN.{drop, getD, length}
 use lib.Seq.{sets}
 use Rattle.prelude.specs.Search.{firstFrom, lesser}
 
+-- a line break, 10, stands at this index
 abbrev pub isBreak : List ℕ → ℕ → Bool
 isBreak text i = eqb (getD text i 0) 10
 
@@ -15,7 +16,8 @@ isBreak text i = eqb (getD text i 0) 10
 abbrev pub lineEnd : List ℕ → ℕ → ℕ
 lineEnd text at = suc (firstFrom (isBreak text) at (length text - 1 - at))
 
-pub record LineEnd (text : List ℕ) (at r : ℕ) : Type 0 where
+-- r is that index, for a line that begins inside the text
+pub record LineEnds (text : List ℕ) (at r : ℕ) : Type 0 where
   pub after : at < r
   pub within : r ≤ length text
   pub end : r ≡ lineEnd text at
@@ -24,11 +26,11 @@ pub record LineEnd (text : List ℕ) (at r : ℕ) : Type 0 where
 abbrev pub isFrom : ℕ → ℕ → ℕ → Bool
 isFrom a b c = leb a c && leb c b
 
--- what a digit stands for; 16 of any other character
+-- what a digit stands for, of '0' to '9', 48 to 57, and 'A' to 'F', 65 to 70; 16 of any other character
 unfoldable pub digit : ℕ → ℕ
 digit c = cond (isFrom 48 57 c) (c - 48) (cond (isFrom 65 70 c) (c - 55) 16)
 
--- the digits of a line up to its remark, one after the other; all else between them is passed over
+-- the digits of a line up to its remark, at '#', 35, one after the other; all else between them is passed over
 unfoldable pub digits : List ℕ → List ℕ
 digits [] = []
 digits (c ∷ line) = cond (eqb (digit c) 16) (cond (eqb c 35) [] (digits line)) (digit c ∷ digits line)
@@ -46,7 +48,8 @@ bytesOf [] = []
 bytesOf (high ∷ []) = []
 bytesOf (high ∷ low ∷ rest) = (16 * high + low) ∷ bytesOf rest
 
--- The bytes of a line have been written from index `at` on, as many as there is room for; the index behind them is r.
+-- The bytes of a line have been stored one after the other from index `at` on, as many as there is room for (`sets` stores
+-- nothing past the end), and all else is as it was; the index behind them is r.
 pub record BytesRead (line out : List ℕ) (at : ℕ) (after : List ℕ) (r : ℕ) : Type 0 where
   pub within : r ≤ length out
   pub end : r ≡ lesser (at + length (bytesOf (digits line))) (length out)

@@ -3,12 +3,12 @@
 ghost use mathlib.Core.Path.{_≡_};
 ghost use Prim.Native.Nat.{_≤_, _<_};
 ghost use lib.ListN.{length};
-ghost use Rattle.display.specs.Hex.{digit, LineEnd, NextDigit, BytesRead};
+ghost use Rattle.display.specs.Hex.{digit, LineEnds, NextDigit, BytesRead};
 
 // The index behind the line that begins at `at`, with its line break.
 pub fn line_end(text: &[u8], at: usize) -> usize
     requires { ⌜ at < length (now text) ⌝ }
-    ensures { λ r. ⌜ LineEnd (now (text .entry)) at r ⌝ }
+    ensures { λ r. ⌜ LineEnds (now (text .entry)) at r ⌝ }
 {
     let last = text.len() - 1;
     let mut i = at;

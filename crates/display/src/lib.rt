@@ -3,7 +3,7 @@
 pub mod hex; // hex.rt: lines of hexadecimal digits
 
 use libc::STDOUT_FILENO;
-use results::Report;
+use results::RunResult;
 use results::Verdict;
 
 pub fn say(text: &[u8]) {
@@ -69,7 +69,7 @@ pub fn say_refusal(number: u32, place: u32) {
 
 // What the two calls answered of a script. A refusal is all that is printed of a refused call of run; else W and T,
 // the lines, the ending, steps and instants.
-fn say_answers(v: Verdict, r: Report, log: &[u32]) {
+fn say_answers(v: Verdict, r: RunResult, log: &[u32]) {
     if r.number != 0 {
         say_refusal(r.number, r.place);
         return;

@@ -17,7 +17,7 @@ use Rattle.tree.specs.Tree.{namesOf, tree}
 use Rattle.program.specs.Program as program
 use Rattle.plan.specs.Plan.{ProgramOf}
 use Rattle.arguments.proofs.Writes.{tree-writes}
-use Rattle.residual.specs.Nodes.{left}
+use Rattle.residual.specs.Nodes.{residualOf}
 use Rattle.residual.proofs.Residuals.{zeros}
 use Rattle.moves.specs.declared.counts.Counts.{Counts}
 use Rattle.moves.specs.Moves.{Running}
@@ -40,7 +40,7 @@ module _ (s : List ℕ) (ok : Checked s) {sees : ℕ → Bool} {words : List ℕ
   ends = reach (program.namesOf words) (program.seenBy words) limit room (starts (tree s) values)
 
   module _ (st : List ℕ) (clear : st ≡ replicate (program.nodeCount words) 0) where
-    whole : left words (root words) st ≡ tree s
+    whole : residualOf words (root words) st ≡ tree s
     whole =
         let some = few-bounds (layoutOf s) (ok .laid .few) .1 .1 .0 in
         rw clear (zeros (program.script words) (program.nodeCount words) (omega (arith, made .runnable .whole)))

@@ -11,7 +11,7 @@ use Rattle.language.specs.Levels.{writeLevel, testLevel}
 use Rattle.language.specs.Calls.{Run, starts, readable, run, endingNumber, words}
 use Rattle.tree.specs.Tree.{namesOf, tree}
 use Rattle.results.specs.declared.Verdict.{Verdict}
-use Rattle.results.specs.declared.Report.{Report}
+use Rattle.results.specs.declared.RunResult.{RunResult}
 use Rattle.results.specs.Reports.{verdictBy, refusedReport, reportBy}
 use Rattle.checker.specs.Refusals.{checkRefusal}
 use Rattle.arguments.specs.Refusals.{runRefusal}
@@ -34,7 +34,7 @@ runOf b s reader values limit log =
 
 -- what a call of run leaves
 pub record Left : Type 0 where
-  pub report : Report
+  pub report : RunResult
   pub values : List ℤ
   pub log : List ℕ
 

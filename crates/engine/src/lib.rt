@@ -4,7 +4,7 @@ pub mod interface; // interface.rt: the calls for C
 use book::Book;
 use layout::Script;
 use moves::counts::Counts;
-use results::Report;
+use results::RunResult;
 use results::Verdict;
 use results::refused;
 use results::report_of;
@@ -62,7 +62,7 @@ pub fn run(
     values: &mut [i32],
     limit: u32,
     log: &mut [u32],
-) -> Report
+) -> RunResult
     ensures { λ r. ⌜ r ≡ left (now (book .entry)) (now (script .entry)) reader (now (values .entry)) limit (now (log .entry)) .report ⌝ }
     ensures { λ _. ⌜ now (values .exit) ≡ left (now (book .entry)) (now (script .entry)) reader (now (values .entry)) limit (now (log .entry)) .values ⌝ }
     ensures { λ _. ⌜ now (log .exit) ≡ left (now (book .entry)) (now (script .entry)) reader (now (values .entry)) limit (now (log .entry)) .log ⌝ }

@@ -12,25 +12,25 @@ use Rattle.layout.specs.Entries.{node, partOf}
 use Rattle.fields.specs.declared.Field.{Field}
 use Rattle.fields.specs.Roles.{unused, expression, child, register, signal, newRegister, newSignal, isUse, isNew}
 use Rattle.fields.specs.Fields.{fieldCount, fieldOf}
-use Rattle.entries.specs.Faults.{holds, holdsName, kindsFor}
+use Rattle.entries.specs.Faults.{fieldIsRight, holdsName, kindsFor}
 use Rattle.entries.specs.Contracts.{Sound}
 
 module _ (s : List ℕ) (q : ℕ) (x : Field) where
-  pub holds-expression : x .role ≡ expression → holds s q x ≡ (ltb (x .value) (expressionCount s) && ltb (x .value) q)
-  unfolding holds
+  pub holds-expression : x .role ≡ expression → fieldIsRight s q x ≡ (ltb (x .value) (expressionCount s) && ltb (x .value) q)
+  unfolding fieldIsRight
   holds-expression e = rw e
 
-  pub holds-child : x .role ≡ child → holds s q x ≡ ltb (node s (x .value)) q
-  unfolding holds
+  pub holds-child : x .role ≡ child → fieldIsRight s q x ≡ ltb (node s (x .value)) q
+  unfolding fieldIsRight
   holds-child e = rw e
 
-  pub holds-unused : x .role ≡ unused → holds s q x ≡ eqb (x .value) 0
-  unfolding holds
+  pub holds-unused : x .role ≡ unused → fieldIsRight s q x ≡ eqb (x .value) 0
+  unfolding fieldIsRight
   holds-unused e = rw e
 
   -- a field that uses or declares a name
-  pub holds-name : (isUse (x .role) || isNew (x .role)) ≡ true → holds s q x ≡ holdsName s q x
-  unfolding holds
+  pub holds-name : (isUse (x .role) || isNew (x .role)) ≡ true → fieldIsRight s q x ≡ holdsName s q x
+  unfolding fieldIsRight
   holds-name h =
       or-cases (isUse (x .role)) _ h
       (λ u.
@@ -44,9 +44,9 @@ module _ (s : List ℕ) (sound : Sound s) where
   pub right-kind : (q : ℕ) → q < partCount s → partOf s q .kind < kindsFor (expressionCount s) q
   right-kind q h = ltb-true _ _ (and-left (ltb (partOf s q .kind) (kindsFor (expressionCount s) q)) _ (sound .parts q h))
 
-  pub right-field : (q f : ℕ) → q < partCount s → f < fieldCount → holds s q (fieldOf s q f) ≡ true
+  pub right-field : (q f : ℕ) → q < partCount s → f < fieldCount → fieldIsRight s q (fieldOf s q f) ≡ true
   right-field q f h =
-      all-elim (λ f. holds s q (fieldOf s q f)) fieldCount
+      all-elim (λ f. fieldIsRight s q (fieldOf s q f)) fieldCount
       (and-right (eqb (partOf s q .zero) 0) _
       (and-right (ltb (partOf s q .kind) (kindsFor (expressionCount s) q)) _ (sound .parts q h)))
       f

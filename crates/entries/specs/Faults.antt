@@ -43,8 +43,8 @@ holdsName s q x =
 
 -- A field of part q holds what its role asks for: 'each unused field is 0', 'operands and child nodes have smaller
 -- numbers than their parent', a name of the right kind, no 'name it doesn't own'.
-unfoldable pub holds : List ℕ → ℕ → Field → Bool
-holds s q x =
+unfoldable pub fieldIsRight : List ℕ → ℕ → Field → Bool
+fieldIsRight s q x =
     cond (eqb (x .role) unused) (eqb (x .value) 0)
     (cond (eqb (x .role) half) true
     (cond (eqb (x .role) expression) (ltb (x .value) (expressionCount s) && ltb (x .value) q)
@@ -59,7 +59,7 @@ kindsFor expressions q = cond (ltb q expressions) expressionKinds nodeKinds
 abbrev pub partIsRight : List ℕ → ℕ → Bool
 partIsRight s q =
     ltb (partOf s q .kind) (kindsFor (expressionCount s) q)
-    && (eqb (partOf s q .zero) 0 && all (λ f. holds s q (fieldOf s q f)) fieldCount)
+    && (eqb (partOf s q .zero) 0 && all (λ f. fieldIsRight s q (fieldOf s q f)) fieldCount)
 
 -- rows 6 to 8: the smallest name, then expression, then node at fault
 unfoldable pub faultRefusal : List ℕ → ℕ → Refusal

@@ -3,7 +3,7 @@ mod names; // names.rt: refusal 6
 mod parts; // parts.rt: refusals 7 and 8
 
 use layout::Script;
-use layout::places::refused;
+use layout::places::refused_by;
 use prelude::Refusal;
 ghost use mathlib.Core.Path.{_≡_};
 ghost use Rattle.layout.specs.Contracts.{Laid};
@@ -16,15 +16,15 @@ pub fn refusal(s: &[u8], c: Script, levels: usize) -> Refusal
 {
     let name = names::first_wrong_name(s, c, levels);
     if name < c.names {
-        return refused(6, name);
+        return refused_by(6, name);
     }
     let expression = parts::first_wrong_part(s, c, 0, c.expressions);
     if expression < c.expressions {
-        return refused(7, expression);
+        return refused_by(7, expression);
     }
     let node = parts::first_wrong_part(s, c, c.expressions, c.nodes);
     if node < c.nodes {
-        return refused(8, node);
+        return refused_by(8, node);
     }
-    refused(0, 0)
+    refused_by(0, 0)
 }

@@ -12,7 +12,7 @@ ghost use Prim.Native.Nat.{_+_, _<_, _≤_};
 ghost use Rattle.prelude.specs.Search.{first, all};
 ghost use Rattle.layout.specs.Contracts.{Laid};
 ghost use Rattle.fields.specs.Fields.{fieldCount, fieldOf};
-ghost use Rattle.entries.specs.Faults.{kindFor, holdsName, holds, kindsFor, partIsRight};
+ghost use Rattle.entries.specs.Faults.{kindFor, holdsName, fieldIsRight, kindsFor, partIsRight};
 
 // The kind of the names that a field of this role holds.
 fn kind_for(role: u16) -> usize
@@ -47,9 +47,9 @@ fn holds_name(s: &[u8], c: Script, q: usize, field: Field) -> bool
 }
 
 // A field of part q holds what its role asks for.
-fn holds(s: &[u8], c: Script, q: usize, field: Field) -> bool
+fn field_is_right(s: &[u8], c: Script, q: usize, field: Field) -> bool
     requires { ⌜ Laid (now s) c × (field .value < 65536) ⌝ }
-    ensures { λ r. ⌜ r ≡ holds (now (s .entry)) q field ⌝ }
+    ensures { λ r. ⌜ r ≡ fieldIsRight (now (s .entry)) q field ⌝ }
 {
     let role = field.role;
     let value = field.value;
@@ -77,13 +77,13 @@ fn kinds_for(c: Script, q: usize) -> usize
     roles::NODE_KINDS
 }
 
-fn fields_hold(s: &[u8], c: Script, q: usize) -> bool
+fn fields_are_right(s: &[u8], c: Script, q: usize) -> bool
     requires { ⌜ Laid (now s) c × (q < c .expressions + c .nodes) ⌝ }
-    ensures { λ r. ⌜ r ≡ all (λ f. holds (now (s .entry)) q (fieldOf (now (s .entry)) q f)) fieldCount ⌝ }
+    ensures { λ r. ⌜ r ≡ all (λ f. fieldIsRight (now (s .entry)) q (fieldOf (now (s .entry)) q f)) fieldCount ⌝ }
 {
     let mut f: usize = 0;
     while f < Part::FIELDS {
-        if !holds(s, c, q, field_at(s, c, q, f)) {
+        if !field_is_right(s, c, q, field_at(s, c, q, f)) {
             return false;
         }
         f += 1;
@@ -102,7 +102,7 @@ fn part_is_right(s: &[u8], c: Script, q: usize) -> bool
     if p.zero != 0 {
         return false;
     }
-    fields_hold(s, c, q)
+    fields_are_right(s, c, q)
 }
 
 // Of the n parts from part `from` on, the smallest at fault by its number among them, or n.

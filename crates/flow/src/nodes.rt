@@ -2,6 +2,7 @@
 use crate::groups;
 use crate::groups::is_either;
 use book::Book;
+use book::at_or_below;
 use language::process_kinds;
 use pairs::table::PairTable;
 use pairs::table::level_at;
@@ -24,14 +25,6 @@ pub struct Flow {
     pub write: usize,
     pub test: usize,
     pub failing: usize,
-}
-
-// Level i is at or below level j.
-fn at_or_below(rows: &[u16; Book::MAX_LEVELS], i: usize, j: usize) -> bool
-    requires { ⌜ (i < mostLevels) × (j < mostLevels) ⌝ }
-    ensures { λ r. ⌜ r ≡ atOrBelow (now (rows .entry)) i j ⌝ }
-{
-    (rows[i] >> j) % 2 == 1
 }
 
 // W and T of two children together, and the smaller of their failing nodes.

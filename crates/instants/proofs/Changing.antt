@@ -17,7 +17,7 @@ use Rattle.program.specs.declared.forms.Front.{Front}
 use Rattle.residual.specs.Residual.{own}
 use Rattle.program.specs.Forms.{itself, watched, guarded, beside, rearOf, partIn}
 use Rattle.language.specs.Frames.{around}
-use Rattle.residual.specs.Nodes.{inFront, inRear, left}
+use Rattle.residual.specs.Nodes.{inFront, inRear, residualOf}
 use Rattle.residual.proofs.Sights.{signalAt, own-put, length-put, part-length, part-put}
 use Rattle.instants.proofs.Deciding.{Found, Part, Rear, front-part, rear-part, rear-found, parts-apart, ahead}
 
@@ -74,13 +74,13 @@ module _ {words : List ℕ} {values : List ℤ} {k : ℕ} {st : List ℕ} {f : F
   pub one-changed :
       f .form < beside → (f .form ≡ watched → present values (signalAt words k) ≡ false) →
       (f .form ≡ guarded → present values (signalAt words k) ≡ true) →
-      left words (f .child) ys ≡ change (left words (f .child) (partIn f st)) values →
-      left words k (put f st ys) ≡ change (left words k st) values
+      residualOf words (f .child) ys ≡ change (residualOf words (f .child) (partIn f st)) values →
+      residualOf words k (put f st ys) ≡ change (residualOf words k st) values
   one-changed b off on h =
       let a = ahead found some b in
       a .inside .after ys count
       ∙ ap (around (a .frame)) h
-      ∙ sym (a .changes off on (left words (f .child) (partIn f st)))
+      ∙ sym (a .changes off on (residualOf words (f .child) (partIn f st)))
       ∙ ap (λ p. change p values) (sym (a .inside .whole))
 
   -- and then, of a parallel, the part behind it
@@ -142,21 +142,21 @@ module _ {words : List ℕ} {values : List ℤ} {k : ℕ} {st : List ℕ} {f : F
             front = rw (own-two, length-two) (found .front);
           }
 
-      whole-after : left words k after ≡ parallel (left words (f .child) ys) (left words (g .child) zs)
+      whole-after : residualOf words k after ≡ parallel (residualOf words (f .child) ys) (residualOf words (g .child) zs)
       whole-after =
           let behind : inRear words k after ≡ g = rw (own-two, length-two) (sym other) in
           rear-part found-after (omega (arith, e, b, ap (λ (f : Front). f .form) (found .front))) .whole
-          ∙ ap₂ parallel (ap (left words (f .child)) front-after)
-          (ap (λ (g : Front). left words (g .child) (partIn g after)) behind
-          ∙ ap (left words (g .child)) (part-put g (put f st ys) zs (two .order) (rear-after .within) count-two))
+          ∙ ap₂ parallel (ap (residualOf words (f .child)) front-after)
+          (ap (λ (g : Front). residualOf words (g .child) (partIn g after)) behind
+          ∙ ap (residualOf words (g .child)) (part-put g (put f st ys) zs (two .order) (rear-after .within) count-two))
 
       pub two-changed :
-          left words (f .child) ys ≡ change (left words (f .child) (partIn f st)) values →
-          left words (g .child) zs ≡ change (left words (g .child) (partIn g (put f st ys))) values →
-          left words k after ≡ change (left words k st) values
+          residualOf words (f .child) ys ≡ change (residualOf words (f .child) (partIn f st)) values →
+          residualOf words (g .child) zs ≡ change (residualOf words (g .child) (partIn g (put f st ys))) values →
+          residualOf words k after ≡ change (residualOf words k st) values
       unfolding change
       two-changed h i =
-          let behind = ap (λ (g : Front). change (left words (g .child) (partIn g st)) values) other in
+          let behind = ap (λ (g : Front). change (residualOf words (g .child) (partIn g st)) values) other in
           whole-after
-          ∙ ap₂ parallel h (i ∙ ap (λ z. change (left words (g .child) z) values) rear-kept ∙ behind)
+          ∙ ap₂ parallel h (i ∙ ap (λ z. change (residualOf words (g .child) z) values) rear-kept ∙ behind)
           ∙ ap (λ p. change p values) (sym (rear .whole))

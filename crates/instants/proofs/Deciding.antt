@@ -18,7 +18,7 @@ use Rattle.program.proofs.Fronts.{front-form, rear-is, parts-meet}
 use Rattle.residual.specs.Residual.{own, residual}
 use Rattle.program.specs.Forms.{itself, watched, guarded, beside, formOf, rearOf, partIn}
 use Rattle.language.specs.Frames.{Frame, around}
-use Rattle.residual.specs.Nodes.{Valued, At, NodeIn, inFront, inRear, left}
+use Rattle.residual.specs.Nodes.{Valued, At, NodeIn, inFront, inRear, residualOf}
 use Rattle.instants.specs.Contracts.{RearWaits}
 use Rattle.residual.proofs.Sights.{Inside, signalAt, MovesItself, not-itself, alone-within, beside-above, Sight, sees-nothing, sees-itself, sees-alone, sees-before, sees-watched, sees-guarded, sees-beside, sight, part-length}
 
@@ -45,8 +45,9 @@ pub record Part (words : List ℕ) (k : ℕ) (st : List ℕ) (f : Front) : Type 
 pub record Rear (words : List ℕ) (k : ℕ) (st : List ℕ) (f : Front) : Type 0 where
   pub part : Part words k st (inRear words k st)
   pub whole :
-      left words k st
-      ≡ parallel (left words (f .child) (partIn f st)) (left words (inRear words k st .child) (partIn (inRear words k st) st))
+      residualOf words k st
+      ≡ parallel (residualOf words (f .child) (partIn f st))
+      (residualOf words (inRear words k st .child) (partIn (inRear words k st) st))
 
 -- p is suspended or not, and an instant change leaves it as it is
 pub record Stays (p : Proc ℕ) (values : List ℤ) (waiting : Bool) : Type 0 where
@@ -69,8 +70,9 @@ pub record Ahead (words : List ℕ) (k : ℕ) (st : List ℕ) (f : Front) (value
 record Signalled (words : List ℕ) (k : ℕ) (st : List ℕ) (f : Front) (values : List ℤ) : Type 0 where
   pub known : signalAt words k < nameCount words
   pub ends :
-      f .form ≡ watched → present values (signalAt words k) ≡ true → left words k (set st 0 4) ≡ change (left words k st) values
-  pub shuts : f .form ≡ guarded → present values (signalAt words k) ≡ false → Stays (left words k st) values true
+      f .form ≡ watched → present values (signalAt words k) ≡ true →
+      residualOf words k (set st 0 4) ≡ change (residualOf words k st) values
+  pub shuts : f .form ≡ guarded → present values (signalAt words k) ≡ false → Stays (residualOf words k st) values true
 
 -- the bytes of a part, whatever the node's own byte is
 module _ {words : List ℕ} {k : ℕ} {st : List ℕ} (at : At words k st) (f : Front) (F : Frame ℕ) where
@@ -90,7 +92,7 @@ module _ {words : List ℕ} {k : ℕ} {st : List ℕ} (at : At words k st) (f : 
 
 itself-stays :
     {words : List ℕ} {k : ℕ} (st : List ℕ) (values : List ℤ) → NodeView words k → own st ≡ 0 →
-    MovesItself (kindAt words k) → Stays (left words k st) values false
+    MovesItself (kindAt words k) → Stays (residualOf words k st) values false
 unfolding residual suspended change
 itself-stays st values (aNil e q) o m = rw q (record { waits = refl; same = refl })
 itself-stays st values (anAssign e q x y) o m = rw (q, o) (record { waits = refl; same = refl })
@@ -192,17 +194,18 @@ module _ {words : List ℕ} {values : List ℤ} {k : ℕ} {st : List ℕ} {f : F
   signal-known h l = omega (arith, signalled h l .known, found .valued .named)
 
   pub ends :
-      f .form ≡ watched → present values (signalAt words k) ≡ true → left words k (set st 0 4) ≡ change (left words k st) values
+      f .form ≡ watched → present values (signalAt words k) ≡ true →
+      residualOf words k (set st 0 4) ≡ change (residualOf words k st) values
   ends e = signalled (omega arith) (omega arith) .ends e
 
-  pub shuts : f .form ≡ guarded → present values (signalAt words k) ≡ false → Stays (left words k st) values true
+  pub shuts : f .form ≡ guarded → present values (signalAt words k) ≡ false → Stays (residualOf words k st) values true
   shuts e = signalled (omega arith) (omega arith) .shuts e
 
-  pub stays : f .form ≤ itself → Stays (left words k st) values false
+  pub stays : f .form ≤ itself → Stays (residualOf words k st) values false
   unfolding suspended change
   stays = part sees
     where
-      part : Sight words k st f → f .form ≤ itself → Stays (left words k st) values false
+      part : Sight words k st f → f .form ≤ itself → Stays (residualOf words k st) values false
       part (sees-nothing e q) h = rw q (record { waits = refl; same = refl })
       part (sees-itself e o m) h =
           itself-stays st values (node-view words (found .valued .runnable) k (found .at .known)) o m
@@ -215,12 +218,12 @@ module _ {words : List ℕ} {values : List ℤ} {k : ℕ} {st : List ℕ} {f : F
   -- whether it is suspended, where no when is shut
   module _ (h : itself < f .form) (on : f .form ≡ guarded → present values (signalAt words k) ≡ true) where
     abbrev front : Proc ℕ
-    front = left words (f .child) (partIn f st)
+    front = residualOf words (f .child) (partIn f st)
 
     -- nothing behind the part in front could move, and that part is suspended
     pub rear-decides :
         {waits : Bool} → RearWaits words k st values (f .form) waits →
-        suspended (left words k st) values ≡ (waits && suspended front values)
+        suspended (residualOf words k st) values ≡ (waits && suspended front values)
     unfolding suspended
     rear-decides b =
         elim (decLt (f .form) beside) [
@@ -231,5 +234,5 @@ module _ {words : List ℕ} {values : List ℤ} {k : ℕ} {st : List ℕ} {f : F
     -- the part in front is suspended, and so is the node if nothing behind it could move
     pub waiting-front :
         {waits : Bool} → suspended front values ≡ true → RearWaits words k st values (f .form) waits →
-        waits ≡ suspended (left words k st) values
+        waits ≡ suspended (residualOf words k st) values
     waiting-front {waits} w b = sym (rear-decides b ∙ ap (λ x. waits && x) w ∙ and-true waits)

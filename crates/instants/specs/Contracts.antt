@@ -11,7 +11,7 @@ use Rattle.language.specs.Steps.{present, suspended, change, instantStart}
 use Rattle.language.specs.Calls.{givenBack}
 use Rattle.program.specs.Program.{namesOf}
 use Rattle.program.specs.Forms.{beside, partIn}
-use Rattle.residual.specs.Nodes.{NodeIn, inFront, inRear, left}
+use Rattle.residual.specs.Nodes.{NodeIn, inFront, inRear, residualOf}
 
 -- a node that has come to this form
 pub record RearAsked (words : List ℕ) (k : ℕ) (st : List ℕ) (values : List ℤ) (n : ℕ) : Type 0 where
@@ -22,7 +22,7 @@ pub record RearAsked (words : List ℕ) (k : ℕ) (st : List ℕ) (values : List
 pub record RearWaits (words : List ℕ) (k : ℕ) (st : List ℕ) (values : List ℤ) (form : ℕ) (waits : Bool) : Type 0 where
   pub none : form < beside → waits ≡ true
   pub other :
-      beside ≤ form → waits ≡ suspended (left words (inRear words k st .child) (partIn (inRear words k st) st)) values
+      beside ≤ form → waits ≡ suspended (residualOf words (inRear words k st .child) (partIn (inRear words k st) st)) values
 
 -- a signal that is present, and whether there is one
 abbrev pub isPresentSignal : Names ℕ → List ℤ → ℕ → Bool
@@ -40,5 +40,5 @@ cleared names owned values = cond owned (givenBack names values) (instantStart n
 
 -- what the end of an instant makes of node k, and of the values
 pub record NextInstant (words : List ℕ) (k : ℕ) (st st′ : List ℕ) (vs vs′ : List ℤ) : Type 0 where
-  pub process : left words k st′ ≡ change (left words k st) vs
+  pub process : residualOf words k st′ ≡ change (residualOf words k st) vs
   pub values : vs′ ≡ instantStart (namesOf words) vs

@@ -11,13 +11,13 @@ ghost use Prim.Native.Nat.{_<_};
 ghost use Rattle.language.specs.Steps.{change, instantStart};
 ghost use Rattle.language.specs.Calls.{givenBack};
 ghost use Rattle.program.specs.Program.{mostNames, namesOf};
-ghost use Rattle.residual.specs.Nodes.{Valued, NodeIn, left};
+ghost use Rattle.residual.specs.Nodes.{Valued, NodeIn, residualOf};
 ghost use Rattle.instants.specs.Contracts.{someSignalPresent, isCleared, cleared, NextInstant};
 
 // The instant change of node k, which goes into what is in front and reads the signals of the instant that ends.
 fn change_instant(program: &[usize; WORDS], values: &[i32], state: &mut [u8], k: usize)
     requires { ⌜ NodeIn (now program) k (now state) (now values) ⌝ }
-    ensures { λ _. ⌜ left (now (program .entry)) k (now (state .exit)) ≡ change (left (now (program .entry)) k (now (state .entry))) (now (values .entry)) ⌝ }
+    ensures { λ _. ⌜ residualOf (now (program .entry)) k (now (state .exit)) ≡ change (residualOf (now (program .entry)) k (now (state .entry))) (now (values .entry)) ⌝ }
 {
     // Only a watching ends with an instant: a node without one stays as it is.
     if !program::watches_at(program, k) {

@@ -6,13 +6,13 @@ use program::forms::find_rear;
 use program::forms::form_at;
 ghost use mathlib.Core.Path.{_≡_};
 ghost use Rattle.language.specs.Steps.{suspended};
-ghost use Rattle.residual.specs.Nodes.{NodeIn, left};
+ghost use Rattle.residual.specs.Nodes.{NodeIn, residualOf};
 ghost use Rattle.instants.specs.Contracts.{RearAsked, RearWaits};
 
 // Of a parallel both parts are asked, first the one behind: after a move it is the one that can more often move.
 pub fn is_suspended(program: &[usize; WORDS], values: &[i32], state: &[u8], k: usize) -> bool
     requires { ⌜ NodeIn (now program) k (now state) (now values) ⌝ }
-    ensures { λ r. ⌜ r ≡ suspended (left (now (program .entry)) k (now (state .entry))) (now (values .entry)) ⌝ }
+    ensures { λ r. ⌜ r ≡ suspended (residualOf (now (program .entry)) k (now (state .entry))) (now (values .entry)) ⌝ }
 {
     let tag = state[0];
     let form = form_at(program, k, tag);

@@ -7,7 +7,7 @@ use mathlib.Core.Logic.{_⊎_, inl, inr}
 use lib.IntN.{ℤ}
 use Rattle.prelude.proofs.Bools.{by-cases, fails, and-left, and-right, or-left, or-right}
 use Rattle.language.specs.Syntax.{Names, Proc, nil, assign, letIn, ifThenElse, while, sequence, emit, local, watching, when, parallel, isNil}
-use Rattle.language.specs.Steps.{present, Output, silent, Outcome, leaves, inside, suspended, move, change, instantStart, step}
+use Rattle.language.specs.Steps.{present, Output, silent, StepResult, leaves, inside, suspended, move, change, instantStart, step}
 use Rattle.language.specs.Calls.{System, output, next}
 use Rattle.language.specs.Suspension.{Suspended, WHEN-SUS₁, WHEN-SUS₂, WATCH-SUS, SEQ-SUS, PAR-SUS}
 use Rattle.language.specs.Moves.{Move, ASSIGN-OP, SEQ-OP₁, SEQ-OP₂, LET-OP, COND-OP₁, COND-OP₂, WHILE-OP₁, WHILE-OP₂, EMIT-OP, LOCAL-OP, WATCH-OP₁, WATCH-OP₂, WHEN-OP₁, WHEN-OP₂, PAR-OP₁, PAR-OP₂, PAR-OP₃}
@@ -72,8 +72,8 @@ module _ {L : Type 0} where
   suspended-not-nil (SEQ-SUS d) = refl
   suspended-not-nil (PAR-SUS d d′) = refl
 
-  awake : (p : Proc L) (s : List ℤ) → suspended p s ≡ false → Suspended (present s) p → ⊥
-  awake p s h d = true≢false (sym (suspended-of s d) ∙ h)
+  not-suspended-is : (p : Proc L) (s : List ℤ) → suspended p s ≡ false → Suspended (present s) p → ⊥
+  not-suspended-is p s h d = true≢false (sym (suspended-of s d) ∙ h)
 
   not-suspended : (p : Proc L) (s : List ℤ) → (Suspended (present s) p → ⊥) → suspended p s ≡ false
   not-suspended p s n = fails (suspended p s) (λ h. n (suspended-is p s h))
@@ -99,32 +99,32 @@ module _ {L : Type 0} where
   move-not-nil (PAR-OP₂ d) = refl
   move-not-nil (PAR-OP₃ d n) = refl
 
-  move-awake : {s s′ : List ℤ} {p p′ : Proc L} {o : Output} → Move s p o p′ s′ → suspended p s ≡ false
+  move-not-suspended : {s s′ : List ℤ} {p p′ : Proc L} {o : Output} → Move s p o p′ s′ → suspended p s ≡ false
   unfolding suspended
-  move-awake ASSIGN-OP = refl
-  move-awake SEQ-OP₁ = refl
-  move-awake (SEQ-OP₂ d) = move-awake d
-  move-awake LET-OP = refl
-  move-awake (COND-OP₁ h) = refl
-  move-awake (COND-OP₂ h) = refl
-  move-awake (WHILE-OP₁ h) = refl
-  move-awake (WHILE-OP₂ h) = refl
-  move-awake EMIT-OP = refl
-  move-awake LOCAL-OP = refl
-  move-awake WATCH-OP₁ = refl
-  move-awake (WATCH-OP₂ d) = move-awake d
-  move-awake (WHEN-OP₁ h) = rw h
-  move-awake (WHEN-OP₂ h d) = rw (h, move-awake d)
-  move-awake PAR-OP₁ = refl
-  move-awake (PAR-OP₂ d) = rw (move-awake d)
-  move-awake {s} (PAR-OP₃ {q = q} d n) = rw (suspended-of s d, not-suspended q s n)
+  move-not-suspended ASSIGN-OP = refl
+  move-not-suspended SEQ-OP₁ = refl
+  move-not-suspended (SEQ-OP₂ d) = move-not-suspended d
+  move-not-suspended LET-OP = refl
+  move-not-suspended (COND-OP₁ h) = refl
+  move-not-suspended (COND-OP₂ h) = refl
+  move-not-suspended (WHILE-OP₁ h) = refl
+  move-not-suspended (WHILE-OP₂ h) = refl
+  move-not-suspended EMIT-OP = refl
+  move-not-suspended LOCAL-OP = refl
+  move-not-suspended WATCH-OP₁ = refl
+  move-not-suspended (WATCH-OP₂ d) = move-not-suspended d
+  move-not-suspended (WHEN-OP₁ h) = rw h
+  move-not-suspended (WHEN-OP₂ h d) = rw (h, move-not-suspended d)
+  move-not-suspended PAR-OP₁ = refl
+  move-not-suspended (PAR-OP₂ d) = rw (move-not-suspended d)
+  move-not-suspended {s} (PAR-OP₃ {q = q} d n) = rw (suspended-of s d, not-suspended q s n)
 
   -- the function's move is the only one that a rule allows
-  abbrev Is : Outcome L → Output → Proc L → List ℤ → Type 0
+  abbrev Is : StepResult L → Output → Proc L → List ℤ → Type 0
   Is r o p s = (r .output ≡ o) × (r .process ≡ p) × (r .values ≡ s)
 
   is-inside :
-      (context : Proc L → Proc L) {r : Outcome L} {o : Output} {p : Proc L} {s : List ℤ} →
+      (context : Proc L → Proc L) {r : StepResult L} {o : Output} {p : Proc L} {s : List ℤ} →
       Is r o p s → Is (inside context r) o (context p) s
   is-inside context h = (h .0, ap context (h .1), h .2)
 
@@ -145,11 +145,11 @@ module _ {L : Type 0} where
   move-only (WHEN-OP₁ h) = (refl, refl, refl)
   move-only (WHEN-OP₂ {a = a} h d) = rw (move-not-nil d) (is-inside (when a) (move-only d))
   move-only PAR-OP₁ = (refl, refl, refl)
-  move-only (PAR-OP₂ {q = q} d) = rw (move-not-nil d, move-awake d) (is-inside (λ z. parallel z q) (move-only d))
+  move-only (PAR-OP₂ {q = q} d) = rw (move-not-nil d, move-not-suspended d) (is-inside (λ z. parallel z q) (move-only d))
   move-only {s} (PAR-OP₃ d n) = rw (suspended-not-nil d, suspended-of s d) (refl, refl, refl)
 
   -- and a rule allows it
-  abbrev Allowed : List ℤ → Proc L → Outcome L → Type 0
+  abbrev Allowed : List ℤ → Proc L → StepResult L → Type 0
   Allowed s p r = Move s p (r .output) (r .process) (r .values)
 
   pub move-is : (p : Proc L) (s : List ℤ) → isNil p ≡ false → suspended p s ≡ false → Allowed s p (move p s)
@@ -178,7 +178,7 @@ module _ {L : Type 0} where
       by-cases
       (Allowed s (parallel p q))
       _
-      (λ w. PAR-OP₃ (suspended-is p s w) (awake q s (rw w at h)))
+      (λ w. PAR-OP₃ (suspended-is p s w) (not-suspended-is q s (rw w at h)))
       (λ w. PAR-OP₂ (move-is p s e w)))
 
   -- Figure 4
@@ -208,7 +208,7 @@ module _ {L : Type 0} (names : Names L) (at : System L) where
   built p s i = record { process = p; values = s; steps = suc (at .steps); instants = i }
 
   -- what is next, where it is known whether the process is suspended
-  abbrev outcome : Bool → Outcome L
+  abbrev outcome : Bool → StepResult L
   outcome b =
       cond
       b
@@ -226,7 +226,7 @@ module _ {L : Type 0} (names : Names L) (at : System L) where
 
   pub step-only : {o : Output} {to : System L} → Step names at o to → (output names at ≡ o) × (next names at ≡ to)
   step-only (MOVE d) =
-      let k = known false (move-awake d) in
+      let k = known false (move-not-suspended d) in
       let m = move-only d in
       (k .0 ∙ m .0, k .1 ∙ ap₂ (λ p s. built p s (at .instants)) (m .1) (m .2))
   step-only (INSTANT-OP d c) =

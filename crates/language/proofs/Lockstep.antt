@@ -10,7 +10,7 @@ use lib.IntN.{ℤ}
 use Rattle.prelude.proofs.Bools.{by-cases, by-both}
 use Rattle.values.specs.Values.{holds, negation}
 use Rattle.language.specs.Syntax.{Names, Exp, constant, register, binary, negated, Occurs, here, left, right, under, Proc, nil, assign, letIn, ifThenElse, while, sequence, emit, local, watching, when, parallel, isNil}
-use Rattle.language.specs.Steps.{held, present, apply, evaluate, value, test, Output, silent, assigned, emitted, Outcome, inside, suspended, move, change, step}
+use Rattle.language.specs.Steps.{held, present, apply, evaluate, value, test, Output, silent, assigned, emitted, StepResult, inside, suspended, move, change, step}
 use Rattle.language.specs.Calls.{Line, System, lineFor, calledFor, output, next}
 use Rattle.language.proofs.Stores.{set-unseen, LowEqual, set-low, instant-low, instant-register}
 use Rattle.language.proofs.Safe.{LowReads, LowTests, Quiet, Safe, step-uses}
@@ -124,18 +124,18 @@ module _ {L : Type 0} (names : Names L) (low : ℕ → Bool) where
       (change-same p′ s t q (h .3) (second-part (h .1) k))
 
   -- outcomes that differ in nothing low
-  pub record SameOutcome (r r′ : Outcome L) : Type 0 where
+  pub record SameResult (r r′ : StepResult L) : Type 0 where
     pub process : r .process ≡ r′ .process
     pub values : LowEqual low (r .values) (r′ .values)
     pub output : Alike low (r .output) (r′ .output)
 
   same-inside :
-      (context : Proc L → Proc L) {r r′ : Outcome L} → SameOutcome r r′ →
-      SameOutcome (inside context r) (inside context r′)
+      (context : Proc L → Proc L) {r r′ : StepResult L} → SameResult r r′ →
+      SameResult (inside context r) (inside context r′)
   same-inside context m = record { process = ap context (m .process); values = m .values; output = m .output }
 
   silently : {p p′ : Proc L} {s t : List ℤ} → p ≡ p′ → LowEqual low s t →
-      SameOutcome (record {
+      SameResult (record {
         process =
             p;
         values = s;
@@ -151,7 +151,7 @@ module _ {L : Type 0} (names : Names L) (low : ℕ → Bool) where
       go false l = unseen l
 
   move-same :
-      (p : Proc L) (s t : List ℤ) → LowEqual low s t → Safe names low p → Lockstep p → SameOutcome (move p s) (move p t)
+      (p : Proc L) (s t : List ℤ) → LowEqual low s t → Safe names low p → Lockstep p → SameResult (move p s) (move p t)
   unfolding move
   move-same nil s t q h k = silently refl q
   move-same (assign x e) s t q h k =
@@ -171,7 +171,7 @@ module _ {L : Type 0} (names : Names L) (low : ℕ → Bool) where
       silently (by-both Equal (test e s) (test e t) (test-same e q l) (λ u. refl) (λ u. refl)) q
   move-same (sequence p p′) s t q h k =
       by-both
-      SameOutcome
+      SameResult
       (isNil p)
       (isNil p)
       refl
@@ -182,7 +182,7 @@ module _ {L : Type 0} (names : Names L) (low : ℕ → Bool) where
   move-same (local a δ p) s t q h k = silently refl (set-low low s t q a _ _ (λ l. refl))
   move-same (watching a p) s t q h k =
       by-both
-      SameOutcome
+      SameResult
       (isNil p)
       (isNil p)
       refl
@@ -190,7 +190,7 @@ module _ {L : Type 0} (names : Names L) (low : ℕ → Bool) where
       (λ u. same-inside (watching a) (move-same p s t q (h .1) (body-part tt k)))
   move-same (when a p) s t q h k =
       by-both
-      SameOutcome
+      SameResult
       (isNil p)
       (isNil p)
       refl
@@ -199,14 +199,14 @@ module _ {L : Type 0} (names : Names L) (low : ℕ → Bool) where
   move-same (parallel p p′) s t q h k =
       let kp = first-part (h .0) k in
       by-both
-      SameOutcome
+      SameResult
       (isNil p)
       (isNil p)
       refl
       (λ u. silently refl q)
       (λ u.
       by-both
-      SameOutcome
+      SameResult
       (suspended p s)
       (suspended p t)
       (suspended-same p s t q (h .2) kp)
@@ -215,11 +215,11 @@ module _ {L : Type 0} (names : Names L) (low : ℕ → Bool) where
 
   step-same :
       (p : Proc L) (s t : List ℤ) → LowEqual low s t → Safe names low p → Lockstep p →
-      SameOutcome (step names p s) (step names p t)
+      SameResult (step names p s) (step names p t)
   unfolding step
   step-same p s t q h k =
       by-both
-      SameOutcome
+      SameResult
       (suspended p s)
       (suspended p t)
       (suspended-same p s t q h k)
@@ -227,7 +227,7 @@ module _ {L : Type 0} (names : Names L) (low : ℕ → Bool) where
       (λ u. move-same p s t q h k)
 
   -- an outcome that shows nothing low: its output is hidden, and the session's low registers are as they were
-  pub record Unchanged (s : List ℤ) (r : Outcome L) : Type 0 where
+  pub record Unchanged (s : List ℤ) (r : StepResult L) : Type 0 where
     pub hidden : Hidden low (r .output)
     pub registers :
         (x : ℕ) → low x ≡ true → names .isSession x ≡ true → names .isSignal x ≡ false → held (r .values) x ≡ held s x
@@ -236,7 +236,7 @@ module _ {L : Type 0} (names : Names L) (low : ℕ → Bool) where
   untouched p s = record { hidden = no-output; registers = λ x l w i. refl }
 
   unchanged-inside :
-      (context : Proc L → Proc L) {s : List ℤ} {r : Outcome L} → Unchanged s r → Unchanged s (inside context r)
+      (context : Proc L → Proc L) {s : List ℤ} {r : StepResult L} → Unchanged s r → Unchanged s (inside context r)
   unchanged-inside context h = record { hidden = h .hidden; registers = h .registers }
 
   move-unchanged : (p : Proc L) (s : List ℤ) → Quiet names low p → Unchanged s (move p s)
@@ -347,7 +347,7 @@ module _ {L : Type 0} (names : Names L) (low : ℕ → Bool) where
   steps-alike at at′ q h k =
       let m =
       subst
-      (λ p. SameOutcome (step names (at .process) (at .values)) (step names p (at′ .values)))
+      (λ p. SameResult (step names (at .process) (at .values)) (step names p (at′ .values)))
       (q .process)
       (step-same (at .process) (at .values) (at′ .values) (q .values) h k)
       in

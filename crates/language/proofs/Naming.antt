@@ -10,7 +10,7 @@ use lib.ListN.{length, length-set}
 use Rattle.prelude.proofs.Bools.{by-cases}
 use Rattle.prelude.proofs.Tables.{table-same}
 use Rattle.language.specs.Syntax.{Names, Proc, nil, assign, letIn, ifThenElse, while, sequence, emit, local, watching, when, parallel, isNil}
-use Rattle.language.specs.Steps.{Output, silent, assigned, emitted, Outcome, leaves, suspended, change, move, instantStart, step}
+use Rattle.language.specs.Steps.{Output, silent, assigned, emitted, StepResult, leaves, suspended, change, move, instantStart, step}
 use Rattle.language.specs.Calls.{System, Stop, calledFor, givenBack, returned, output, next, behind, reach, run}
 use Rattle.language.proofs.Stores.{instant-length}
 use Rattle.language.proofs.Safe.{Uses, step-uses}
@@ -28,7 +28,7 @@ Shows P (emitted a) = P a
 
 module _ {L : Type 0} (P : ℕ → Type 0) where
   -- an outcome with n values that shows only such names
-  abbrev Keeps : ℕ → Outcome L → Type 0
+  abbrev Keeps : ℕ → StepResult L → Type 0
   Keeps n r = (length (r .values) ≡ n) × Shows P (r .output)
 
   move-keeps : (p : Proc L) (s : List ℤ) → WritesOnly P p → Keeps (length s) (move p s)
@@ -87,7 +87,7 @@ module _ {L : Type 0} (names names′ : Names L) (seen seen′ : ℕ → Bool) (
       let h = step-keeps (λ x. x < n) names (at .process) (at .values) w in
       let q = step-same (at .process) (at .values) e in
       both-go names names′ seen seen′ Same at at refl (λ _. record { same = refl; long = e })
-      (called-same at (output names at) (h .1) ∙ ap (λ (r : Outcome L). calledFor seen′ at (r .output)) q)
+      (called-same at (output names at) (h .1) ∙ ap (λ (r : StepResult L). calledFor seen′ at (r .output)) q)
       (λ l r r′ _ u. record { same = ap (behind (l ∷ [])) (u .same); long = u .long })
       k k room
       (λ left.
@@ -96,7 +96,7 @@ module _ {L : Type 0} (names names′ : Names L) (seen seen′ : ℕ → Bool) (
         same =
             u .same
             ∙ ap
-            (λ (r : Outcome L).
+            (λ (r : StepResult L).
             reach names′ seen′ k left
             (record {
               process = r .process;

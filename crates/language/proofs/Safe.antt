@@ -7,7 +7,7 @@ use mathlib.Core.Logic.{_⊎_, ⊎-map}
 use lib.IntN.{ℤ}
 use Rattle.prelude.proofs.Bools.{by-cases}
 use Rattle.language.specs.Syntax.{Names, Exp, Occurs, Proc, nil, assign, letIn, ifThenElse, while, sequence, emit, local, watching, when, parallel, isNil}
-use Rattle.language.specs.Steps.{present, test, Outcome, suspended, move, change, step}
+use Rattle.language.specs.Steps.{present, test, StepResult, suspended, move, change, step}
 
 -- Tested names are among the first, assigned and emitted names among the second, declared names among the third.
 module _ {L : Type 0} (tested written declared : ℕ → Type 0) where
@@ -39,7 +39,7 @@ module _ {L : Type 0} (tested written declared : ℕ → Type 0) where
   change-uses (parallel p q) s h = (change-uses p s (h .0), change-uses q s (h .1))
 
   -- of what an outcome leaves
-  abbrev pub UsesAfter : Outcome L → Type 0
+  abbrev pub UsesAfter : StepResult L → Type 0
   UsesAfter r = Uses (r .process)
 
   move-uses : (p : Proc L) (s : List ℤ) → Uses p → UsesAfter (move p s)
@@ -127,7 +127,7 @@ module _ {L : Type 0} (names : Names L) (low : ℕ → Bool) where
     change-safe q s (h .3),
   )
 
-  abbrev SafeAfter : Outcome L → Type 0
+  abbrev SafeAfter : StepResult L → Type 0
   SafeAfter r = Safe names low (r .process)
 
   move-tests : (p : Proc L) (s : List ℤ) → LowTests names low p → LowTests names low (move p s .process)

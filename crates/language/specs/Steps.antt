@@ -44,17 +44,18 @@ pub data Output : Type 0 where
   assigned : ℕ → ℤ → Output
   emitted : ℕ → Output
 
-pub record Outcome (L : Type 0) : Type 0 where
+-- what a move or a step leaves, and what it writes
+pub record StepResult (L : Type 0) : Type 0 where
   pub process : Proc L
   pub values : List ℤ
   pub output : Output
 
 module _ {L : Type 0} where
-  abbrev pub leaves : Proc L → List ℤ → Outcome L
+  abbrev pub leaves : Proc L → List ℤ → StepResult L
   leaves p s = record { process = p; values = s; output = silent }
 
-  -- the outcome of a part, in its context
-  abbrev pub inside : (Proc L → Proc L) → Outcome L → Outcome L
+  -- the result of a part's step, in its context
+  abbrev pub inside : (Proc L → Proc L) → StepResult L → StepResult L
   inside context r = record { process = context (r .process); values = r .values; output = r .output }
 
   -- 'Suspended: when with signal absent or body suspended; watching with body suspended; sequence with first part
@@ -73,7 +74,7 @@ module _ {L : Type 0} where
   suspended (parallel p q) s = suspended p s && suspended q s
 
   -- the move of a process that is neither nil nor suspended
-  unfoldable pub move : Proc L → List ℤ → Outcome L
+  unfoldable pub move : Proc L → List ℤ → StepResult L
   move nil s = leaves nil s
   -- 'assignment and emission leave nil; let sets its name, local makes its signal absent, each leaves its body'
   move (assign x e) s = record { process = nil; values = set s x (value e s); output = assigned x (value e s) }
@@ -117,5 +118,5 @@ module _ {L : Type 0} (names : Names L) where
   instantStart s = table (λ x. cond (names .isSignal x) (pos 0) (held s x)) (length s)
 
   -- 'If the whole is suspended, the step is an instant change.'
-  unfoldable pub step : Proc L → List ℤ → Outcome L
+  unfoldable pub step : Proc L → List ℤ → StepResult L
   step p s = cond (suspended p s) (leaves (change p s) (instantStart s)) (move p s)

@@ -9,7 +9,7 @@ use native.Mathlib.Omega.{arith}
 use borrow.Author.Tests.{eq-eqb, ne-eqb, lt-ltb}
 use Rattle.prelude.specs.Refusals.{passes}
 use Rattle.prelude.proofs.Searches.{first-within}
-use Rattle.book.specs.declared.Loaded.{Loaded}
+use Rattle.book.specs.declared.LoadedBook.{LoadedBook}
 use Rattle.book.specs.LevelBook.{mostLevels, count, rows, atOrBelow}
 use Rattle.order.specs.Order.{leastUpper, greatestLower}
 use Rattle.order.specs.Rows.{InOrder}
@@ -22,7 +22,7 @@ use Rattle.pairs.specs.Refusals.{firstLacking, lackRefusal}
 use Rattle.pairs.specs.Bounds.{Paired}
 use Rattle.lattice.specs.Refusals.{refusal, isAccepted}
 
-module _ (s : List ℕ) (r : Loaded) (read : r ≡ orders-load.loaded s) where
+module _ (s : List ℕ) (r : LoadedBook) (read : r ≡ orders-load.loaded s) where
   refusal-read : r .refusal ≡ orders.refusal s
   unfolding orders-load.loaded
   refusal-read = ap (λ x. x .refusal) read

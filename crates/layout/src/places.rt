@@ -7,7 +7,7 @@ ghost use Rattle.prelude.specs.Refusals.{refusedBy};
 ghost use Rattle.layout.specs.Layout.{mostExpressions, mostNodes, mostParts};
 ghost use Rattle.layout.specs.Places.{atPart};
 
-pub fn refused(number: u32, place: usize) -> Refusal
+pub fn refused_by(number: u32, place: usize) -> Refusal
     requires { ⌜ place ≤ mostParts ⌝ }
     ensures { λ r. ⌜ r ≡ refusedBy number place ⌝ }
 {
@@ -23,10 +23,10 @@ pub fn at_part(number: u32, e: usize, n: usize, q: usize) -> Refusal
     ensures { λ r. ⌜ r ≡ atPart number e n q ⌝ }
 {
     if n <= q {
-        return refused(0, 0);
+        return refused_by(0, 0);
     }
     if q < e {
-        return refused(number, q);
+        return refused_by(number, q);
     }
-    refused(number, Script::MAX_EXPRESSIONS + (q - e))
+    refused_by(number, Script::MAX_EXPRESSIONS + (q - e))
 }

@@ -12,7 +12,7 @@ use lib.Seq.{getD-set-same, getD-set-other, set-out}
 use borrow.Author.Tests.{eqb-false, not-true}
 use Rattle.prelude.proofs.Bools.{fails, and-intro, and-left, and-right, by-cases}
 use Rattle.language.specs.Syntax.{Proc, nil, assign, letIn, ifThenElse, while, sequence, emit, local, watching, when, parallel, isNil}
-use Rattle.language.specs.Steps.{present, test, value, Outcome, inside, suspended, move}
+use Rattle.language.specs.Steps.{present, test, value, StepResult, inside, suspended, move}
 use Rattle.language.specs.Calls.{calledFor}
 use Rattle.language.specs.Shapes.{leavesAlone}
 use Rattle.language.specs.Frames.{Frame, alone, beforeThe, watchedBy, guardedBy, besideThe, around, Open}
@@ -60,7 +60,7 @@ module _ {L : Type 0} where
   abbrev Spares : ℕ → Proc L → Type 0
   Spares a p = leavesAlone a p ≡ true
 
-  abbrev Kept : ℕ → Outcome L → Type 0
+  abbrev Kept : ℕ → StepResult L → Type 0
   Kept a r = (present (r .values) a ≡ true) × Spares a (r .process)
 
   move-keeps : (a : ℕ) (p : Proc L) (s : List ℤ) → present s a ≡ true → Spares a p → Kept a (move p s)

@@ -23,7 +23,7 @@ use Rattle.program.specs.declared.forms.Front.{Front}
 use Rattle.program.specs.Forms.{itself}
 use Rattle.residual.specs.Residual.{own, firstOf, secondOf, residual}
 use Rattle.moves.specs.Moves.{Live, Silent}
-use Rattle.residual.specs.Nodes.{Valued, At, left}
+use Rattle.residual.specs.Nodes.{Valued, At, residualOf}
 use Rattle.moves.specs.Contracts.{Unmoved, IsSilent, IsWriter, WriterAt, Written}
 use Rattle.language.specs.Kinds.{hasWrite}
 use Rattle.residual.proofs.Residuals.{zeros, own-set-at, some-bytes}
@@ -122,7 +122,7 @@ is-silent {kind} m e =
 -- a node whose own move is next is neither nil nor suspended
 live-of :
     (words : List ℕ) (k : ℕ) (st : List ℕ) (vs : List ℤ) → own st ≡ 0 → MovesItself (kind words k) → NodeView words k →
-    Live (left words k st) vs
+    Live (residualOf words k st) vs
 unfolding residual suspended isNil
 live-of words k st vs z m (aNil e q) = absurd (not-itself m e (inl refl))
 live-of words k st vs z m (anAssign e q x y) = rw (q, z) (record { some = refl; moving = refl })
@@ -144,7 +144,7 @@ second-set : (st : List ℕ) (v : ℕ) (p : Proc ℕ) → secondOf p (set st 0 v
 second-set st v p = drop-set-lt (suc (size p)) st 0 v (omega arith)
 
 module _ {words : List ℕ} {k : ℕ} {st : List ℕ} {vs : List ℤ} where
-  pub itself-live : Valued words vs → At words k st → own st ≡ 0 → MovesItself (kind words k) → Live (left words k st) vs
+  pub itself-live : Valued words vs → At words k st → own st ≡ 0 → MovesItself (kind words k) → Live (residualOf words k st) vs
   itself-live v at z m = live-of words k st vs z m (node-view words (v .runnable) k (at .known))
 
   -- what is known of a node that is as it is written, and its own byte when it is set
@@ -156,34 +156,35 @@ module _ {words : List ℕ} {k : ℕ} {st : List ℕ} {vs : List ℤ} where
 
   pub let-moves :
       Unmoved words k st vs 2 →
-      Silent (left words k st) vs (left words k (set st 0 1)) (set vs (a words k) (value (expressionOf words (b words k)) vs))
+      Silent (residualOf words k st) vs (residualOf words k (set st 0 1))
+      (set vs (a words k) (value (expressionOf words (b words k)) vs))
   unfolding residual suspended move isNil
   let-moves u =
       rw (fields u .0, u .clear, own-set u 1, first-set st 1 (one words k)) (record { some = refl; moving = refl }, refl)
 
   pub local-moves :
-      Unmoved words k st vs 7 → Silent (left words k st) vs (left words k (set st 0 1)) (set vs (a words k) (pos 0))
+      Unmoved words k st vs 7 → Silent (residualOf words k st) vs (residualOf words k (set st 0 1)) (set vs (a words k) (pos 0))
   unfolding residual suspended move isNil
   local-moves u =
       rw (fields u .0, u .clear, own-set u 1, first-set st 1 (one words k)) (record { some = refl; moving = refl }, refl)
 
   pub then-moves :
       Unmoved words k st vs 3 → test (expressionOf words (a words k)) vs ≡ true →
-      Silent (left words k st) vs (left words k (set st 0 1)) vs
+      Silent (residualOf words k st) vs (residualOf words k (set st 0 1)) vs
   unfolding residual suspended move isNil
   then-moves u t =
       rw (fields u .0, u .clear, own-set u 1, first-set st 1 (one words k), t) (record { some = refl; moving = refl }, refl)
 
   pub else-moves :
       Unmoved words k st vs 3 → test (expressionOf words (a words k)) vs ≡ false →
-      Silent (left words k st) vs (left words k (set st 0 2)) vs
+      Silent (residualOf words k st) vs (residualOf words k (set st 0 2)) vs
   unfolding residual suspended move isNil
   else-moves u t =
       rw (fields u .0, u .clear, own-set u 2, second-set st 2 (one words k), t) (record { some = refl; moving = refl }, refl)
 
   module _ (u : Unmoved words k st vs 4) where
     pub done-moves :
-        test (expressionOf words (a words k)) vs ≡ false → Silent (left words k st) vs (left words k (set st 0 4)) vs
+        test (expressionOf words (a words k)) vs ≡ false → Silent (residualOf words k st) vs (residualOf words k (set st 0 4)) vs
     unfolding residual suspended move isNil
     done-moves t = rw (fields u .0, u .clear, own-set u 4, t) (record { some = refl; moving = refl }, refl)
 
@@ -220,7 +221,8 @@ module _ {words : List ℕ} {k : ℕ} {st : List ℕ} {vs : List ℤ} where
       own-cleared : own cleared ≡ 1
       own-cleared = own-put 1 (length (set st 0 1) - 1) (set st 0 1) zs (omega arith) (omega (arith, long)) ∙ own-set u 1
 
-      pub round-moves : test (expressionOf words (a words k)) vs ≡ true → Silent (left words k st) vs (left words k cleared) vs
+      pub round-moves :
+          test (expressionOf words (a words k)) vs ≡ true → Silent (residualOf words k st) vs (residualOf words k cleared) vs
       unfolding residual suspended move isNil
       round-moves t =
           rw (fields u .0, u .clear, own-cleared, t, fresh-body) (record { some = refl; moving = refl }, refl)

@@ -14,7 +14,7 @@ use Rattle.language.specs.Calls.{Line, System, lineFor, calledFor, mostSteps, l
 use Rattle.program.specs.Program.{mostNames, nodeCount, kindAt, aAt, seenBy}
 use Rattle.program.specs.Forms.{itself}
 use Rattle.residual.specs.Residual.{own}
-use Rattle.residual.specs.Nodes.{Valued, At, inFront, left}
+use Rattle.residual.specs.Nodes.{Valued, At, inFront, residualOf}
 use Rattle.moves.specs.declared.log.Noted.{Noted}
 use Rattle.moves.specs.declared.counts.Counts.{Counts}
 use Rattle.moves.specs.declared.counts.Moved.{Moved}
@@ -79,7 +79,7 @@ runningWith p values log at =
     }
 
 abbrev pub nodeAt : List ℕ → ℕ → List ℕ → List ℤ → List ℕ → Counts → Running ℕ
-nodeAt words k st values log at = runningWith (left words k st) values log at
+nodeAt words k st values log at = runningWith (residualOf words k st) values log at
 
 -- What it leaves: node k has made moves, to these bytes, values and log.
 abbrev pub Makes :
@@ -96,7 +96,7 @@ pub record Unmoved (words : List ℕ) (k : ℕ) (st : List ℕ) (values : List �
 
 -- its move calls for no line, and leaves these bytes and values
 abbrev pub MovesSilently : List ℕ → ℕ → List ℕ → List ℤ → List ℕ → List ℤ → Type 0
-MovesSilently words k st values st′ values′ = Silent (left words k st) values (left words k st′) values′
+MovesSilently words k st values st′ values′ = Silent (residualOf words k st) values (residualOf words k st′) values′
 
 -- let, if, while and local are such
 abbrev pub IsSilent : ℕ → Type 0
@@ -123,4 +123,4 @@ pub record WriterAt (words : List ℕ) (k : ℕ) (values : List ℤ) (n : ℕ) :
 -- what node k, an assignment or an emission whose move is next, gives its name
 abbrev pub Written : List ℕ → ℕ → List ℤ → ℤ → Type 0
 Written words k values v =
-    (st : List ℕ) → 1 ≤ length st → own st ≡ 0 → Writes (left words k st) values (aAt words k) v
+    (st : List ℕ) → 1 ≤ length st → own st ≡ 0 → Writes (residualOf words k st) values (aAt words k) v

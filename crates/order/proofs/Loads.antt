@@ -9,7 +9,7 @@ use borrow.Author.Tests.{ltb-false, lt-ltb, le-ltb, not-false}
 use Rattle.prelude.specs.Search.{first}
 use Rattle.prelude.specs.Refusals.{refusedBy, notRefused, passes}
 use Rattle.prelude.proofs.Searches.{first-within, first-at-end}
-use Rattle.book.specs.declared.Loaded.{Loaded}
+use Rattle.book.specs.declared.LoadedBook.{LoadedBook}
 use Rattle.book.specs.declared.Book.{Book}
 use Rattle.book.specs.LevelBook.{count, sizeIsRight, rows}
 use Rattle.order.specs.Rows.{InOrder}
@@ -19,7 +19,7 @@ use Rattle.order.specs.Load.{loaded}
 use Rattle.book.proofs.Sizes.{few}
 use Rattle.order.proofs.Faultless.{in-order}
 
-module _ (s : List ℕ) (r : Loaded) where
+module _ (s : List ℕ) (r : LoadedBook) where
   -- a refusal by a number other than 0
   refuses : (k p : ℕ) → eqb k 0 ≡ false → refusal s ≡ refusedBy k p → r ≡ answer (refusedBy k p) noBook → r ≡ loaded s
   unfolding loaded

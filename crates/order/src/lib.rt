@@ -3,7 +3,7 @@ mod disorder; // disorder.rt: the faults of refusal 2
 pub mod converse; // converse.rt: the order upside down
 
 use book::Book;
-use book::Loaded;
+use book::LoadedBook;
 use book::read;
 use book::refused;
 use prelude::Refusal;
@@ -12,10 +12,10 @@ ghost use Rattle.prelude.specs.Refusals.{notRefused};
 ghost use Rattle.book.specs.Load.{answer};
 ghost use Rattle.order.specs.Load.{loaded};
 
-fn accepted(b: Book) -> Loaded
+fn accepted(b: Book) -> LoadedBook
     ensures { λ r. ⌜ r ≡ answer notRefused b ⌝ }
 {
-    Loaded {
+    LoadedBook {
         refusal: Refusal {
             number: 0,
             place: 0,
@@ -25,7 +25,7 @@ fn accepted(b: Book) -> Loaded
 }
 
 // Checks the size and the order of a level book of any bytes.
-pub fn load(s: &[u8]) -> Loaded
+pub fn load(s: &[u8]) -> LoadedBook
     ensures { λ r. ⌜ r ≡ loaded (now (s .entry)) ⌝ }
 {
     if !read::size_is_right(s) {

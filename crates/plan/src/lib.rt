@@ -88,7 +88,7 @@ fn name_word(s: &[u8], b: Book, reader: usize, x: usize) -> usize
     ensures { λ r. ⌜ NamePacked (now (s .entry)) (seesIn b (now (s .entry)) reader) x r ⌝ }
 {
     let n = layout::parts::name_at(s, x);
-    let seen = book::at_or_below(b, n.level, reader);
+    let seen = book::at_or_below(&b.rows, n.level, reader);
     packing::pack_name(n.level, n.kind, n.owner == layout::parts::SESSION, seen)
 }
 

@@ -153,7 +153,7 @@ module _
           dom = bound-dom sig x z u δ q;
           store = store-kept x (pos 0) l o;
           signals = λ y. go y (eqb x y) refl;
-          absent = λ a. gone a (eqb z a);
+          absent = λ a. absent-too a (eqb z a);
         }
       where
         go :
@@ -162,9 +162,9 @@ module _
         go y true h f = ap holds (store-set x (pos 0) y l) ∙ rw h (sym (g .absent z u))
         go y false h f = ap holds (store-set x (pos 0) y l) ∙ rw h (g .signals y f)
 
-        gone : (a : ℕ) (b : Bool) → cond b (some δ) (Γ sig a) ≡ none → E a ≡ false
-        gone a true e = let t : _≡_ {A = ℕ} 0 1 = cc in absurd (omega arith)
-        gone a false e = g .absent a e
+        absent-too : (a : ℕ) (b : Bool) → cond b (some δ) (Γ sig a) ≡ none → E a ≡ false
+        absent-too a true e = let t : _≡_ {A = ℕ} 0 1 = cc in absurd (omega arith)
+        absent-too a false e = g .absent a e
 
     -- names that the report calls differently
     apart : (k : Kind) (x y : ℕ) → F k x ≡ true → F k y ≡ true → eqb x y ≡ false → eqb (ρ k x) (ρ k y) ≡ false

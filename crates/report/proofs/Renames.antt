@@ -10,7 +10,7 @@ use Rattle.language.specs.Syntax.{Exp, constant, register, binary, negated, Occ
 use Rattle.language.specs.NameKinds.{Kind, var, sig, same, put}
 use Rattle.language.specs.Steps.{apply, evaluate}
 use Rattle.language.proofs.NameKinds.{same-kind, same-number, same-self, same-at}
-use Rattle.report.specs.Names.{Reads, Free, Renaming, renamedIn, Renamed, r-nil, r-assign, r-let, r-if, r-while, r-sequence, r-emit, r-local, r-watching, r-when, r-parallel}
+use Rattle.report.specs.Names.{OccursIn, Free, Renaming, renamedIn, Renamed, r-nil, r-assign, r-let, r-if, r-while, r-sequence, r-emit, r-local, r-watching, r-when, r-parallel}
 
 -- renamings at the body of a declaration
 pub under-same :
@@ -77,7 +77,7 @@ evaluate-renamed f (binary o a b) S T h =
     ap₂ (apply o) (evaluate-renamed f a S T (λ x i. h x (left i))) (evaluate-renamed f b S T (λ x i. h x (right i)))
 evaluate-renamed f (negated a) S T h = ap negation (evaluate-renamed f a S T (λ x i. h x (under i)))
 
-reads-ren : (ρ : Renaming) (k : Kind) (y : ℕ) (e e′ : Exp) → e′ ≡ renamedIn (ρ var) e → Reads k y e → Reads k (ρ k y) e′
+reads-ren : (ρ : Renaming) (k : Kind) (y : ℕ) (e e′ : Exp) → e′ ≡ renamedIn (ρ var) e → OccursIn k y e → OccursIn k (ρ k y) e′
 reads-ren ρ var y e e′ q r = (refl, subst (λ z. Occurs (ρ var y) z) (sym q) (occurs-ren (ρ var) (r .1)))
 reads-ren ρ sig y e e′ q r = let z : _≡_ {A = ℕ} 0 1 = cc (r .0) in absurd (omega arith)
 

@@ -15,7 +15,7 @@ use Rattle.language.specs.Typing.{Environment, environment}
 use Rattle.language.specs.Scope.{withName, ReadsIn, Scoped, Declared}
 use Rattle.language.specs.Calls.{System}
 use Rattle.language.proofs.NameKinds.{same-kind, same-number, same-self, one-kind}
-use Rattle.report.specs.Names.{Reads, Free, renamedIn, Renamed, r-nil, r-assign, r-let, r-if, r-while, r-sequence, r-emit, r-local, r-watching, r-when, r-parallel}
+use Rattle.report.specs.Names.{OccursIn, Free, renamedIn, Renamed, r-nil, r-assign, r-let, r-if, r-while, r-sequence, r-emit, r-local, r-watching, r-when, r-parallel}
 use Rattle.report.specs.Configurations.{Configuration, Begins, begun}
 use Rattle.report.specs.Scope.{Script}
 use Rattle.report.proofs.Renames.{same-ren}
@@ -58,7 +58,7 @@ module _ {L : Type 0} (names : Names L) where
   in-scope scope j x k y s o h =
       rw (← same-kind j x k y h, ← same-number j x k y h) (and-intro _ _ s o)
 
-  reads-scope : (scope : ℕ → Bool) (e : Exp) (k : Kind) (y : ℕ) → ReadsIn names scope e → Reads k y e → In scope k y
+  reads-scope : (scope : ℕ → Bool) (e : Exp) (k : Kind) (y : ℕ) → ReadsIn names scope e → OccursIn k y e → In scope k y
   reads-scope scope e k y r o =
       rw (o .0) (and-intro _ _ (r y (o .1) .0) (ap not (r y (o .1) .1)))
 

@@ -7,17 +7,17 @@ use Rattle.language.specs.Syntax.{Exp, constant, register, binary, negated, Occ
 use Rattle.language.specs.NameKinds.{Kind, var, sig, same, put}
 
 -- the name k y occurs in an expression
-abbrev pub Reads : Kind → ℕ → Exp → Type 0
-Reads k y e = (k ≡ var) × Occurs y e
+abbrev pub OccursIn : Kind → ℕ → Exp → Type 0
+OccursIn k y e = (k ≡ var) × Occurs y e
 
 module _ {L : Type 0} (k : Kind) (y : ℕ) where
   -- the name k y is free in a process
   abbrev pub Free : Proc L → Type 0
   Free nil = ⊥
-  Free (assign x e) = (same var x k y ≡ true) ⊎ Reads k y e
-  Free (letIn x δ e p) = Reads k y e ⊎ ((same var x k y ≡ false) × Free p)
-  Free (ifThenElse e p q) = Reads k y e ⊎ (Free p ⊎ Free q)
-  Free (while e p) = Reads k y e ⊎ Free p
+  Free (assign x e) = (same var x k y ≡ true) ⊎ OccursIn k y e
+  Free (letIn x δ e p) = OccursIn k y e ⊎ ((same var x k y ≡ false) × Free p)
+  Free (ifThenElse e p q) = OccursIn k y e ⊎ (Free p ⊎ Free q)
+  Free (while e p) = OccursIn k y e ⊎ Free p
   Free (sequence p q) = Free p ⊎ Free q
   Free (emit a) = same sig a k y ≡ true
   Free (local a δ p) = (same sig a k y ≡ false) × Free p

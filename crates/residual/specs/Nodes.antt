@@ -30,5 +30,5 @@ abbrev pub inRear : List ℕ → ℕ → List ℕ → Front
 inRear words k st = frontOf words k (1 - own st) (length st)
 
 -- what is left of node k
-abbrev pub left : List ℕ → ℕ → List ℕ → Proc ℕ
-left words k st = residual (processOf words k) st
+abbrev pub residualOf : List ℕ → ℕ → List ℕ → Proc ℕ
+residualOf words k st = residual (processOf words k) st

@@ -3,15 +3,15 @@
 use Prim.Native.Nat.{ℕ}
 use Rattle.prelude.specs.declared.Refusal.{Refusal}
 use Rattle.results.specs.declared.Verdict.{Verdict}
-use Rattle.results.specs.declared.Report.{Report}
+use Rattle.results.specs.declared.RunResult.{RunResult}
 
 abbrev pub verdictBy : Refusal → ℕ → ℕ → Verdict
 verdictBy r w t = record { number = r .number; place = r .place; write = w; test = t }
 
-abbrev pub refusedReport : Refusal → Report
+abbrev pub refusedReport : Refusal → RunResult
 refusedReport r =
     record { number = r .number; place = r .place; ending = 0; steps = 0; instants = 0; lines = 0 }
 
-abbrev pub reportBy : ℕ → ℕ → ℕ → ℕ → Report
+abbrev pub reportBy : ℕ → ℕ → ℕ → ℕ → RunResult
 reportBy ending steps instants lines =
     record { number = 0; place = 0; ending = ending; steps = steps; instants = instants; lines = lines }

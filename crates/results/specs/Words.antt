@@ -2,10 +2,10 @@
 use mathlib.Core.List.{List, [], _∷_}
 use Prim.Native.Nat.{ℕ}
 use Rattle.results.specs.declared.Verdict.{Verdict}
-use Rattle.results.specs.declared.Report.{Report}
+use Rattle.results.specs.declared.RunResult.{RunResult}
 
 abbrev pub verdictWords : Verdict → List ℕ
 verdictWords v = v .number ∷ v .place ∷ v .write ∷ v .test ∷ []
 
-abbrev pub reportWords : Report → List ℕ
+abbrev pub reportWords : RunResult → List ℕ
 reportWords r = r .number ∷ r .place ∷ r .ending ∷ r .steps ∷ r .instants ∷ r .lines ∷ []

@@ -15,7 +15,7 @@ pub struct Verdict {
 }
 
 // What run answers: number and place of the refusal, how the run ended, and what it counted.
-pub struct Report {
+pub struct RunResult {
     pub number: u32,
     pub place: u32,
     pub ending: u32,
@@ -24,10 +24,10 @@ pub struct Report {
     pub lines: u32,
 }
 
-pub fn refused(r: Refusal) -> Report
+pub fn refused(r: Refusal) -> RunResult
     ensures { λ a. ⌜ a ≡ refusedReport r ⌝ }
 {
-    Report {
+    RunResult {
         number: r.number,
         place: r.place,
         ending: 0,
@@ -37,11 +37,11 @@ pub fn refused(r: Refusal) -> Report
     }
 }
 
-pub fn report_of(ending: u32, steps: u32, instants: u32, lines: usize) -> Report
+pub fn report_of(ending: u32, steps: u32, instants: u32, lines: usize) -> RunResult
     requires { ⌜ lines < 2 ^ 32 ⌝ }
     ensures { λ a. ⌜ a ≡ reportBy ending steps instants lines ⌝ }
 {
-    Report {
+    RunResult {
         number: 0,
         place: 0,
         ending,

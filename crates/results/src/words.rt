@@ -1,5 +1,5 @@
 // The words of the answers, for C.
-use crate::Report;
+use crate::RunResult;
 use crate::Verdict;
 ghost use mathlib.Core.Path.{_≡_};
 ghost use lib.ListN.{length};
@@ -15,7 +15,7 @@ pub fn put_verdict(v: Verdict, out: &mut [u32])
     out[3] = v.test;
 }
 
-pub fn put_report(r: Report, out: &mut [u32])
+pub fn put_report(r: RunResult, out: &mut [u32])
     requires { ⌜ length (now out) ≡ 6 ⌝ }
     ensures { λ _. ⌜ now (out .exit) ≡ reportWords r ⌝ }
 {

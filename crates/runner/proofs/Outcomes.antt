@@ -11,7 +11,7 @@ use lib.ListN.{length, drop, length-append}
 use lib.Seq.{sets, sets-eq}
 use borrow.Author.Tests.{ltb-true, ltb-false}
 use Rattle.language.specs.Syntax.{Names, isNil}
-use Rattle.language.specs.Steps.{Outcome as Left, leaves, suspended, move, change, instantStart, step}
+use Rattle.language.specs.Steps.{StepResult as Left, leaves, suspended, move, change, instantStart, step}
 use Rattle.language.specs.Calls.{Line, Ending, finished, spent, logFull, Stop, calledFor, halts, noted, reach, words}
 use Rattle.moves.specs.Moves.{Running, system, putLine, logAfter, linesAfter, hasRoom, nextLine, moved, changed, Live, Path, stays, moves}
 use Rattle.runner.specs.Outcome.{Outcome, written, recorded, outcome, stopped}

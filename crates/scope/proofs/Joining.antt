@@ -12,7 +12,7 @@ use Rattle.prelude.proofs.Sums.{sum-holds, sum-found, sum-one}
 use Rattle.layout.specs.Layout.{mostParts, expressionCount, partCount}
 use Rattle.fields.specs.declared.Field.{Field}
 use Rattle.fields.specs.Fields.{fieldCount, fieldOf}
-use Rattle.entries.specs.Faults.{holds}
+use Rattle.entries.specs.Faults.{fieldIsRight}
 use Rattle.entries.proofs.Holding.{holds-expression, holds-child, right-field}
 use Rattle.uses.specs.Uses.{usedBy, used, timesIn, timesUsed}
 use Rattle.uses.proofs.Used.{used-by-role}
@@ -21,7 +21,7 @@ use Rattle.scope.specs.Joined.{Joined}
 
 module _ (s : List ℕ) (q : ℕ) (x : Field) where
   -- what a right field uses comes before its part
-  uses-earlier : holds s q x ≡ true → usedBy (expressionCount s) x < mostParts → usedBy (expressionCount s) x < q
+  uses-earlier : fieldIsRight s q x ≡ true → usedBy (expressionCount s) x < mostParts → usedBy (expressionCount s) x < q
   uses-earlier h =
       used-by-role (λ u. u < mostParts → u < q) (expressionCount s) x
       (λ e l. ltb-true _ _ (and-right (ltb (x .value) (expressionCount s)) _ (sym (holds-expression s q x e) ∙ h)))

@@ -5,7 +5,7 @@ use mathlib.Core.List.{List}
 use Prim.Native.Nat.{ℕ}
 use Rattle.layout.specs.Contracts.{Laid}
 use Rattle.script.specs.Checked.{Checked, Levelled}
-use Rattle.script.specs.declared.Loaded.{Loaded}
+use Rattle.script.specs.declared.LoadedScript.{LoadedScript}
 use Rattle.script.specs.Refusals.{isAccepted}
 use Rattle.script.specs.Load.{loaded}
 
@@ -17,5 +17,5 @@ pub record AcceptedExactly : Type 0 where
 -- What a caller of `load` has: a file that is not refused is laid out as the answer says, and checked.
 abbrev pub LoadedChecked : Type 0
 LoadedChecked =
-    (s : List ℕ) (levels : ℕ) (r : Loaded) → r ≡ loaded s levels → r .refusal .number ≡ 0 →
+    (s : List ℕ) (levels : ℕ) (r : LoadedScript) → r ≡ loaded s levels → r .refusal .number ≡ 0 →
     Laid s (r .script) × (Checked s × Levelled s levels)

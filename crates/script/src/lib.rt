@@ -1,6 +1,6 @@
 // The script file: any bytes in; out comes a checked script, or a refusal.
 use layout::Script;
-use layout::places::refused;
+use layout::places::refused_by;
 use layout::tail;
 use prelude::Refusal;
 ghost use mathlib.Core.Path.{_≡_};
@@ -9,7 +9,7 @@ ghost use Rattle.script.specs.Refusals.{entryRefusal, refusal};
 ghost use Rattle.script.specs.Load.{loaded};
 
 // What the bytes of a script give: the refusal, and beside it the layout of the file, all 0 where it is refused.
-pub struct Loaded {
+pub struct LoadedScript {
     pub refusal: Refusal,
     pub script: Script,
 }
@@ -34,22 +34,22 @@ fn refusal(s: &[u8], levels: usize) -> Refusal
     ensures { λ r. ⌜ r ≡ refusal (now (s .entry)) levels ⌝ }
 {
     if !tail::tail_is_right(s) {
-        return refused(4, 0);
+        return refused_by(4, 0);
     }
     let c = Script::layout_of(s);
     if !c.counts_are_right() {
-        return refused(5, 0);
+        return refused_by(5, 0);
     }
     entry_refusal(s, c, levels)
 }
 
 // Checks a script file of any bytes, for a book of so many levels.
-pub fn load(s: &[u8], levels: usize) -> Loaded
+pub fn load(s: &[u8], levels: usize) -> LoadedScript
     ensures { λ r. ⌜ r ≡ loaded (now (s .entry)) levels ⌝ }
 {
     let refusal = refusal(s, levels);
     if refusal.number != 0 {
-        return Loaded {
+        return LoadedScript {
             refusal,
             script: Script {
                 names: 0,
@@ -59,7 +59,7 @@ pub fn load(s: &[u8], levels: usize) -> Loaded
             },
         };
     }
-    Loaded {
+    LoadedScript {
         refusal,
         script: Script::layout_of(s),
     }

@@ -4,7 +4,7 @@ ghost use Prim.Native.Nat.{_+_, _≤_};
 ghost use lib.ListN.{length};
 ghost use Rattle.station.specs.Values.{longWordAt, valueAt, ValuesRead};
 
-fn word_at(bytes: &[u8], at: usize) -> u32
+fn long_word_at(bytes: &[u8], at: usize) -> u32
     requires { ⌜ at + 4 ≤ length (now bytes) ⌝ }
     ensures { λ r. ⌜ r ≡ longWordAt (now (bytes .entry)) at ⌝ }
 {
@@ -17,7 +17,7 @@ fn value_at(bytes: &[u8], at: usize) -> i32
     requires { ⌜ at + 4 ≤ length (now bytes) ⌝ }
     ensures { λ r. ⌜ r ≡ valueAt (now (bytes .entry)) at ⌝ }
 {
-    values::words::value_of_word(word_at(bytes, at))
+    values::words::value_of_word(long_word_at(bytes, at))
 }
 
 // Reads the values and answers how many there are: as many as there is room for if they are more, or if the last has fewer

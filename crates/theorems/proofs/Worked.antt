@@ -12,7 +12,7 @@ use Rattle.language.specs.Syntax.{isNil}
 use Rattle.language.specs.Levels.{expLevel, writeLevel, testLevel, need}
 use Rattle.language.specs.Steps.{evaluate, value, suspended, move, change, instantStart, step}
 use Rattle.language.specs.Calls.{calledFor, givenBack, noted, reach, words}
-use Rattle.entries.specs.Faults.{holds, faultRefusal}
+use Rattle.entries.specs.Faults.{fieldIsRight, faultRefusal}
 use Rattle.uses.specs.Uses.{used, timesUsed, useRefusal}
 use Rattle.scope.specs.Reach.{isOutOfReach, reachRefusal}
 use Rattle.script.specs.Refusals as scripts
@@ -20,8 +20,8 @@ use Rattle.tree.specs.Tree.{expressionOf, processOf}
 use Rattle.checker.specs.Refusals.{checkRefusal}
 use Rattle.arguments.specs.Refusals.{valuesRefusal, callRefusal, runRefusal}
 use Rattle.engine.specs.Answers.{verdict, left}
-use Rattle.theorems.specs.Examples.{PegsHold}
+use Rattle.theorems.specs.Examples.{ExamplesHold}
 
-pub pegs-hold : PegsHold
-unfolding firstFrom first any all count sum course entry table leastUpper top orders.isFaulty orders.firstFaulty orders.refusal pairs.firstLacking books.refusal clamped quotient isNil expLevel writeLevel testLevel need evaluate value suspended move change instantStart step calledFor givenBack noted reach used timesUsed isOutOfReach holds faultRefusal useRefusal reachRefusal scripts.entryRefusal scripts.refusal expressionOf processOf words checkRefusal valuesRefusal callRefusal runRefusal verdict left
-pegs-hold = refl
+pub examples-hold : ExamplesHold
+unfolding firstFrom first any all count sum course entry table leastUpper top orders.isFaulty orders.firstFaulty orders.refusal pairs.firstLacking books.refusal clamped quotient isNil expLevel writeLevel testLevel need evaluate value suspended move change instantStart step calledFor givenBack noted reach used timesUsed isOutOfReach fieldIsRight faultRefusal useRefusal reachRefusal scripts.entryRefusal scripts.refusal expressionOf processOf words checkRefusal valuesRefusal callRefusal runRefusal verdict left
+examples-hold = refl

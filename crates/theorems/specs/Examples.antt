@@ -9,7 +9,7 @@ use Rattle.layout.specs.Entries.{session}
 use Rattle.layout.specs.Files.{name, part, all, file}
 use Rattle.language.specs.Kinds.{nil, assign, ifThenElse, while, sequence, emit, watching, when, parallel}
 use Rattle.results.specs.declared.Verdict.{Verdict}
-use Rattle.results.specs.declared.Report.{Report}
+use Rattle.results.specs.declared.RunResult.{RunResult}
 use Rattle.engine.specs.Answers.{Left, verdict, left}
 
 -- 'Book 02 0003 0002 (hexadecimal): level 0 is L, 1 is H; the letter shows a name's level.'
@@ -45,7 +45,7 @@ divide a b = part 5 a b 0
 abbrev logWith : List (List ℕ) → List ℕ
 logWith lines = all lines ++ replicate (1024 - length (all lines)) 9
 
-pub record Peg : Type 0 where
+pub record Example : Type 0 where
   pub book : List ℕ
   pub script : List ℕ
   pub reader : ℕ
@@ -56,7 +56,7 @@ pub record Peg : Type 0 where
   pub ran : Left
 
 -- A call on a script with these values, for the reader 0 and at most so many steps; what comes out.
-abbrev call : List ℕ → List ℤ → ℕ → Verdict → Left → Peg
+abbrev call : List ℕ → List ℤ → ℕ → Verdict → Left → Example
 call s values limit checked ran =
     record {
       book = book;
@@ -70,7 +70,7 @@ call s values limit checked ran =
     }
 
 -- a script that is refused for its flow, at this node
-abbrev refusedAt : ℕ → List ℕ → List ℤ → Peg
+abbrev refusedAt : ℕ → List ℕ → List ℤ → Example
 refusedAt place s values =
     call s values 1000
     (record { number = 11; place = place; write = 0; test = 0 })
@@ -81,7 +81,7 @@ refusedAt place s values =
     })
 
 -- a report by its ending, steps, instants and lines
-abbrev reported : ℕ → ℕ → ℕ → ℕ → Report
+abbrev reported : ℕ → ℕ → ℕ → ℕ → RunResult
 reported ending steps instants lines =
     record { number = 0; place = 0; ending = ending; steps = steps; instants = instants; lines = lines }
 
@@ -93,22 +93,22 @@ spent = 1
 
 -- a script with this W and T that runs: how it ends, after how many steps and instants, its lines, its values
 abbrev runs :
-    List ℕ → List ℤ → ℕ → ℕ → ℕ → ℕ → ℕ → ℕ → List (List ℕ) → List ℤ → Peg
+    List ℕ → List ℤ → ℕ → ℕ → ℕ → ℕ → ℕ → ℕ → List (List ℕ) → List ℤ → Example
 runs s values limit write test ending steps instants lines after =
     call s values limit
     (record { number = 0; place = 0; write = write; test = test })
     (record { report = reported ending steps instants (length lines); values = after; log = logWith lines })
 
 -- x := e, for the register x at L and an operator of two constants: the value that x gets, and its word in the log
-abbrev assigns : ℕ → ℕ → List ℕ → ℤ → ℕ → Peg
+abbrev assigns : ℕ → ℕ → List ℕ → ℤ → ℕ → Example
 assigns a b operator v word =
     runs
     (file (register L ∷ []) (constant a ∷ constant b ∷ operator ∷ []) (part assign 0 2 0 ∷ []))
     (pos 0 ∷ []) 1000 L L
     finished 1 0 ((1 ∷ 0 ∷ 0 ∷ word ∷ []) ∷ []) (v ∷ [])
 
-abbrev pub pegs : List Peg
-pegs =
+abbrev pub examples : List Example
+examples =
     -- nil: W 1, T 0
     runs (file [] [] (part nil 0 0 0 ∷ [])) [] 1000 H L finished 0 0 [] []
     -- y_L := x_H: 11
@@ -191,11 +191,11 @@ pegs =
     ∷ []
 
 -- what the two calls answer, and what must come out
-abbrev pub answers : Peg → Verdict × Left
+abbrev pub answers : Example → Verdict × Left
 answers p = (verdict (p .book) (p .script), left (p .book) (p .script) (p .reader) (p .values) (p .limit) (p .log))
 
-abbrev pub comesOut : Peg → Verdict × Left
+abbrev pub comesOut : Example → Verdict × Left
 comesOut p = (p .checked, p .ran)
 
-abbrev pub PegsHold : Type 0
-PegsHold = map answers pegs ≡ map comesOut pegs
+abbrev pub ExamplesHold : Type 0
+ExamplesHold = map answers examples ≡ map comesOut examples

@@ -21,7 +21,7 @@ use Rattle.layout.proofs.Layouts.{few-bounds, few-parts}
 use Rattle.fields.specs.declared.Field.{Field}
 use Rattle.fields.specs.Roles.{nodeRows, roleIn, expression, child}
 use Rattle.fields.specs.Fields.{fieldCount, fieldOf, valueOf}
-use Rattle.entries.specs.Faults.{holds}
+use Rattle.entries.specs.Faults.{fieldIsRight}
 use Rattle.entries.proofs.Holding.{holds-expression, holds-child, right-field}
 use Rattle.uses.specs.Uses.{usedBy, used, timesIn, timesUsed}
 use Rattle.uses.proofs.Used.{used-of, used-child}
@@ -88,7 +88,7 @@ module _ (s : List ℕ) (ok : Checked s) where
 
   -- a field adds the size of the part that it uses
   module _ (q f : ℕ) (l : f < fieldCount) (h : q < partCount s) where
-    right : holds s q (fieldOf s q f) ≡ true
+    right : fieldIsRight s q (fieldOf s q f) ≡ true
     right = right-field s (ok .joined .sound) q f h l
 
     child-below : fieldOf s q f .role ≡ child → node s (fieldOf s q f .value) < q

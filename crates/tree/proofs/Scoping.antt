@@ -20,13 +20,13 @@ use Rattle.tree.specs.Tree.{namesOf, expressionOf, processOf, tree}
 use Rattle.tree.proofs.Views.{UsesName, NewName, UsesPart, UsesExpression, UsesNode, ExpressionView, aConstant, aRegister, aBinary, aNegated, NodeView, aNil, anAssign, aLet, anIf, aWhile, aSequence, anEmit, aLocal, aWatching, aWhen, aParallel, expression-view, node-view}
 
 -- P of every register of an expression
-abbrev Reads : (ℕ → Type 0) → Exp → Type 0
-Reads P (constant v) = Unit {0}
-Reads P (register x) = P x
-Reads P (binary o a b) = Reads P a × Reads P b
-Reads P (negated a) = Reads P a
+abbrev EachRegister : (ℕ → Type 0) → Exp → Type 0
+EachRegister P (constant v) = Unit {0}
+EachRegister P (register x) = P x
+EachRegister P (binary o a b) = EachRegister P a × EachRegister P b
+EachRegister P (negated a) = EachRegister P a
 
-occurs : (P : ℕ → Type 0) {x : ℕ} {e : Exp} → Occurs x e → Reads P e → P x
+occurs : (P : ℕ → Type 0) {x : ℕ} {e : Exp} → Occurs x e → EachRegister P e → P x
 occurs P here r = r
 occurs P (left o) r = occurs P o (r .0)
 occurs P (right o) r = occurs P o (r .1)
@@ -49,14 +49,14 @@ module _ (s : List ℕ) (ok : Checked s) where
 
   module _ (scope : ℕ → Bool) where
     abbrev ReadsAll : ℕ → Type 0
-    ReadsAll e = Reads (RegisterIn (namesOf s) scope) (expressionOf s e)
+    ReadsAll e = EachRegister (RegisterIn (namesOf s) scope) (expressionOf s e)
 
     reads-view :
         (e : ℕ) → Covers scope e → ((j : ℕ) → UsesExpression s e j → ReadsAll j) → ExpressionView s e → ReadsAll e
-    reads-view e c go (aConstant k q) = subst (Reads (RegisterIn (namesOf s) scope)) (sym q) tt
-    reads-view e c go (aRegister k q u) = subst (Reads (RegisterIn (namesOf s) scope)) (sym q) (register-in c u)
-    reads-view e c go (aBinary o k q u v) = subst (Reads (RegisterIn (namesOf s) scope)) (sym q) (go _ u, go _ v)
-    reads-view e c go (aNegated k q u) = subst (Reads (RegisterIn (namesOf s) scope)) (sym q) (go _ u)
+    reads-view e c go (aConstant k q) = subst (EachRegister (RegisterIn (namesOf s) scope)) (sym q) tt
+    reads-view e c go (aRegister k q u) = subst (EachRegister (RegisterIn (namesOf s) scope)) (sym q) (register-in c u)
+    reads-view e c go (aBinary o k q u v) = subst (EachRegister (RegisterIn (namesOf s) scope)) (sym q) (go _ u, go _ v)
+    reads-view e c go (aNegated k q u) = subst (EachRegister (RegisterIn (namesOf s) scope)) (sym q) (go _ u)
 
     reads-all : (n e : ℕ) → e < n → e < expressionCount s → Covers scope e → ReadsAll e
     reads-all zero e h l c = absurd (not-suc-le-zero h)

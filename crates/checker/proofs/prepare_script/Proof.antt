@@ -5,7 +5,7 @@ use native.Mathlib.Omega.{arith}
 use borrow.Author.Tests.{eq-eqb, ne-eqb}
 use denote.Ref.{now}
 use Rattle.prelude.specs.Refusals.{passes}
-use Rattle.script.specs.declared.Loaded.{Loaded}
+use Rattle.script.specs.declared.LoadedScript.{LoadedScript}
 use Rattle.layout.specs.Contracts.{Laid}
 use Rattle.script.specs.Refusals as files
 use Rattle.script.specs.Load.{loaded}
@@ -22,7 +22,7 @@ use Rattle.checker.proofs.prepare_script.Tie as tie
 script-refusal :
     (c : tie.After-load) → c .load .result .refusal ≡ files.refusal (now ((c .before .before) .args .s)) ((c .before .before) .args .book .count)
 unfolding loaded
-script-refusal c = ap (λ (z : Loaded). z .refusal) (c .load .ensures)
+script-refusal c = ap (λ (z : LoadedScript). z .refusal) (c .load .ensures)
 
 script-right : (c : tie.Else1) → files.isAccepted (now ((c .before .before .before .before) .args .s)) ((c .before .before .before .before) .args .book .count) ≡ true
 script-right c = ap passes (sym (script-refusal ((c .before .before)))) ∙ eq-eqb _ 0 (c .if1 .left)

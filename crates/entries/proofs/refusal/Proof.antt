@@ -86,27 +86,27 @@ right-nodes c =
 first-wrong-name-requires : tie.Need-first-wrong-name-requires
 first-wrong-name-requires c κs = search needs
 
-refused-requires : tie.Need-refused-requires
-refused-requires c κs = omega (arith, few (start1 (c .before .before)), c .if1 .taken)
+refused-by-requires : tie.Need-refused-by-requires
+refused-by-requires c κs = omega (arith, few (start1 (c .before .before)), c .if1 .taken)
 
 returns : tie.Need-returns
 unfolding faultRefusal
 returns c =
     let d = c .before .before .before in
-    c .refused .ensures
+    c .refused-by .ensures
     ∙ sym (at-first _ _ (refusedBy 6) _ (wrong-name d) (omega (arith, c .before .if1 .taken, names-are (start1 d .pre))))
 
 first-wrong-part-requires : tie.Need-first-wrong-part-requires
 first-wrong-part-requires c κs = search needs
 
-refused-requires-2 : tie.Need-refused-requires-2
-refused-requires-2 c κs = omega (arith, few (start2 (c .before .before)), c .if2 .taken)
+refused-by-requires-2 : tie.Need-refused-by-requires-2
+refused-by-requires-2 c κs = omega (arith, few (start2 (c .before .before)), c .if2 .taken)
 
 returns-2 : tie.Need-returns-2
 unfolding faultRefusal
 returns-2 c =
     let d = c .before .before .before in
-    c .refused2 .ensures
+    c .refused-by2 .ensures
     ∙ sym
     (past-first _ _ (refusedBy 6) _ (right-names (d .before))
     ∙ at-first _ _ (refusedBy 7) _ (wrong-expression d)
@@ -115,28 +115,28 @@ returns-2 c =
 first-wrong-part-requires-2 : tie.Need-first-wrong-part-requires-2
 first-wrong-part-requires-2 c κs = search needs
 
-refused-requires-3 : tie.Need-refused-requires-3
-refused-requires-3 c κs = omega (arith, few (start3 (c .before .before)), c .if3 .taken)
+refused-by-requires-3 : tie.Need-refused-by-requires-3
+refused-by-requires-3 c κs = omega (arith, few (start3 (c .before .before)), c .if3 .taken)
 
 returns-3 : tie.Need-returns-3
 unfolding faultRefusal
 returns-3 c =
     let d = c .before .before .before in
     let e = d .before in
-    c .refused3 .ensures
+    c .refused-by3 .ensures
     ∙ sym
     (past-first _ _ (refusedBy 6) _ (right-names (e .before .before .before))
     ∙ past-first _ _ (refusedBy 7) _ (right-expressions e)
     ∙ at-first _ _ (refusedBy 8) _ (wrong-node d) (omega (arith, c .before .if3 .taken, nodes-are (start3 d .pre))))
 
-refused-requires-4 : tie.Need-refused-requires-4
-refused-requires-4 c κs = search needs
+refused-by-requires-4 : tie.Need-refused-by-requires-4
+refused-by-requires-4 c κs = search needs
 
 returns-4 : tie.Need-returns-4
 unfolding faultRefusal
 returns-4 c =
     let e = c .before .before .before .before in
-    c .refused4 .ensures
+    c .refused-by4 .ensures
     ∙ sym
     (past-first _ _ (refusedBy 6) _ (right-names (e .before .before .before))
     ∙ past-first _ _ (refusedBy 7) _ (right-expressions e)
@@ -147,13 +147,13 @@ refusal-spec =
     tie.close
     (tie.spec
     first-wrong-name-requires
-    refused-requires
+    refused-by-requires
     returns
     first-wrong-part-requires
-    refused-requires-2
+    refused-by-requires-2
     returns-2
     first-wrong-part-requires-2
-    refused-requires-3
+    refused-by-requires-3
     returns-3
-    refused-requires-4
+    refused-by-requires-4
     returns-4)

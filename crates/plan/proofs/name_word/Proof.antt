@@ -19,19 +19,19 @@ kind : (c : tie.After-name-at) → c .name-at .result .kind < 2
 kind c = omega (arith, ap (λ n. n .kind) (c .name-at .ensures), c .before .before .pre .kind)
 
 at-or-below-requires : tie.Need-at-or-below-requires
-at-or-below-requires c κs = (omega (arith, level c), omega (arith, level c))
+at-or-below-requires c κs = (omega (arith, level (c .before .before)), omega (arith, level (c .before .before)))
 
 pack-name-requires : tie.Need-pack-name-requires
-pack-name-requires c κs = (omega (arith, level (c .before .before)), kind (c .before .before))
+pack-name-requires c κs = (omega (arith, level (c .before .before .before .before)), kind (c .before .before .before .before))
 
 returns : tie.Need-returns
 returns c =
-    let args = c .before .before .before .before .before .args in
-    let n = c .before .before .before .name-at in
-    let seen = c .before .before .at-or-below in
+    let named = c .before .before .before .before .before in
+    let args = named .before .before .args in
     rw (c .pack-name .ensures)
-    (name-packed _ _ _ _ (n .ensures) (omega (arith, level (c .before .before .before))) (kind (c .before .before .before)) _
-    (seen .ensures ∙ ap (λ m. atOrBelow (args .b .rows) (m .level) (args .reader)) (n .ensures)))
+    (name-packed _ _ _ _ (named .name-at .ensures) (omega (arith, level named)) (kind named) _
+    (c .before .before .at-or-below .ensures
+    ∙ ap (λ m. atOrBelow (args .t2 .rows) (m .level) (args .reader)) (named .name-at .ensures)))
 
 pub name-word-spec : {M : Type 1} → statement M
 name-word-spec =

@@ -45,14 +45,14 @@ laid c =
 tail-is-right-requires : tie.Need-tail-is-right-requires
 tail-is-right-requires c κs = search needs
 
-refused-requires : tie.Need-refused-requires
-refused-requires c κs = search needs
+refused-by-requires : tie.Need-refused-by-requires
+refused-by-requires c κs = search needs
 
 returns : tie.Need-returns
 unfolding refusal
 returns c =
     let d = c .before in
-    rw (sym (d .before .tail-is-right .ensures) ∙ not-true _ (d .if1 .taken)) (c .refused .ensures)
+    rw (sym (d .before .tail-is-right .ensures) ∙ not-true _ (d .if1 .taken)) (c .refused-by .ensures)
 
 layout-of-requires : tie.Need-layout-of-requires
 layout-of-requires c κs = tailed c
@@ -60,8 +60,8 @@ layout-of-requires c κs = tailed c
 counts-are-right-requires : tie.Need-counts-are-right-requires
 counts-are-right-requires c κs = search needs
 
-refused-requires-2 : tie.Need-refused-requires-2
-refused-requires-2 c κs = search needs
+refused-by-requires-2 : tie.Need-refused-by-requires-2
+refused-by-requires-2 c κs = search needs
 
 returns-2 : tie.Need-returns-2
 unfolding refusal
@@ -73,7 +73,7 @@ returns-2 c =
           ∙ sym (d .counts-are-right .ensures)
           ∙ not-true _ (c .before .if2 .taken),
     )
-    (c .refused2 .ensures)
+    (c .refused-by2 .ensures)
 
 entry-refusal-requires : tie.Need-entry-refusal-requires
 entry-refusal-requires c κs = laid c
@@ -91,11 +91,11 @@ refusal-spec =
     tie.close
     (tie.spec
     tail-is-right-requires
-    refused-requires
+    refused-by-requires
     returns
     layout-of-requires
     counts-are-right-requires
-    refused-requires-2
+    refused-by-requires-2
     returns-2
     entry-refusal-requires
     returns-3)

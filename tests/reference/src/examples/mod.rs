@@ -6,7 +6,7 @@
 //! A program that the report shows to be insecure is refused with its levels;
 //! where its behaviour is stated, a second example runs it with all levels low.
 
-mod pegs;
+mod listed;
 mod report;
 mod rules;
 pub mod script;
@@ -43,7 +43,7 @@ pub struct ExampleRun {
 
 /// All examples.
 pub fn all() -> Vec<Example> {
-    let mut all = pegs::all();
+    let mut all = listed::all();
     all.extend(report::all());
     all.extend(security::all());
     all.extend(rules::all());

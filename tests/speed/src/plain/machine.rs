@@ -16,14 +16,14 @@ pub enum State {
     Second,
     /// Of a parallel both parts, the second in front.
     Turned,
-    Gone,
+    Terminated,
 }
 
 /// What a walk finds or does.
 pub enum Step {
     Moved,
     /// Nothing is left to move.
-    Gone,
+    Terminated,
     Suspended,
     /// The next move needs a line and the log has no room.
     Full,
@@ -89,14 +89,14 @@ impl<'a> Machine<'a> {
         let root = (self.nodes.len() - 1) as u16;
         while self.steps < limit {
             match self.step(root) {
-                Step::Gone => return 0,
+                Step::Terminated => return 0,
                 Step::Full => return 2,
                 Step::Moved => {}
                 Step::Suspended => self.change_instant(root),
             }
             self.steps += 1;
         }
-        !self.is_gone(root) as u32
+        !self.is_terminated(root) as u32
     }
 
     pub fn change_instant(&mut self, root: u16) {
@@ -108,11 +108,11 @@ impl<'a> Machine<'a> {
     /// Moves node k once, or says why it can't move.
     pub fn step(&mut self, k: u16) -> Step {
         let state = self.state[k as usize];
-        if state == State::Gone {
-            return Step::Gone;
+        if state == State::Terminated {
+            return Step::Terminated;
         }
         match (self.nodes[k as usize], state) {
-            (Node::Nil, _) => Step::Gone,
+            (Node::Nil, _) => Step::Terminated,
             (Node::Assign { name, value }, _) => self.write(k, name, self.value(value)),
             (Node::Emit { signal }, _) => self.write(k, signal, 1),
             (Node::Let { name, value, body }, State::Whole) => {
@@ -130,9 +130,9 @@ impl<'a> Machine<'a> {
                 self.then_enter(k, step, second)
             }
             (Node::Sequence { second, .. }, _) => self.step(second),
-            (Node::Watching { body, .. }, _) => self.step_before(k, body, State::Gone),
+            (Node::Watching { body, .. }, _) => self.step_before(k, body, State::Terminated),
             (Node::When { signal, .. }, _) if !self.is_present(signal) => Step::Suspended,
-            (Node::When { body, .. }, _) => self.step_before(k, body, State::Gone),
+            (Node::When { body, .. }, _) => self.step_before(k, body, State::Terminated),
             (Node::Parallel { first, .. }, State::First) => self.step(first),
             (Node::Parallel { second, .. }, State::Second) => self.step(second),
             (Node::Parallel { first, second }, _) => self.step_beside(k, state, first, second),
@@ -150,7 +150,7 @@ impl<'a> Machine<'a> {
             self.lines += 1;
         }
         self.values[name as usize] = value;
-        self.leave(k, State::Gone)
+        self.leave(k, State::Terminated)
     }
 
     fn declare(&mut self, k: u16, name: u16, value: i32, body: u16) -> Step {
@@ -171,7 +171,7 @@ impl<'a> Machine<'a> {
 
     fn round(&mut self, k: u16, test: u16, body: u16) -> Step {
         if self.value(test) == 0 {
-            return self.leave(k, State::Gone);
+            return self.leave(k, State::Terminated);
         }
         self.enter(body);
         self.leave(k, State::Body)
@@ -180,14 +180,14 @@ impl<'a> Machine<'a> {
     /// Moves the body of node k; where the body is nil, that is dropped and the node has come to `state`.
     fn step_before(&mut self, k: u16, body: u16, state: State) -> Step {
         match self.step(body) {
-            Step::Gone => self.leave(k, state),
+            Step::Terminated => self.leave(k, state),
             step => step,
         }
     }
 
     fn then_enter(&mut self, k: u16, step: Step, second: u16) -> Step {
         match step {
-            Step::Gone => {
+            Step::Terminated => {
                 self.enter(second);
                 self.leave(k, State::Second)
             }
@@ -201,7 +201,7 @@ impl<'a> Machine<'a> {
             _ => (second, first, State::First, State::Whole),
         };
         match self.step(front) {
-            Step::Gone => self.leave(k, alone),
+            Step::Terminated => self.leave(k, alone),
             Step::Suspended if !self.is_suspended(rear) => self.leave(k, turned),
             step => step,
         }
@@ -228,7 +228,7 @@ impl<'a> Machine<'a> {
 
     pub fn is_suspended(&self, k: u16) -> bool {
         match (self.nodes[k as usize], self.state[k as usize]) {
-            (_, State::Gone) => false,
+            (_, State::Terminated) => false,
             (Node::When { signal, body }, _) => !self.is_present(signal) || self.is_suspended(body),
             (Node::Parallel { first, second }, State::Whole | State::Turned) => {
                 self.is_suspended(first) && self.is_suspended(second)
@@ -240,9 +240,9 @@ impl<'a> Machine<'a> {
     /// The instant change of node k, by the signals of the instant that ends.
     fn change(&mut self, k: u16) {
         match (self.nodes[k as usize], self.state[k as usize]) {
-            (_, State::Gone) => {}
+            (_, State::Terminated) => {}
             (Node::Watching { signal, .. }, _) if self.is_present(signal) => {
-                self.state[k as usize] = State::Gone;
+                self.state[k as usize] = State::Terminated;
             }
             (Node::When { signal, .. }, _) if !self.is_present(signal) => {}
             (Node::Parallel { first, second }, State::Whole | State::Turned) => {
@@ -257,13 +257,13 @@ impl<'a> Machine<'a> {
         }
     }
 
-    fn is_gone(&self, k: u16) -> bool {
+    fn is_terminated(&self, k: u16) -> bool {
         match (self.nodes[k as usize], self.state[k as usize]) {
-            (Node::Nil, _) | (_, State::Gone) => true,
+            (Node::Nil, _) | (_, State::Terminated) => true,
             (Node::Watching { .. } | Node::When { .. }, _) => false,
             (Node::While { .. }, _) | (Node::Sequence { .. }, State::Whole) => false,
             (Node::Parallel { .. }, State::Whole | State::Turned) => false,
-            (node, state) => part(node, state).is_some_and(|child| self.is_gone(child)),
+            (node, state) => part(node, state).is_some_and(|child| self.is_terminated(child)),
         }
     }
 

@@ -5,7 +5,7 @@ use super::script::Node;
 
 /// Why a node makes no further move.
 enum Rest {
-    Gone,
+    Terminated,
     Suspended,
     Spent,
     Full,
@@ -27,7 +27,7 @@ impl Machine<'_> {
         let root = (self.nodes.len() - 1) as u16;
         loop {
             match self.advance(root, limit) {
-                Rest::Gone => return 0,
+                Rest::Terminated => return 0,
                 Rest::Full => return 2,
                 Rest::Suspended if self.steps < limit => self.change_instant(root),
                 _ => return 1,
@@ -45,9 +45,9 @@ impl Machine<'_> {
                 Next::OwnMove => self.step(k),
                 Next::Part(child, after) => match self.advance(child, limit) {
                     Rest::Suspended if self.rear_waits(k) => return Rest::Suspended,
-                    Rest::Suspended | Rest::Gone if self.steps == limit => return Rest::Spent,
+                    Rest::Suspended | Rest::Terminated if self.steps == limit => return Rest::Spent,
                     Rest::Suspended => self.trade(k),
-                    Rest::Gone => self.drop_part(k, after),
+                    Rest::Terminated => self.drop_part(k, after),
                     rest => return rest,
                 },
             };
@@ -60,12 +60,12 @@ impl Machine<'_> {
 
     fn next(&self, k: u16) -> Next {
         match (self.nodes[k as usize], self.state[k as usize]) {
-            (Node::Nil, _) | (_, State::Gone) => Next::Rest(Rest::Gone),
+            (Node::Nil, _) | (_, State::Terminated) => Next::Rest(Rest::Terminated),
             (Node::When { signal, .. }, _) if !self.is_present(signal) => {
                 Next::Rest(Rest::Suspended)
             }
             (Node::Watching { body, .. } | Node::When { body, .. }, _) => {
-                Next::Part(body, State::Gone)
+                Next::Part(body, State::Terminated)
             }
             (Node::Sequence { first, .. }, State::Whole) => Next::Part(first, State::Second),
             (Node::Parallel { first, .. }, State::Whole) => Next::Part(first, State::Second),

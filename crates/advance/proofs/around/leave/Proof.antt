@@ -7,7 +7,7 @@ use native.Mathlib.Omega.{arith}
 use denote.Ref.{now}
 use mathlib.Core.List.{List}
 use Rattle.program.specs.Forms.{before, beside}
-use Rattle.residual.specs.Nodes.{left, inFront}
+use Rattle.residual.specs.Nodes.{residualOf, inFront}
 use Rattle.residual.proofs.Residuals.{some-bytes}
 use Rattle.instants.specs.Contracts.{RearWaits}
 use Rattle.instants.proofs.Deciding.{Found, sees, waiting-front}
@@ -50,7 +50,7 @@ rear c e = rw (← e, ← rested (c .before .before .before .before .before) .fo
 leaves :
     (c : tie.After-part) {st′ : List ℕ} {m : Moved} →
     let a = c .before .before .before .before .args in
-    Settles (a .limit) (left (now (a .program)) (a .k) (now (a .state))) (now (a .values)) (left (now (a .program)) (a .k) st′) (c .part .given .0 .0) (c .part .given .0 .1 .0) m →
+    Settles (a .limit) (residualOf (now (a .program)) (a .k) (now (a .state))) (now (a .values)) (residualOf (now (a .program)) (a .k) st′) (c .part .given .0 .0) (c .part .given .0 .1 .0) m →
     Leaves (now (a .program)) (a .k) (now (a .state)) (now (a .values)) (a .limit) (a .form) (a .part) st′ m
 leaves c {st′} {m} s =
     let a = c .before .before .before .before .args in
@@ -105,7 +105,7 @@ returns-2 c =
     let start = c .before .before .before .before .before .before .before .before .before .before in
     let a = start .args in
     let r = rested (c .before .before .before .before .before .before) in
-    let p = left (now (a .program)) (a .k) (now (a .state)) in
+    let p = residualOf (now (a .program)) (a .k) (now (a .state)) in
     let why = c .before .before .before .enum-told3 .given .1 in
     leaves (c .before .before .before .before .before .before)
     (restsOn refl refl

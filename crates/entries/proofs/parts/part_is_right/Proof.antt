@@ -50,8 +50,8 @@ returns-2 c =
       ne-eqb _ _ (c .if2 .taken),
     )
 
-fields-hold-requires : tie.Need-fields-hold-requires
-fields-hold-requires c κs = search needs
+fields-are-right-requires : tie.Need-fields-are-right-requires
+fields-are-right-requires c κs = search needs
 
 returns-3 : tie.Need-returns-3
 returns-3 c =
@@ -60,9 +60,9 @@ returns-3 c =
       eq-eqb _ _
           (sym (ap (λ z. z .zero) (c .before .before .before .before .before .before .part-at .ensures)) ∙ c .before .if2 .left),
     )
-    (c .fields-hold .ensures)
+    (c .fields-are-right .ensures)
 
 pub part-is-right-spec : {M : Type 1} → statement M
 part-is-right-spec =
     tie.close
-    (tie.spec part-at-requires kinds-for-requires returns returns-2 fields-hold-requires returns-3)
+    (tie.spec part-at-requires kinds-for-requires returns returns-2 fields-are-right-requires returns-3)

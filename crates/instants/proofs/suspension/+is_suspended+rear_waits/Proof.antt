@@ -10,7 +10,7 @@ use Rattle.language.specs.Steps.{present, suspended}
 use Rattle.program.specs.declared.forms.Front.{Front}
 use Rattle.program.specs.Forms.{itself, guarded, partIn}
 use Rattle.program.proofs.Fronts.{front-form}
-use Rattle.residual.specs.Nodes.{NodeIn, inFront, inRear, left}
+use Rattle.residual.specs.Nodes.{NodeIn, inFront, inRear, residualOf}
 use Rattle.residual.proofs.Sights.{signalAt}
 use Rattle.residual.proofs.Residuals.{some-bytes}
 use Rattle.instants.specs.Contracts.{RearAsked, RearWaits}
@@ -167,7 +167,7 @@ module _ (t : ℕ) where
       let start = rear .before .before .before .before .before .before in
       let args = start .args in
       c .is-suspended .ensures
-      ∙ ap (λ (f : Front). suspended (left (args .program .now) (f .child) (partIn f (args .state .now))) (args .values .now)) (c .before .before .find-front .ensures)
+      ∙ ap (λ (f : Front). suspended (residualOf (args .program .now) (f .child) (partIn f (args .state .now))) (args .values .now)) (c .before .before .find-front .ensures)
       ∙ sym
       (rear-decides (found start) (some-part (rear .before .before)) (shown (rear .before))
       (waits rear (not-false _ (c .before .before .before .if4 .left))))
@@ -215,7 +215,7 @@ module _ (t : ℕ) where
         other =
             λ h.
             c .is-suspended .ensures
-            ∙ ap (λ (f : Front). suspended (left (args .program .now) (f .child) (partIn f (args .state .now))) (args .values .now)) (other (c .before .before));
+            ∙ ap (λ (f : Front). suspended (residualOf (args .program .now) (f .child) (partIn f (args .state .now))) (args .values .now)) (other (c .before .before));
       }
 
 pub +is-suspended+rear-waits-spec : {M : Type 1} → statement M

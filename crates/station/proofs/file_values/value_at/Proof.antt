@@ -7,8 +7,8 @@ use borrow.Author.Needs.{needs}
 use Rattle.station.proofs.file_values.value_at.Statement.{statement}
 use Rattle.station.proofs.file_values.value_at.Tie as tie
 
-word-at-requires : tie.Need-word-at-requires
-word-at-requires c κs = search needs
+long-word-at-requires : tie.Need-long-word-at-requires
+long-word-at-requires c κs = search needs
 
 value-of-word-requires : tie.Need-value-of-word-requires
 value-of-word-requires c κs = search needs
@@ -17,7 +17,7 @@ returns : tie.Need-returns
 returns c =
     toZ-ofZ {w = w32} (record { sfits = c .value-of-word .ok })
     ∙ c .value-of-word .ensures
-    ∙ ap (toZ w32) (c .before .word-at .ensures)
+    ∙ ap (toZ w32) (c .before .long-word-at .ensures)
 
 pub value-at-spec : {M : Type 1} → statement M
-value-at-spec = tie.close (tie.spec word-at-requires value-of-word-requires returns)
+value-at-spec = tie.close (tie.spec long-word-at-requires value-of-word-requires returns)

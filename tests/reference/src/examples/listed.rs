@@ -3,7 +3,7 @@
 use super::script::*;
 use super::{finished, log_full, spent, Example, H, L, LOW_HIGH};
 
-const PEGS: &str = "01, peg list";
+const LIST: &str = "01, peg list";
 const CALLS: &str = "01, 'Calls'";
 const BLUNDERS: &str = "01, blunders seen at the desk";
 
@@ -33,13 +33,13 @@ fn low_and_high() -> (Names, Name, Name) {
 fn explicit_and_implicit_flow() -> Vec<Example> {
     let (n, y, x) = low_and_high();
     vec![
-        Example::script("nil", PEGS, Names::new(), nil())
+        Example::script("nil", LIST, Names::new(), nil())
             .accepted(1, 0)
             .run((&[], 1), finished(0, 0), &[], &[]),
-        Example::script("y_L := x_H", PEGS, n.clone(), assign(y, read(x))).refused(11, 0),
+        Example::script("y_L := x_H", LIST, n.clone(), assign(y, read(x))).refused(11, 0),
         Example::script(
             "if x_H then y_L := 0 else nil",
-            PEGS,
+            LIST,
             n,
             if_else(read(x), assign(y, constant(0)), nil()),
         )
@@ -53,7 +53,7 @@ fn signals_and_flow() -> Vec<Example> {
     vec![
         Example::script(
             "(when a_H do nil); emit b_L",
-            PEGS,
+            LIST,
             n.clone(),
             seq(when(a, nil()), emit(b)),
         )
@@ -61,7 +61,7 @@ fn signals_and_flow() -> Vec<Example> {
         // The when fails first: it tests H and writes L.
         Example::script(
             "emit c_L; (do (when a_H do emit b_L) watching c_L)",
-            PEGS,
+            LIST,
             n,
             seq(emit(c), watching(when(a, emit(b)), c)),
         )
@@ -76,7 +76,7 @@ fn loops_and_flow() -> Vec<Example> {
     vec![
         Example::script(
             "(while x_H do nil); y_L := 0",
-            PEGS,
+            LIST,
             n.clone(),
             seq(waits(), clears()),
         )
@@ -84,7 +84,7 @@ fn loops_and_flow() -> Vec<Example> {
         // Steps counted by hand: assign, drop nil, then while for ever or once.
         Example::script(
             "y_L := 0; (while x_H do nil)",
-            PEGS,
+            LIST,
             n.clone(),
             seq(clears(), waits()),
         )
@@ -93,7 +93,7 @@ fn loops_and_flow() -> Vec<Example> {
         .run((&[5, 1], 10), spent(10, 0), &[[1, 0, 0, 0]], &[0, 1]),
         Example::script(
             "y_L := 0 parallel (if x_H then nil else nil)",
-            PEGS,
+            LIST,
             n,
             par(clears(), if_else(read(x), nil(), nil())),
         )
@@ -107,12 +107,12 @@ fn suspension() -> Vec<Example> {
     let mut m = Names::new();
     let (c, x) = (m.signal(L), m.register(L));
     vec![
-        Example::script("when b do nil", PEGS, n.clone(), when(b, nil()))
+        Example::script("when b do nil", LIST, n.clone(), when(b, nil()))
             .accepted(1, 0)
             .run((&[0, 0], 3), spent(3, 3), &[], &[0, 0]),
         Example::script(
             "(when b do nil) watching a",
-            PEGS,
+            LIST,
             n,
             watching(when(b, nil()), a),
         )
@@ -121,7 +121,7 @@ fn suspension() -> Vec<Example> {
         // Names: a is 0, x is 1.
         Example::script(
             "(when a do x := 1) parallel emit a",
-            PEGS,
+            LIST,
             m,
             par(when(c, assign(x, constant(1))), emit(c)),
         )
@@ -140,7 +140,7 @@ fn values() -> Vec<Example> {
     let one = |name, e, value: i32| {
         let mut n = Names::new();
         let x = n.register(L);
-        Example::script(name, PEGS, n, assign(x, e))
+        Example::script(name, LIST, n, assign(x, e))
             .accepted(0, 0)
             .run(
                 (&[0], 1),
@@ -168,17 +168,17 @@ fn limits() -> Vec<Example> {
     let mut n = Names::new();
     let (x, a) = (n.register(L), n.signal(L));
     vec![
-        Example::script("64 names", PEGS, names(64), nil())
+        Example::script("64 names", LIST, names(64), nil())
             .accepted(1, 0)
             .run((&[3; 64], 1), finished(0, 0), &[], &[3; 64]),
-        Example::script("65 names", PEGS, names(65), nil()).refused(5, 0),
-        Example::script("nil, limit 0", PEGS, Names::new(), nil())
+        Example::script("65 names", LIST, names(65), nil()).refused(5, 0),
+        Example::script("nil, limit 0", LIST, Names::new(), nil())
             .accepted(1, 0)
             .run((&[], 0), finished(0, 0), &[], &[]),
-        Example::script("x := 1, limit 0", PEGS, n.clone(), assign(x, constant(1)))
+        Example::script("x := 1, limit 0", LIST, n.clone(), assign(x, constant(1)))
             .accepted(0, 0)
             .run((&[0, 0], 0), spent(0, 0), &[], &[0, 0]),
-        Example::script("when a do nil, limit 0", PEGS, n, when(a, nil()))
+        Example::script("when a do nil, limit 0", LIST, n, when(a, nil()))
             .accepted(1, 0)
             .run((&[0, 1], 0), spent(0, 0), &[], &[0, 1]),
     ]
