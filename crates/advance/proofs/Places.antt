@@ -17,7 +17,7 @@ use Rattle.instants.proofs.Deciding.{Found, sees, front-part}
 use Rattle.moves.specs.declared.counts.Counts.{Counts}
 use Rattle.moves.specs.declared.counts.Moved.{Moved}
 use Rattle.moves.specs.declared.counts.Moved.the-variants.{Again, Rests}
-use Rattle.moves.specs.Moves.{Running, Path, Comes}
+use Rattle.moves.specs.Moves.{Running, MovePath, Comes}
 use Rattle.moves.specs.Contracts.{CanMove, nodeAt, Makes}
 use Rattle.moves.proofs.Framing.{joined}
 use Rattle.moves.proofs.Advancing.{counted-on, can-on}
@@ -170,7 +170,7 @@ module _ {words : List ℕ} {k : ℕ} {st : List ℕ} {j a b : ℕ} (p : Placed 
 pub record Here
     (limit : ℕ) (begun : Running ℕ) (words : List ℕ) (k : ℕ) (st : List ℕ) (vs : List ℤ) (log : List ℕ) (c : Counts)
     (j a b : ℕ) : Type 0 where
-  pub path : Path (seenBy words) limit (length (begun .log) / 4) begun (nodeAt words k st vs log c)
+  pub path : MovePath (seenBy words) limit (length (begun .log) / 4) begun (nodeAt words k st vs log c)
   pub can : CanMove words k st vs log limit c
   pub logged : length log ≡ length (begun .log)
   pub placed : Placed words k st j a b

@@ -19,7 +19,7 @@ use Rattle.moves.specs.declared.counts.Counts.{Counts}
 use Rattle.moves.specs.declared.counts.Reason.{Reason}
 use Rattle.moves.specs.declared.counts.Reason.the-variants.{Nil, Suspended, Spent, Full}
 use Rattle.moves.specs.declared.counts.Moved.{Moved}
-use Rattle.moves.specs.Moves.{Running, Path, IsSpent, IsFull, Ends, Comes}
+use Rattle.moves.specs.Moves.{Running, MovePath, IsSpent, IsFull, Ends, Comes}
 use Rattle.moves.specs.Contracts.{runningWith, nodeAt}
 use Rattle.moves.proofs.Framing.{open-path, lift, spent-around, full-around}
 use Rattle.moves.proofs.Advancing.{goes-silently, comes-on}
@@ -88,8 +88,8 @@ module _ {words : List ℕ} {k : ℕ} {st : List ℕ} {f : Front} {vs : List ℤ
 
   module _ {seen : ℕ → Bool} {limit room : ℕ} {log log′ : List ℕ} {c d : Counts} {ws : List ℤ}
       (p :
-      Path seen limit room (nodeAt words (f .child) (partIn f st) vs log c) (nodeAt words (f .child) ys ws log′ d)) where
-    pub path-in : Path seen limit room (nodeAt words k st vs log c) (nodeAt words k (reached f st ys) ws log′ d)
+      MovePath seen limit room (nodeAt words (f .child) (partIn f st) vs log c) (nodeAt words (f .child) ys ws log′ d)) where
+    pub path-in : MovePath seen limit room (nodeAt words k st vs log c) (nodeAt words k (reached f st ys) ws log′ d)
     path-in = rw (g .inside .whole, g .inside .after ys l) (lift (g .frame) (g .opened) p)
 
     pub stays-open : Open (g .frame) (residualOf words (f .child) ys) ws
@@ -107,7 +107,7 @@ module _ {words : List ℕ} {k : ℕ} {st : List ℕ} {f : Front} {vs : List ℤ
 
 -- a process whose part in front makes no further move settles
 module _ {seen : ℕ → Bool} {limit room : ℕ} {at : Running ℕ} {p : Proc ℕ} {s : List ℤ} {log : List ℕ} {c : Counts}
-    (path : Path seen limit room at (runningWith p s log c)) where
+    (path : MovePath seen limit room at (runningWith p s log c)) where
   -- the limit or the log stops it, if that is what stopped its part
   abbrev pub StopsAs : Reason → Type 0
   StopsAs Nil = Unit {0}

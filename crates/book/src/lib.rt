@@ -38,7 +38,7 @@ pub fn at_or_below(rows: &[u16; Book::MAX_LEVELS], i: usize, j: usize) -> bool
 }
 
 // A refusal, with the empty book beside it.
-pub fn refused(number: u32, place: usize) -> LoadedBook
+pub fn refused_book(number: u32, place: usize) -> LoadedBook
     requires { ⌜ place ≤ mostLevels * mostLevels ⌝ }
     ensures { λ r. ⌜ r ≡ answer (refusedBy number place) noBook ⌝ }
 {

@@ -21,7 +21,7 @@ pub struct Prepared {
     pub test: usize,
 }
 
-fn refused(refusal: Refusal) -> Prepared
+fn refused_with(refusal: Refusal) -> Prepared
     ensures { λ r. ⌜ r ≡ refusedWith refusal ⌝ }
 {
     Prepared {
@@ -47,7 +47,7 @@ fn with_flow(book: Book, script: Script, write: usize, test: usize, failing: usi
     ensures { λ r. ⌜ r ≡ withFlow book script write test failing ⌝ }
 {
     if failing < script.nodes {
-        return refused(Refusal {
+        return refused_with(Refusal {
             number: 11,
             place: failing as u32,
         });
@@ -71,7 +71,7 @@ fn prepare_script(s: &[u8], book: Book, join: PairTable, meet: PairTable) -> Pre
 {
     let read = script::load(s, book.count);
     if read.refusal.number != 0 {
-        return refused(read.refusal);
+        return refused_with(read.refusal);
     }
     let found = flow::find_flow(s, read.script, book, join, meet);
     with_flow(book, read.script, found.write, found.test, found.failing)
@@ -83,14 +83,14 @@ pub fn prepare(b: &[u8], s: &[u8]) -> Prepared
 {
     let read = order::load(b);
     if read.refusal.number != 0 {
-        return refused(read.refusal);
+        return refused_with(read.refusal);
     }
     let mut join = [[0u8; Book::MAX_LEVELS]; Book::MAX_LEVELS];
     let mut meet = [[0u8; Book::MAX_LEVELS]; Book::MAX_LEVELS];
     let place = pairs::first_lacking(read.book, &mut join, &mut meet);
     let lack = pairs::lack_refusal(place);
     if lack.number != 0 {
-        return refused(lack);
+        return refused_with(lack);
     }
     prepare_script(s, read.book, join, meet)
 }

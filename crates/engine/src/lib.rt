@@ -6,7 +6,7 @@ use layout::Script;
 use moves::counts::Counts;
 use results::RunResult;
 use results::Verdict;
-use results::refused;
+use results::refused_result;
 use results::report_of;
 use runner::Ran;
 ghost use mathlib.Core.Path.{_≡_};
@@ -69,11 +69,11 @@ pub fn run(
 {
     let p = checker::prepare(book, script);
     if p.refusal.number != 0 {
-        return refused(p.refusal);
+        return refused_result(p.refusal);
     }
     let refusal = arguments::call_refusal(script, p.script, p.book.count, reader, values, limit);
     if refusal.number != 0 {
-        return refused(refusal);
+        return refused_result(refusal);
     }
     let r = run_checked(
         script,

@@ -15,7 +15,7 @@ use Rattle.moves.specs.declared.counts.Counts.{Counts}
 use Rattle.moves.specs.declared.counts.Reason.the-variants.{Nil}
 use Rattle.moves.specs.declared.counts.Moved.{Moved}
 use Rattle.moves.specs.declared.counts.Moved.the-variants.{Again, Rests}
-use Rattle.moves.specs.Moves.{Running, system, logAfter, linesAfter, hasRoom, nextLine, moved, Silent, Path, stays, moves, Goes, Stops, Comes, IsFull}
+use Rattle.moves.specs.Moves.{Running, system, logAfter, linesAfter, hasRoom, nextLine, moved, Silent, MovePath, stays, moves, Goes, Stops, Comes, IsFull}
 use Rattle.moves.specs.Contracts.{Counted, CanMove, Writes, runningWith}
 use Rattle.moves.proofs.Framing.{joined, silently, silent-move}
 
@@ -25,22 +25,22 @@ lines-fit room (some l) n h e = ltb-true n room e
 
 -- what moves do to the counts
 module _ {seen : ℕ → Bool} {limit room : ℕ} where
-  pub path-later : {at to : Running ℕ} → Path seen limit room at to → at .steps ≤ to .steps
+  pub path-later : {at to : Running ℕ} → MovePath seen limit room at to → at .steps ≤ to .steps
   unfolding moved
   path-later {at} stays = le-refl (at .steps)
   path-later (moves r p) = omega (arith, path-later p)
 
-  pub path-time : {at to : Running ℕ} → Path seen limit room at to → at .steps ≤ limit → to .steps ≤ limit
+  pub path-time : {at to : Running ℕ} → MovePath seen limit room at to → at .steps ≤ limit → to .steps ≤ limit
   unfolding moved
   path-time stays h = h
   path-time (moves r p) h = path-time p (r .time)
 
-  path-space : {at to : Running ℕ} → Path seen limit room at to → at .lines ≤ room → to .lines ≤ room
+  path-space : {at to : Running ℕ} → MovePath seen limit room at to → at .lines ≤ room → to .lines ≤ room
   unfolding moved
   path-space stays h = h
   path-space {at} (moves r p) h = path-space p (lines-fit room (nextLine seen at) (at .lines) h (r .space))
 
-  path-instants : {at to : Running ℕ} → Path seen limit room at to → to .instants ≡ at .instants
+  path-instants : {at to : Running ℕ} → MovePath seen limit room at to → to .instants ≡ at .instants
   unfolding moved
   path-instants stays = refl
   path-instants (moves r p) = path-instants p
@@ -48,7 +48,7 @@ module _ {seen : ℕ → Bool} {limit room : ℕ} where
 -- what is counted stays within the limits
 pub counted-on :
     {seen : ℕ → Bool} {limit n : ℕ} {p p′ : Proc ℕ} {vs vs′ : List ℤ} {log log′ : List ℕ} {c d : Counts} →
-    Path seen limit (n / 4) (runningWith p vs log c) (runningWith p′ vs′ log′ d) → Counted limit log c →
+    MovePath seen limit (n / 4) (runningWith p vs log c) (runningWith p′ vs′ log′ d) → Counted limit log c →
     length log ≡ n → length log′ ≡ length log → Counted limit log′ d
 counted-on path c e l =
     record {
@@ -72,7 +72,7 @@ can-on c b v d =
 module _ {seen : ℕ → Bool} {limit room : ℕ} where
   -- moves, and then what comes of them
   pub comes-on :
-      {at mid : Running ℕ} (to : Counts → Running ℕ) (m : Moved) → Path seen limit room at mid →
+      {at mid : Running ℕ} (to : Counts → Running ℕ) (m : Moved) → MovePath seen limit room at mid →
       Comes seen limit room mid to m → Comes seen limit room at to m
   comes-on to (Again c) p g = record { path = joined p (g .path); some = omega (arith, path-later p, g .some) }
   comes-on to (Rests why c) p g = record { path = joined p (g .path); ends = g .ends }
@@ -98,7 +98,7 @@ module _ (seen : ℕ → Bool) (limit room : ℕ) (at : Running ℕ) {x : ℕ} {
   -- its line is written
   module _ (e : hasRoom room line (at .lines) ≡ true) where
     written-path :
-        Path seen limit room at
+        MovePath seen limit room at
         (record {
           process = nil;
           values = set (at .values) x v;
@@ -109,7 +109,7 @@ module _ (seen : ℕ → Bool) (limit room : ℕ) (at : Running ℕ) {x : ℕ} {
         })
     unfolding moved
     written-path =
-        subst (Path seen limit room at) (rw (w .process, w .values, w .line seen (system at)))
+        subst (MovePath seen limit room at) (rw (w .process, w .values, w .line seen (system at)))
         (moves (record { live = w .live; time = t; space = same-room e }) stays)
 
     pub stops-written :

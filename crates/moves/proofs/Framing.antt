@@ -16,7 +16,7 @@ use Rattle.language.specs.Steps.{present, test, value, StepResult, inside, susp
 use Rattle.language.specs.Calls.{calledFor}
 use Rattle.language.specs.Shapes.{leavesAlone}
 use Rattle.language.specs.Frames.{Frame, alone, beforeThe, watchedBy, guardedBy, besideThe, around, Open}
-use Rattle.moves.specs.Moves.{Running, withProcess, nextLine, hasRoom, moved, Live, Silent, Path, stays, moves, IsSpent, IsFull}
+use Rattle.moves.specs.Moves.{Running, withProcess, nextLine, hasRoom, moved, Live, Silent, MovePath, stays, moves, IsSpent, IsFull}
 
 parts : (b c : Bool) → (b && c) ≡ true → (b ≡ true) × (c ≡ true)
 parts b c h = (and-left b c h, and-right b c h)
@@ -160,20 +160,20 @@ module _ {L : Type 0} (seen : ℕ → Bool) (F : Frame L) (at : Running L) (l : 
 module _ {L : Type 0} {seen : ℕ → Bool} {limit room : ℕ} where
   pub joined :
       {at mid to : Running L} →
-      Path seen limit room at mid → Path seen limit room mid to → Path seen limit room at to
+      MovePath seen limit room at mid → MovePath seen limit room mid to → MovePath seen limit room at to
   joined stays q = q
   joined (moves r p) q = moves r (joined p q)
 
   pub open-path :
-      (F : Frame L) {at to : Running L} → Open F (at .process) (at .values) → Path seen limit room at to →
+      (F : Frame L) {at to : Running L} → Open F (at .process) (at .values) → MovePath seen limit room at to →
       Open F (to .process) (to .values)
   unfolding moved
   open-path F o stays = o
   open-path F {at} o (moves r p) = open-path F (open-moves F (at .process) (at .values) o) p
 
   pub lift :
-      (F : Frame L) {at to : Running L} → Open F (at .process) (at .values) → Path seen limit room at to →
-      Path seen limit room (framed F at) (framed F to)
+      (F : Frame L) {at to : Running L} → Open F (at .process) (at .values) → MovePath seen limit room at to →
+      MovePath seen limit room (framed F at) (framed F to)
   unfolding moved
   lift F o stays = stays
   lift F {at} {to} o (moves r p) =
@@ -185,7 +185,7 @@ module _ {L : Type 0} {seen : ℕ → Bool} {limit room : ℕ} where
         space = rw (line-around seen F at (r .live)) (r .space);
       })
       (subst
-      (λ z. Path seen limit room z (framed F to))
+      (λ z. MovePath seen limit room z (framed F to))
       (sym (moved-around seen F at (r .live)))
       (lift F (open-moves F (at .process) (at .values) o) p))
 
@@ -223,11 +223,11 @@ silent-space seen room at e m = rw (e, m .1)
 pub silent-move :
     {L : Type 0} {seen : ℕ → Bool} {limit room : ℕ} {at : Running L} {p p′ : Proc L} {s′ : List ℤ} →
     at .process ≡ p → Silent p (at .values) p′ s′ → at .steps < limit →
-    Path seen limit room at (silently p′ s′ at)
+    MovePath seen limit room at (silently p′ s′ at)
 unfolding moved calledFor
 silent-move {seen = seen} {limit = limit} {room = room} {at = at} {p′ = p′} {s′ = s′} e m t =
     let same : silently p′ s′ at ≡ moved seen at = rw (e, m .1) in
     moves
     {at = at}
     (record { live = rw e (m .0); time = t; space = silent-space seen room at e m })
-    (subst (λ z. Path seen limit room z (silently p′ s′ at)) same stays)
+    (subst (λ z. MovePath seen limit room z (silently p′ s′ at)) same stays)

@@ -113,9 +113,9 @@ module _ {L : Type 0} (seen : ℕ → Bool) (limit room : ℕ) where
     pub space : hasRoom room (nextLine seen at) (at .lines) ≡ true
 
   -- any number of moves
-  pub data Path : Running L → Running L → Type 0 where
-    stays : {at : Running L} → Path at at
-    moves : {at to : Running L} → Ready at → Path (moved seen at) to → Path at to
+  pub data MovePath : Running L → Running L → Type 0 where
+    stays : {at : Running L} → MovePath at at
+    moves : {at to : Running L} → Ready at → MovePath (moved seen at) to → MovePath at to
 
   -- the limit is reached; the line of the next move has no room
   pub record IsSpent (at : Running L) : Type 0 where
@@ -136,12 +136,12 @@ module _ {L : Type 0} (seen : ℕ → Bool) (limit room : ℕ) where
 
   -- moves have been made, at least one
   pub record Goes (at to : Running L) : Type 0 where
-    pub path : Path at to
+    pub path : MovePath at to
     pub some : at .steps < to .steps
 
   -- moves have been made, as many as there are
   pub record Stops (at to : Running L) (why : Reason) : Type 0 where
-    pub path : Path at to
+    pub path : MovePath at to
     pub ends : Ends to why
 
   -- what has become of `at`, by what is counted then

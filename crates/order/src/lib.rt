@@ -5,7 +5,7 @@ pub mod converse; // converse.rt: the order upside down
 use book::Book;
 use book::LoadedBook;
 use book::read;
-use book::refused;
+use book::refused_book;
 use prelude::Refusal;
 ghost use mathlib.Core.Path.{_≡_};
 ghost use Rattle.prelude.specs.Refusals.{notRefused};
@@ -29,12 +29,12 @@ pub fn load(s: &[u8]) -> LoadedBook
     ensures { λ r. ⌜ r ≡ loaded (now (s .entry)) ⌝ }
 {
     if !read::size_is_right(s) {
-        return refused(1, 0);
+        return refused_book(1, 0);
     }
     let b = read::read_book(s);
     let faulty = disorder::first_faulty(b);
     if faulty < b.count {
-        return refused(2, faulty);
+        return refused_book(2, faulty);
     }
     accepted(b)
 }

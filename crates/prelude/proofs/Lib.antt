@@ -6,5 +6,5 @@ pub mod Tables
 pub mod Sets
 pub mod Courses
 pub mod Each
-pub mod Sums
+pub mod Totals
 pub mod Refusing

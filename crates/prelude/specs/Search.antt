@@ -27,9 +27,9 @@ count f zero = 0
 count f (suc n) = cond (f n) (suc (count f n)) (count f n)
 
 -- f 0 + .. + f (n - 1)
-unfoldable pub sum : (ℕ → ℕ) → ℕ → ℕ
-sum f zero = 0
-sum f (suc n) = sum f n + f n
+unfoldable pub total : (ℕ → ℕ) → ℕ → ℕ
+total f zero = 0
+total f (suc n) = total f n + f n
 
 -- the lesser of two numbers
 abbrev pub lesser : ℕ → ℕ → ℕ

@@ -99,7 +99,7 @@ pub fn form_at(program: &[usize; WORDS], k: usize, tag: u8) -> u8
     if OVER <= tag {
         return NOTHING;
     }
-    packing::form_in(crate::word_at(program, k), prelude::wide(tag)) as u8
+    packing::form_in(crate::node_at(program, k), prelude::wide(tag)) as u8
 }
 
 // Where the bytes of the second part begin, of a node with word w.
@@ -123,7 +123,7 @@ pub fn find_front(program: &[usize; WORDS], k: usize, tag: u8, len: usize) -> Fr
             to: 0,
         };
     }
-    let w = crate::word_at(program, k);
+    let w = crate::node_at(program, k);
     let middle = middle_in(w);
     if form == SECOND || form == TURNED {
         return Front {
@@ -146,7 +146,7 @@ pub fn find_rear(program: &[usize; WORDS], k: usize, len: usize, form: u8) -> Fr
     requires { ⌜ k < mostNodes ⌝ }
     ensures { λ r. ⌜ r ≡ rearOf (now (program .entry)) k form len ⌝ }
 {
-    let w = crate::word_at(program, k);
+    let w = crate::node_at(program, k);
     let middle = middle_in(w);
     if form == BESIDE {
         return Front {

@@ -59,7 +59,7 @@ pub fn expression_at(program: &[usize; WORDS], e: usize) -> usize
 }
 
 // The word of node k, and what it tells.
-pub fn word_at(program: &[usize; WORDS], k: usize) -> usize
+pub fn node_at(program: &[usize; WORDS], k: usize) -> usize
     requires { ⌜ k < mostNodes ⌝ }
     ensures { λ r. ⌜ r ≡ nodeWord (now (program .entry)) k ⌝ }
 {
@@ -70,21 +70,21 @@ pub fn kind_at(program: &[usize; WORDS], k: usize) -> usize
     requires { ⌜ k < mostNodes ⌝ }
     ensures { λ r. ⌜ r ≡ kindAt (now (program .entry)) k ⌝ }
 {
-    packing::node_kind_in(word_at(program, k))
+    packing::node_kind_in(node_at(program, k))
 }
 
 pub fn a_at(program: &[usize; WORDS], k: usize) -> usize
     requires { ⌜ k < mostNodes ⌝ }
     ensures { λ r. ⌜ r ≡ aAt (now (program .entry)) k ⌝ }
 {
-    packing::a_in(word_at(program, k))
+    packing::a_in(node_at(program, k))
 }
 
 pub fn b_at(program: &[usize; WORDS], k: usize) -> usize
     requires { ⌜ k < mostNodes ⌝ }
     ensures { λ r. ⌜ r ≡ bAt (now (program .entry)) k ⌝ }
 {
-    packing::b_in(word_at(program, k))
+    packing::b_in(node_at(program, k))
 }
 
 // Whether a watching stands in node k.

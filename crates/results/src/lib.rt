@@ -24,7 +24,7 @@ pub struct RunResult {
     pub lines: u32,
 }
 
-pub fn refused(r: Refusal) -> RunResult
+pub fn refused_result(r: Refusal) -> RunResult
     ensures { λ a. ⌜ a ≡ refusedReport r ⌝ }
 {
     RunResult {

@@ -13,7 +13,7 @@ use borrow.Author.Tests.{ltb-true, ltb-false}
 use Rattle.language.specs.Syntax.{Names, isNil}
 use Rattle.language.specs.Steps.{StepResult as Left, leaves, suspended, move, change, instantStart, step}
 use Rattle.language.specs.Calls.{Line, Ending, finished, spent, logFull, Stop, calledFor, halts, noted, reach, words}
-use Rattle.moves.specs.Moves.{Running, system, putLine, logAfter, linesAfter, hasRoom, nextLine, moved, changed, Live, Path, stays, moves}
+use Rattle.moves.specs.Moves.{Running, system, putLine, logAfter, linesAfter, hasRoom, nextLine, moved, changed, Live, MovePath, stays, moves}
 use Rattle.runner.specs.Outcome.{Outcome, written, recorded, outcome, stopped}
 use Rattle.moves.proofs.Framing.{waits-some}
 use Rattle.language.proofs.Stopping.{reach-onward}
@@ -123,7 +123,7 @@ module _ {L : Type 0} (names : Names L) (seen : ℕ → Bool) (limit room : ℕ)
 
 pub outcome-moves :
     {L : Type 0} (names : Names L) {seen : ℕ → Bool} {limit room : ℕ} {at to : Running L} →
-    Path seen limit room at to → outcome names seen limit room to ≡ outcome names seen limit room at
+    MovePath seen limit room at to → outcome names seen limit room to ≡ outcome names seen limit room at
 outcome-moves names stays = refl
 outcome-moves names {seen = seen} {limit = limit} {room = room} {at = at} (moves r p) =
     outcome-moves names p ∙ outcome-move names seen limit room at (r .live) (r .time) (r .space)

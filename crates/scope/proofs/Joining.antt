@@ -8,7 +8,7 @@ use lib.Dec.{eqb, ltb}
 use borrow.Author.Tests.{ltb-true, eqb-true, eq-eqb}
 use Rattle.prelude.proofs.Bools.{and-right}
 use Rattle.prelude.proofs.Counts.{count-found, count-some, count-one}
-use Rattle.prelude.proofs.Sums.{sum-holds, sum-found, sum-one}
+use Rattle.prelude.proofs.Totals.{total-holds, total-found, total-one}
 use Rattle.layout.specs.Layout.{mostParts, expressionCount, partCount}
 use Rattle.fields.specs.declared.Field.{Field}
 use Rattle.fields.specs.Fields.{fieldCount, fieldOf}
@@ -42,7 +42,7 @@ module _ (s : List ℕ) (joined : Joined s) where
     pub user : (p : ℕ) × (f : ℕ) × FieldUses s p f q
     unfolding timesUsed
     user =
-        let r = sum-found (timesIn s q) (partCount s) (omega (arith, joined .once q h)) in
+        let r = total-found (timesIn s q) (partCount s) (omega (arith, joined .once q h)) in
         let t = count-found (λ f. eqb (used s (r .0) f) q) fieldCount (r .2) in
         (r .0, t .0, field-uses (r .0) (t .0) q (r .1) (t .1) (eqb-true (used s (r .0) (t .0)) q (t .2)) few)
 
@@ -55,10 +55,10 @@ module _ (s : List ℕ) (joined : Joined s) where
     unfolding timesUsed
     used-once =
         let once : timesUsed s q ≡ 1 = joined .once q (omega (arith, a .known, a .before)) in
-        let part : p ≡ m = sum-one (timesIn s q) (partCount s) p m once (a .known) (b .known) (times a) (times b) in (
+        let part : p ≡ m = total-one (timesIn s q) (partCount s) p m once (a .known) (b .known) (times a) (times b) in (
           part,
           count-one (λ f. eqb (used s p f) q) fieldCount f g
-              (omega (arith, once, times a, sum-holds (timesIn s q) (partCount s) p (a .known)))
+              (omega (arith, once, times a, total-holds (timesIn s q) (partCount s) p (a .known)))
               (a .inside) (b .inside)
               (eq-eqb _ _ (a .same))
               (eq-eqb _ _ (subst (λ n. used s n g ≡ q) (sym part) (b .same))),

@@ -1,7 +1,7 @@
 -- The example files, computed from the definitions.
 use mathlib.Core.Path.{_≡_, refl}
 use mathlib.Core.Bool.{true}
-use Rattle.prelude.specs.Search.{firstFrom, first, any, all, count, sum}
+use Rattle.prelude.specs.Search.{firstFrom, first, any, all, count, total}
 use Rattle.prelude.specs.Course.{course, entry}
 use Rattle.entries.specs.Faults.{fieldIsRight, faultRefusal}
 use Rattle.uses.specs.Uses.{used, timesUsed, useRefusal}
@@ -10,5 +10,5 @@ use Rattle.script.specs.Refusals.{entryRefusal, refusal}
 use Rattle.script.specs.Examples.{files, allComeOut}
 
 pub examples : allComeOut files ≡ true
-unfolding firstFrom first any all count sum course entry used timesUsed liesIn inBody isOutOfReach fieldIsRight faultRefusal useRefusal reachRefusal entryRefusal refusal
+unfolding firstFrom first any all count total course entry used timesUsed liesIn inBody isOutOfReach fieldIsRight faultRefusal useRefusal reachRefusal entryRefusal refusal
 examples = refl

@@ -1,6 +1,6 @@
 -- The table of examples, computed from the definitions.
 use mathlib.Core.Path.{refl}
-use Rattle.prelude.specs.Search.{firstFrom, first, any, all, count, sum}
+use Rattle.prelude.specs.Search.{firstFrom, first, any, all, count, total}
 use Rattle.prelude.specs.Course.{course, entry}
 use Rattle.prelude.specs.Table.{table}
 use Rattle.order.specs.Order.{leastUpper, top}
@@ -23,5 +23,5 @@ use Rattle.engine.specs.Answers.{verdict, left}
 use Rattle.theorems.specs.Examples.{ExamplesHold}
 
 pub examples-hold : ExamplesHold
-unfolding firstFrom first any all count sum course entry table leastUpper top orders.isFaulty orders.firstFaulty orders.refusal pairs.firstLacking books.refusal clamped quotient isNil expLevel writeLevel testLevel need evaluate value suspended move change instantStart step calledFor givenBack noted reach used timesUsed isOutOfReach fieldIsRight faultRefusal useRefusal reachRefusal scripts.entryRefusal scripts.refusal expressionOf processOf words checkRefusal valuesRefusal callRefusal runRefusal verdict left
+unfolding firstFrom first any all count total course entry table leastUpper top orders.isFaulty orders.firstFaulty orders.refusal pairs.firstLacking books.refusal clamped quotient isNil expLevel writeLevel testLevel need evaluate value suspended move change instantStart step calledFor givenBack noted reach used timesUsed isOutOfReach fieldIsRight faultRefusal useRefusal reachRefusal scripts.entryRefusal scripts.refusal expressionOf processOf words checkRefusal valuesRefusal callRefusal runRefusal verdict left
 examples-hold = refl

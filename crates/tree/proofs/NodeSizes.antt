@@ -11,9 +11,9 @@ use lib.Dec.{eqb, ltb}
 use lib.ListN.{length, set}
 use lib.Seq.{getD-set-same, getD-set-other}
 use borrow.Author.Tests.{lt-ltb, le-ltb, ne-eqb, eqb-true, ltb-true, ltb-false}
-use Rattle.prelude.specs.Search.{sum}
+use Rattle.prelude.specs.Search.{total}
 use Rattle.prelude.proofs.Bools.{and-left, by-cases}
-use Rattle.prelude.proofs.Sums.{sum-none, sum-more, sum-nothing, sum-same, sum-below, sum-both, sum-longer, sum-exchanged, sum-by-value}
+use Rattle.prelude.proofs.Totals.{total-none, total-more, total-nothing, total-same, total-below, total-both, total-longer, total-exchanged, total-by-value}
 use Rattle.prelude.proofs.Counts.{count-none}
 use Rattle.layout.specs.Layout.{mostParts, layoutOf, expressionCount, nodeCount, partCount}
 use Rattle.layout.specs.Entries.{partOf, node}
@@ -46,25 +46,25 @@ module _ (s : List ℕ) (ok : Checked s) where
     rows : (n : ℕ) → partOf s (node s k) .kind ≡ n → (f : ℕ) → addedBy (node s k) f ≡ row n f
     rows n e f = ap (λ r. cond (eqb r child) (nodeSize (valueOf s (node s k) f)) 0) (role s ok k h n e f)
 
-    total : (n : ℕ) → partOf s (node s k) .kind ≡ n → sum (addedBy (node s k)) fieldCount ≡ 0 + row n 0 + row n 1 + row n 2
-    unfolding sum
-    total n e = sum-same (addedBy (node s k)) (row n) fieldCount (λ f l. rows n e f)
+    by-row : (n : ℕ) → partOf s (node s k) .kind ≡ n → total (addedBy (node s k)) fieldCount ≡ 0 + row n 0 + row n 1 + row n 2
+    unfolding total
+    by-row n e = total-same (addedBy (node s k)) (row n) fieldCount (λ f l. rows n e f)
 
-    size-view : NodeView s k → nodeSize k ≡ suc (sum (addedBy (node s k)) fieldCount)
+    size-view : NodeView s k → nodeSize k ≡ suc (total (addedBy (node s k)) fieldCount)
     unfolding size
-    size-view (aNil e q) = ap size q ∙ ap suc (sym (total 0 e))
-    size-view (anAssign e q x y) = ap size q ∙ ap suc (sym (total 1 e))
-    size-view (aLet e q x y p) = ap size q ∙ ap suc (omega arith ∙ sym (total 2 e))
-    size-view (anIf e q y p r) = ap size q ∙ ap suc (omega arith ∙ sym (total 3 e))
-    size-view (aWhile e q y p) = ap size q ∙ ap suc (omega arith ∙ sym (total 4 e))
-    size-view (aSequence e q p r) = ap size q ∙ ap suc (omega arith ∙ sym (total 5 e))
-    size-view (anEmit e q x) = ap size q ∙ ap suc (sym (total 6 e))
-    size-view (aLocal e q x p) = ap size q ∙ ap suc (omega arith ∙ sym (total 7 e))
-    size-view (aWatching e q x p) = ap size q ∙ ap suc (omega arith ∙ sym (total 8 e))
-    size-view (aWhen e q x p) = ap size q ∙ ap suc (omega arith ∙ sym (total 9 e))
-    size-view (aParallel e q p r) = ap size q ∙ ap suc (omega arith ∙ sym (total 10 e))
+    size-view (aNil e q) = ap size q ∙ ap suc (sym (by-row 0 e))
+    size-view (anAssign e q x y) = ap size q ∙ ap suc (sym (by-row 1 e))
+    size-view (aLet e q x y p) = ap size q ∙ ap suc (omega arith ∙ sym (by-row 2 e))
+    size-view (anIf e q y p r) = ap size q ∙ ap suc (omega arith ∙ sym (by-row 3 e))
+    size-view (aWhile e q y p) = ap size q ∙ ap suc (omega arith ∙ sym (by-row 4 e))
+    size-view (aSequence e q p r) = ap size q ∙ ap suc (omega arith ∙ sym (by-row 5 e))
+    size-view (anEmit e q x) = ap size q ∙ ap suc (sym (by-row 6 e))
+    size-view (aLocal e q x p) = ap size q ∙ ap suc (omega arith ∙ sym (by-row 7 e))
+    size-view (aWatching e q x p) = ap size q ∙ ap suc (omega arith ∙ sym (by-row 8 e))
+    size-view (aWhen e q x p) = ap size q ∙ ap suc (omega arith ∙ sym (by-row 9 e))
+    size-view (aParallel e q p r) = ap size q ∙ ap suc (omega arith ∙ sym (by-row 10 e))
 
-    pub size-of : nodeSize k ≡ suc (sum (addedBy (node s k)) fieldCount)
+    pub size-of : nodeSize k ≡ suc (total (addedBy (node s k)) fieldCount)
     size-of = size-view (node-view s ok k h)
 
   abbrev E : ℕ
@@ -123,54 +123,54 @@ module _ (s : List ℕ) (ok : Checked s) where
             (λ _. refl)
 
   -- a part's size: its fields' and, for a node, one more
-  part-size : (q : ℕ) → q < partCount s → partSize q ≡ cond (ltb q E) 0 1 + sum (addedBy q) fieldCount
+  part-size : (q : ℕ) → q < partCount s → partSize q ≡ cond (ltb q E) 0 1 + total (addedBy q) fieldCount
   part-size q h =
       elim (decLt q E) [
         | yes l ↦
             expression-size q l
             ∙ sym
             (ap₂ (λ b n. cond b 0 1 + n) (lt-ltb q E l)
-            (sum-nothing (addedBy q) fieldCount
+            (total-nothing (addedBy q) fieldCount
             (λ f u.
             by-cases (λ n. n ≡ 0) (eqb (fieldOf s q f .role) child)
             (λ t. absurd (omega (arith, child-below q f u h (eqb-true (fieldOf s q f .role) child t)))) (λ _. refl))))
         | no l ↦
             let e : node s (q - E) ≡ q = omega arith in
-            subst (λ p. partSize p ≡ cond (ltb p E) 0 1 + sum (addedBy p) fieldCount) e
+            subst (λ p. partSize p ≡ cond (ltb p E) 0 1 + total (addedBy p) fieldCount) e
             (size-at (q - E) ∙ size-of (q - E) (omega arith) ∙ omega arith
-            ∙ sym (ap (λ b. cond b 0 1 + sum (addedBy (node s (q - E))) fieldCount) (le-ltb (node s (q - E)) E (omega arith))))
+            ∙ sym (ap (λ b. cond b 0 1 + total (addedBy (node s (q - E))) fieldCount) (le-ltb (node s (q - E)) E (omega arith))))
       ]
 
   -- how many of the first n parts are nodes
-  nodes-below : (n : ℕ) → sum (λ q. cond (ltb q E) 0 1) n ≡ n - E
-  nodes-below zero = omega (arith, sum-none (λ q. cond (ltb q E) 0 1))
+  nodes-below : (n : ℕ) → total (λ q. cond (ltb q E) 0 1) n ≡ n - E
+  nodes-below zero = omega (arith, total-none (λ q. cond (ltb q E) 0 1))
   nodes-below (suc n) =
-      sum-more (λ q. cond (ltb q E) 0 1) n
-      ∙ by-cases (λ m. sum (λ q. cond (ltb q E) 0 1) n + m ≡ suc n - E) (ltb n E)
+      total-more (λ q. cond (ltb q E) 0 1) n
+      ∙ by-cases (λ m. total (λ q. cond (ltb q E) 0 1) n + m ≡ suc n - E) (ltb n E)
       (λ t. omega (arith, nodes-below n, ltb-true n E t))
       (λ t. omega (arith, nodes-below n, ltb-false n E t))
 
   -- how often the first n parts use part q
   abbrev times : ℕ → ℕ → ℕ
-  times n q = sum (timesIn s q) n
+  times n q = total (timesIn s q) n
 
-  total-size : (n : ℕ) → n ≤ partCount s → sum partSize n ≡ n - E + sum (λ q. times n q * partSize q) n
+  total-size : (n : ℕ) → n ≤ partCount s → total partSize n ≡ n - E + total (λ q. times n q * partSize q) n
   total-size n h =
-      sum-same partSize (λ q. cond (ltb q E) 0 1 + sum (addedBy q) fieldCount) n (λ q l. part-size q (omega arith))
-      ∙ sum-both (λ q. cond (ltb q E) 0 1) (λ q. sum (addedBy q) fieldCount) n
+      total-same partSize (λ q. cond (ltb q E) 0 1 + total (addedBy q) fieldCount) n (λ q l. part-size q (omega arith))
+      ∙ total-both (λ q. cond (ltb q E) 0 1) (λ q. total (addedBy q) fieldCount) n
       ∙ ap₂ (λ a b. a + b) (nodes-below n)
-      (sum-same (λ q. sum (addedBy q) fieldCount) (λ p. sum (λ q. timesIn s q p * partSize q) n) n
+      (total-same (λ q. total (addedBy q) fieldCount) (λ p. total (λ q. timesIn s q p * partSize q) n) n
       (λ p l.
-      sum-same (addedBy p) (λ f. weight n (used s p f)) fieldCount
+      total-same (addedBy p) (λ f. weight n (used s p f)) fieldCount
       (λ f u. added-used p f u (omega arith) n l h)
-      ∙ sum-by-value (used s p) partSize fieldCount n)
-      ∙ sum-exchanged (λ p q. timesIn s q p) partSize n n)
+      ∙ total-by-value (used s p) partSize fieldCount n)
+      ∙ total-exchanged (λ p q. timesIn s q p) partSize n n)
 
   module _ (m : ℕ) (h : m < partCount s) where
     -- no part before uses a part
     not-used : times (suc m) m ≡ 0
     not-used =
-        sum-nothing (timesIn s m) (suc m)
+        total-nothing (timesIn s m) (suc m)
         (λ p l.
         count-none (λ f. eqb (used s p f) m) fieldCount
         (λ f u.
@@ -180,21 +180,21 @@ module _ (s : List ℕ) (ok : Checked s) where
     used-times : (q : ℕ) → q < m → times (suc m) q ≤ 1
     unfolding timesUsed
     used-times q l =
-        le-trans (sum-longer (timesIn s q) (suc m) (partCount s) h) (le-of-eq (ok .joined .once q (omega arith)))
+        le-trans (total-longer (timesIn s q) (suc m) (partCount s) h) (le-of-eq (ok .joined .once q (omega arith)))
 
-    up-to : sum (λ q. times (suc m) q * partSize q) (suc m) ≡ sum (λ q. times (suc m) q * partSize q) m
+    up-to : total (λ q. times (suc m) q * partSize q) (suc m) ≡ total (λ q. times (suc m) q * partSize q) m
     up-to =
-        sum-more (λ q. times (suc m) q * partSize q) m
-        ∙ rw not-used (ap (λ n. sum (λ q. times (suc m) q * partSize q) m + n) (zero-mul (partSize m)) ∙ add-zero _)
+        total-more (λ q. times (suc m) q * partSize q) m
+        ∙ rw not-used (ap (λ n. total (λ q. times (suc m) q * partSize q) m + n) (zero-mul (partSize m)) ∙ add-zero _)
 
     part-within : partSize m ≤ suc m - E
     part-within =
         omega (
           arith,
-          sum-more partSize m,
+          total-more partSize m,
           total-size (suc m) h,
           up-to,
-          sum-below (λ q. times (suc m) q * partSize q) partSize m
+          total-below (λ q. times (suc m) q * partSize q) partSize m
               (λ q l. le-trans (mul-le-mul-right (partSize q) (used-times q l)) (le-of-eq (one-mul (partSize q)))),
         )
 
@@ -203,12 +203,12 @@ module _ (s : List ℕ) (ok : Checked s) where
     last-part e =
         omega (
           arith,
-          sum-more partSize m,
+          total-more partSize m,
           total-size (suc m) h,
           up-to,
-          sum-same (λ q. times (suc m) q * partSize q) partSize m
+          total-same (λ q. times (suc m) q * partSize q) partSize m
               (λ q l.
-              ap (λ n. n * partSize q) (ap (sum (timesIn s q)) e ∙ ok .joined .once q (omega arith)) ∙ one-mul (partSize q)),
+              ap (λ n. n * partSize q) (ap (total (timesIn s q)) e ∙ ok .joined .once q (omega arith)) ∙ one-mul (partSize q)),
         )
 
   pub size-within : (k : ℕ) → k < nodeCount s → nodeSize k ≤ suc k
@@ -234,10 +234,10 @@ module _ (s : List ℕ) (ok : Checked s) where
     child-size-is n t e =
         e ∙ sym (ap (λ b. cond b (nodeSize (x .value)) 0) t) ∙ ap (childSize s) same
 
-  -- the sum of a node's fields so far is within its size
-  pub sum-within : (k f : ℕ) → k < nodeCount s → f ≤ fieldCount → suc (sum (addedBy (node s k)) f) ≤ nodeSize k
-  sum-within k f h l =
-      le-trans (suc-le-suc (sum-longer (addedBy (node s k)) f fieldCount l)) (le-of-eq (sym (size-of k h)))
+  -- the total of a node's fields so far is within its size
+  pub total-within : (k f : ℕ) → k < nodeCount s → f ≤ fieldCount → suc (total (addedBy (node s k)) f) ≤ nodeSize k
+  total-within k f h l =
+      le-trans (suc-le-suc (total-longer (addedBy (node s k)) f fieldCount l)) (le-of-eq (sym (size-of k h)))
 
 -- a loop that fills the table of sizes: one more
 pub keeps-more :

@@ -8,7 +8,7 @@ use native.Mathlib.Omega.{arith}
 use lib.Dec.{eqb}
 use lib.ListN.{replicate, getD-replicate}
 use borrow.Author.Tests.{eqb-true}
-use Rattle.prelude.specs.Search.{count, sum}
+use Rattle.prelude.specs.Search.{count, total}
 use Rattle.prelude.proofs.Bools.{by-cases}
 use Rattle.prelude.proofs.Counts.{count-within}
 use Rattle.layout.specs.Layout.{mostParts, expressionCount, partCount}
@@ -23,25 +23,25 @@ module _ (s : List ℕ) where
   unfolding used
   used-of p f = refl
 
-  pub times-within : (q n : ℕ) → sum (timesIn s q) n ≤ fieldCount * n
-  unfolding sum
+  pub times-within : (q n : ℕ) → total (timesIn s q) n ≤ fieldCount * n
+  unfolding total
   times-within q zero = omega arith
   times-within q (suc n) = omega (arith, times-within q n, count-within (λ f. eqb (used s n f) q) fieldCount)
 
   -- before the first field, and past the last field of a part
   pub times-none : KeepsTimesTo s 0 0 (replicate mostParts 0)
-  unfolding sum count
+  unfolding total count
   times-none = (refl, λ q h. getD-replicate mostParts q 0 0 h)
 
   pub times-part : (p : ℕ) (times : List ℕ) → KeepsTimesTo s p fieldCount times → KeepsTimesTo s (p + 1) 0 times
-  unfolding sum count
+  unfolding total count
   times-part p times keeps =
-      (keeps .0, λ q h. keeps .1 q h ∙ sym (add-zero _ ∙ ap (sum (timesIn s q)) (add-one p)))
+      (keeps .0, λ q h. keeps .1 q h ∙ sym (add-zero _ ∙ ap (total (timesIn s q)) (add-one p)))
 
   -- past the last part
   pub times-all : (p : ℕ) (times : List ℕ) → p ≡ partCount s → KeepsTimesTo s p 0 times → KeepsTimes s times
   unfolding timesUsed count
-  times-all p times all keeps q h = keeps .1 q h ∙ add-zero _ ∙ ap (sum (timesIn s q)) all
+  times-all p times all keeps q h = keeps .1 q h ∙ add-zero _ ∙ ap (total (timesIn s q)) all
 
 pub used-expression : (n : ℕ) (x : Field) → x .role ≡ expression → usedBy n x ≡ x .value
 used-expression n x e = rw e

@@ -4,7 +4,7 @@ use mathlib.Core.List.{List}
 use Prim.Native.Nat.{ℕ, _+_, _<_}
 use lib.Dec.{eqb}
 use lib.ListN.{getD, length}
-use Rattle.prelude.specs.Search.{count, sum}
+use Rattle.prelude.specs.Search.{count, total}
 use Rattle.layout.specs.Layout.{mostParts}
 use Rattle.uses.specs.Uses.{used, timesIn, timesUsed}
 
@@ -16,4 +16,4 @@ KeepsTimes s times = (q : ℕ) → q < mostParts → getD times q 0 ≡ timesUse
 abbrev pub KeepsTimesTo : List ℕ → ℕ → ℕ → List ℕ → Type 0
 KeepsTimesTo s p f times =
     (length times ≡ mostParts)
-    × ((q : ℕ) → q < mostParts → getD times q 0 ≡ sum (timesIn s q) p + count (λ g. eqb (used s p g) q) f)
+    × ((q : ℕ) → q < mostParts → getD times q 0 ≡ total (timesIn s q) p + count (λ g. eqb (used s p g) q) f)

@@ -4,7 +4,7 @@ use mathlib.Core.List.{List}
 use Prim.Native.Nat.{ℕ, _+_, _-_}
 use lib.Dec.{eqb}
 use Rattle.prelude.specs.declared.Refusal.{Refusal}
-use Rattle.prelude.specs.Search.{count, sum}
+use Rattle.prelude.specs.Search.{count, total}
 use Rattle.layout.specs.Layout.{mostParts, expressionCount, partCount}
 use Rattle.layout.specs.Places.{atFirstPart}
 use Rattle.fields.specs.declared.Field.{Field}
@@ -28,7 +28,7 @@ timesIn s q p = count (λ f. eqb (used s p f) q) fieldCount
 
 -- how often all parts together use part q
 unfoldable pub timesUsed : List ℕ → ℕ → ℕ
-timesUsed s q = sum (timesIn s q) (partCount s)
+timesUsed s q = total (timesIn s q) (partCount s)
 
 abbrev pub isLoose : List ℕ → ℕ → Bool
 isLoose s q = not (eqb (timesUsed s q) 1)

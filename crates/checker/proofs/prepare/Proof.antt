@@ -19,15 +19,15 @@ use Rattle.checker.proofs.prepare.Tie as tie
 load-requires : tie.Need-load-requires
 load-requires c κs = tt
 
-refused-requires : tie.Need-refused-requires
-refused-requires c κs = tt
+refused-with-requires : tie.Need-refused-with-requires
+refused-with-requires c κs = tt
 
 -- refusal 1 or 2
 returns : tie.Need-returns
 returns c =
     let read = c .before .before .before in
     let some = c .before .if1 .taken in
-    subst (Prepares _ _ _ _) (sym (c .refused .ensures))
+    subst (Prepares _ _ _ _) (sym (c .refused-with .ensures))
     (refused-by (by-book _ _ (order-refused _ _ (read .load .ensures) some) (ne-eqb _ 0 some)) (ne-eqb _ 0 some))
 
 -- the book that is read, in order
@@ -51,15 +51,15 @@ lack-is c =
     c .lack-refusal .ensures
     ∙ pairs-refused _ _ (read-at m .load .ensures) (m .before .before .if1 .left) (c .before .first-lacking .ensures)
 
-refused-requires-2 : tie.Need-refused-requires-2
-refused-requires-2 c κs = tt
+refused-with-requires-2 : tie.Need-refused-with-requires-2
+refused-with-requires-2 c κs = tt
 
 -- refusal 3
 returns-2 : tie.Need-returns-2
 returns-2 c =
     let lack = c .before .before .before in
     let some = ne-eqb _ 0 (c .before .if2 .taken) in
-    subst (Prepares _ _ _ _) (sym (c .refused2 .ensures)) (refused-by (by-book _ _ (lack-is lack) some) some)
+    subst (Prepares _ _ _ _) (sym (c .refused-with2 .ensures)) (refused-by (by-book _ _ (lack-is lack) some) some)
 
 -- the book passes
 right : (c : tie.Else2) → books.isAccepted (now (read-at (c .before .before .before .before) .before .before .before .args .b)) ≡ true
@@ -94,4 +94,4 @@ returns-3 c =
 pub prepare-spec : {M : Type 1} → statement M
 prepare-spec =
     tie.close
-    (tie.spec load-requires refused-requires returns first-lacking-requires lack-refusal-requires refused-requires-2 returns-2 prepare-script-requires returns-3)
+    (tie.spec load-requires refused-with-requires returns first-lacking-requires lack-refusal-requires refused-with-requires-2 returns-2 prepare-script-requires returns-3)

@@ -37,13 +37,13 @@ script-checked c = loaded-checked _ _ (c .before .before .load .result) (c .befo
 load-requires : tie.Need-load-requires
 load-requires c κs = tt
 
-refused-requires : tie.Need-refused-requires
-refused-requires c κs = tt
+refused-with-requires : tie.Need-refused-with-requires
+refused-with-requires c κs = tt
 
 returns : tie.Need-returns
 returns c =
     let f = ne-eqb _ 0 (c .before .if1 .taken) in
-    subst (Prepares _ _ _ _) (sym (c .refused .ensures)) (refused-by (by-script _ _ _ (script-refusal ((c .before .before .before))) f) f)
+    subst (Prepares _ _ _ _) (sym (c .refused-with .ensures)) (refused-by (by-script _ _ _ (script-refusal ((c .before .before .before))) f) f)
 
 find-flow-requires : tie.Need-find-flow-requires
 find-flow-requires c κs =
@@ -83,7 +83,7 @@ prepare-script-spec =
     tie.close
     (tie.spec
     load-requires
-    refused-requires
+    refused-with-requires
     returns
     find-flow-requires
     with-flow-requires

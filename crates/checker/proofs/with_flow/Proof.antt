@@ -9,11 +9,11 @@ use Rattle.checker.proofs.with_flow.Tie as tie
 cast-t7 : tie.Need-cast-t7
 cast-t7 c = fits-under _ _ 257 (omega (arith, c .if1 .taken, c .before .before .pre)) tt
 
-refused-requires : tie.Need-refused-requires
-refused-requires c κs = tt
+refused-with-requires : tie.Need-refused-with-requires
+refused-with-requires c κs = tt
 
 returns : tie.Need-returns
-returns c = c .refused .ensures ∙ sym (rw (lt-ltb _ _ (c .before .if1 .taken)))
+returns c = c .refused-with .ensures ∙ sym (rw (lt-ltb _ _ (c .before .if1 .taken)))
 
 returns-2 : tie.Need-returns-2
 returns-2 c =
@@ -22,4 +22,4 @@ returns-2 c =
     sym (rw (le-ltb (a .failing) (a .script .nodes) (omega (arith, few))))
 
 pub with-flow-spec : {M : Type 1} → statement M
-with-flow-spec = tie.close (tie.spec cast-t7 refused-requires returns returns-2)
+with-flow-spec = tie.close (tie.spec cast-t7 refused-with-requires returns returns-2)

@@ -62,8 +62,8 @@ left-so c =
 prepare-requires : tie.Need-prepare-requires
 prepare-requires c κs = search needs
 
-refused-requires : tie.Need-refused-requires
-refused-requires c κs = search needs
+refused-result-requires : tie.Need-refused-result-requires
+refused-result-requires c κs = search needs
 
 returns : tie.Need-returns
 returns c =
@@ -74,15 +74,15 @@ returns c =
     let e =
     refused-left b s (a .reader) (now (a .values)) (a .limit) (now (a .log))
     (by-check b s (a .reader) (now (a .values)) (a .limit) (found-refusal (c .before .before .before .prepare .ensures)) f) f in
-    (c .refused .ensures ∙ ap (λ (l : Left). l .report) e, (ap (λ (l : Left). l .values) e, ap (λ (l : Left). l .log) e))
+    (c .refused-result .ensures ∙ ap (λ (l : Left). l .report) e, (ap (λ (l : Left). l .values) e, ap (λ (l : Left). l .log) e))
 
 call-refusal-requires : tie.Need-call-refusal-requires
 call-refusal-requires c κs =
     let b = now (c .before .before .before .before .before .before .before .args .book) in
     rw (laid (c .before)) (checked b _ (accepted b _ (prepared (c .before)) .script) .laid)
 
-refused-requires-2 : tie.Need-refused-requires-2
-refused-requires-2 c κs = search needs
+refused-result-requires-2 : tie.Need-refused-result-requires-2
+refused-result-requires-2 c κs = search needs
 
 same-length : tie.Need-same-length
 same-length c = search needs
@@ -93,7 +93,7 @@ returns-2 c =
     let e =
     refused-left (now (a .book)) (now (a .script)) (a .reader) (now (a .values)) (a .limit) (now (a .log)) (call-is (c .before .before .before))
     (ne-eqb _ 0 (c .before .if2 .taken)) in
-    (c .refused2 .ensures ∙ ap (λ (l : Left). l .report) e, (ap (λ (l : Left). l .values) e, ap (λ (l : Left). l .log) e))
+    (c .refused-result2 .ensures ∙ ap (λ (l : Left). l .report) e, (ap (λ (l : Left). l .values) e, ap (λ (l : Left). l .log) e))
 
 run-checked-requires : tie.Need-run-checked-requires
 run-checked-requires c κs =
@@ -126,10 +126,10 @@ run-spec =
     tie.close
     (tie.spec
     prepare-requires
-    refused-requires
+    refused-result-requires
     returns
     call-refusal-requires
-    refused-requires-2
+    refused-result-requires-2
     same-length
     returns-2
     run-checked-requires

@@ -22,12 +22,12 @@ small c = few-read (c .before .before .before .before .args .s .now) (sized (c .
 size-is-right-requires : tie.Need-size-is-right-requires
 size-is-right-requires c κs = search needs
 
-refused-requires : tie.Need-refused-requires
-refused-requires c κs = search needs
+refused-book-requires : tie.Need-refused-book-requires
+refused-book-requires c κs = search needs
 
 returns : tie.Need-returns
 returns c =
-    size-way _ _ (sym (c .before .before .size-is-right .ensures) ∙ not-true _ (c .before .if1 .taken)) (c .refused .ensures)
+    size-way _ _ (sym (c .before .before .size-is-right .ensures) ∙ not-true _ (c .before .if1 .taken)) (c .refused-book .ensures)
 
 read-book-requires : tie.Need-read-book-requires
 read-book-requires c κs = sized c
@@ -35,15 +35,15 @@ read-book-requires c κs = sized c
 first-faulty-requires : tie.Need-first-faulty-requires
 first-faulty-requires c κs = small c
 
-refused-requires-2 : tie.Need-refused-requires-2
-refused-requires-2 c κs = omega (arith, c .if2 .taken, small (c .before .before .before))
+refused-book-requires-2 : tie.Need-refused-book-requires-2
+refused-book-requires-2 c κs = omega (arith, c .if2 .taken, small (c .before .before .before))
 
 returns-2 : tie.Need-returns-2
 returns-2 c =
     let b = c .before .before .before .before in
     order-way _ _ (sized (b .before)) _ (b .read-book .ensures) _ (c .before .before .before .first-faulty .ensures)
     (c .before .if2 .taken)
-    (c .refused2 .ensures)
+    (c .refused-book2 .ensures)
 
 accepted-requires : tie.Need-accepted-requires
 accepted-requires c κs = search needs
@@ -60,11 +60,11 @@ load-spec =
     tie.close
     (tie.spec
     size-is-right-requires
-    refused-requires
+    refused-book-requires
     returns
     read-book-requires
     first-faulty-requires
-    refused-requires-2
+    refused-book-requires-2
     returns-2
     accepted-requires
     returns-3)

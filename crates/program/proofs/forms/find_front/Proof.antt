@@ -17,8 +17,8 @@ form-at-requires c κs = search needs
 returns : tie.Need-returns
 returns c = sym (front-none _ _ _ (c .before .before .args .len) (c .before .form-at .ensures) (c .if1 .taken))
 
-word-at-requires : tie.Need-word-at-requires
-word-at-requires c κs = search needs
+node-at-requires : tie.Need-node-at-requires
+node-at-requires c κs = search needs
 
 middle-in-requires : tie.Need-middle-in-requires
 middle-in-requires c κs = search needs
@@ -53,7 +53,7 @@ find-front-spec =
     (tie.spec
     form-at-requires
     returns
-    word-at-requires
+    node-at-requires
     middle-in-requires
     b-in-requires
     returns-2

@@ -5,8 +5,8 @@ use borrow.Author.Needs.{needs}
 use Rattle.program.proofs.forms.find_rear.Statement.{statement}
 use Rattle.program.proofs.forms.find_rear.Tie as tie
 
-word-at-requires : tie.Need-word-at-requires
-word-at-requires c κs = search needs
+node-at-requires : tie.Need-node-at-requires
+node-at-requires c κs = search needs
 
 middle-in-requires : tie.Need-middle-in-requires
 middle-in-requires c κs = search needs
@@ -29,7 +29,7 @@ pub find-rear-spec : {M : Type 1} → statement M
 find-rear-spec =
     tie.close
     (tie.spec
-    word-at-requires
+    node-at-requires
     middle-in-requires
     b-in-requires
     returns

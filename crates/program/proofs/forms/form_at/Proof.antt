@@ -11,8 +11,8 @@ returns c =
     let start = c .before in
     form-past _ (start .args .tag) (runs-at (start .args .k) (start .pre) .kind) (c .if1 .taken)
 
-word-at-requires : tie.Need-word-at-requires
-word-at-requires c κs = search needs
+node-at-requires : tie.Need-node-at-requires
+node-at-requires c κs = search needs
 
 wide-requires : tie.Need-wide-requires
 wide-requires c κs = search needs
@@ -27,9 +27,9 @@ returns-2 : tie.Need-returns-2
 returns-2 c =
     let start = c .before .before .before .before in
     c .form-in .ensures
-    ∙ ap₂ formIn (c .before .before .word-at .ensures) (c .before .wide .ensures)
+    ∙ ap₂ formIn (c .before .before .node-at .ensures) (c .before .wide .ensures)
     ∙ runs-at (start .args .k) (start .pre) .forms (start .args .tag) (c .before .before .before .if1 .left)
 
 pub form-at-spec : {M : Type 1} → statement M
 form-at-spec =
-    tie.close (tie.spec returns word-at-requires wide-requires form-in-requires cast-result returns-2)
+    tie.close (tie.spec returns node-at-requires wide-requires form-in-requires cast-result returns-2)
