@@ -2,14 +2,15 @@
  * station.h: checks and runs station scripts. C99 and C++; link with libengine.a.
  *
  * Two calls take any bytes and any numbers. What the rules do not allow is refused with a number and a place.
- * docs/FORMATS.md has the formats of level book, script file and log, docs/REFUSALS.md an example of each refusal.
+ * docs/FORMATS.md has the formats of level book, script file, value list, signal list and log, docs/REFUSALS.md an
+ * example of each refusal.
  *
  * BUFFERS. A buffer is a pointer, then a length in elements (not in bytes).
  *  - The caller owns every buffer. A call keeps no pointer after it returns, and allocates nothing.
  *  - A pointer may be NULL where its length is 0: an empty buffer is neither read nor written.
- *  - `book` and `script` are only read; they may overlap each other. `values`, `log` and `out` are written: each of
- *    them must overlap no other buffer of the call.
- *  - `values`, `log` and `out` must be aligned for their element types, `book` and `script` need not be aligned.
+ *  - `book`, `script` and `list` are only read; they may overlap each other. `values`, `log` and `out` are written:
+ *    each of them must overlap no other buffer of the call.
+ *  - `values`, `list`, `log` and `out` must be aligned for their element types; `book` and `script` need not be.
  *  - `out` must have exactly STATION_CHECK_WORDS or STATION_RUN_WORDS elements. With any other length the call does
  *    nothing at all: `out`, `values` and `log` stay as they were.
  *
@@ -36,9 +37,10 @@ extern "C" {
 #define STATION_MAX_NODES 256
 #define STATION_MAX_STEPS 1000000
 
-/* The lengths of `out`, and the words of one line of the log. */
+/* The lengths of `out`, and the words of one pair of the list and of one line of the log. */
 #define STATION_CHECK_WORDS 4
 #define STATION_RUN_WORDS 6
+#define STATION_PAIR_WORDS 2
 #define STATION_LINE_WORDS 4
 
 /* The words of `out` after station_check. A refusal's W and T are 0. */
@@ -59,6 +61,12 @@ enum station_run_word {
     STATION_RUN_LINES = 5     /* the lines at the head of the log */
 };
 
+/* The words of a pair of the list. */
+enum station_pair_word {
+    STATION_PAIR_INSTANT = 0, /* the instant, from 1 */
+    STATION_PAIR_NAME = 1     /* the number of a session signal in the script file */
+};
+
 /* The words of a line of the log. */
 enum station_line_word {
     STATION_LINE_STEP = 0,    /* the step, from 1 */
@@ -68,8 +76,9 @@ enum station_line_word {
 };
 
 /*
- * Why a call was refused. The lowest number that applies is given, with the smallest place at fault in that way.
- * station_check gives 0 to 11, station_run all of them.
+ * Why a call was refused. The lowest number that applies is given, with the smallest place at fault in that way; a
+ * place past 4294967295, which only a list can have, is given as 4294967295. station_check gives 0 to 11, station_run
+ * all of them.
  */
 enum station_refusal {
     STATION_NOT_REFUSED = 0,             /* place 0 */
@@ -86,7 +95,8 @@ enum station_refusal {
     STATION_REFUSED_FLOW = 11,           /* a level flows where it may not; place: the node */
     STATION_REFUSED_READER = 12,         /* the reader's level is not in the book; place 0 */
     STATION_REFUSED_VALUES = 13,         /* place: 0 for a wrong length, else the first wrong entry */
-    STATION_REFUSED_LIMIT = 14           /* the step limit is above STATION_MAX_STEPS; place 0 */
+    STATION_REFUSED_LIMIT = 14,          /* the step limit is above STATION_MAX_STEPS; place 0 */
+    STATION_REFUSED_LIST = 15            /* instant 0 or falling, no session signal, half a pair; place: the pair */
 };
 
 /* How a run ended, decided before each step in this order. */
@@ -110,6 +120,10 @@ void station_check(const uint8_t *book, size_t book_len,
  *   values   one number for each name of the script: a register's value, 0 or 1 for a signal, 0 for an owned name;
  *            afterwards the state after the counted steps, with owned names 0
  *   limit    the most steps, 0 to STATION_MAX_STEPS
+ *   list     pairs of an instant, from 1, and a session signal, STATION_PAIR_WORDS words each; the instants never fall.
+ *            When an instant is entered, the signals of its pairs are present and all others absent: in the same step
+ *            as the instant change, and without a line. Equal pairs may repeat; pairs of instants that are not entered
+ *            do nothing. `list_len` counts words: an odd number ends in half a pair, which is refused
  *   log      any length; the run's lines stand at its head, STATION_LINE_WORDS words each, and the words after the last
  *            line stay as they were
  *
@@ -120,6 +134,7 @@ void station_run(const uint8_t *book, size_t book_len,
                  uint32_t reader,
                  int32_t *values, size_t values_len,
                  uint32_t limit,
+                 const uint32_t *list, size_t list_len,
                  uint32_t *log, size_t log_len,
                  uint32_t *out, size_t out_len);
 

@@ -39,6 +39,13 @@ tally() {
 
 prints_the_example() { diff <("$@") crates/station/stdout; }
 
+prints_the_lock() {
+    diff <("$@") - <<'END'
+step 4, instant 3: name 0 is 1
+Finished after 5 steps
+END
+}
+
 rust() {
     local command=$1 folder=$2
     shift 2
@@ -56,6 +63,7 @@ try 'C: stack builds' cc -O2 -Wall -Wextra -I include tests/speed/stack.c $libra
 try 'C: stack' target/stack
 tally 'Rust: crate station' "$counted" rust test bindings/rust
 try 'Rust: first_run prints the example' prints_the_example rust run bindings/rust -q --example first_run
+try 'Rust: prism_lock prints its line' prints_the_lock rust run bindings/rust -q --example prism_lock
 tally 'Rust: tests' "$counted" rust test tests --release
 tally 'Rust: comparison' '([0-9]+) passed, ([0-9]+) failed' rust run tests -q --release -p compare -- all
 

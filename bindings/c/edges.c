@@ -1,5 +1,5 @@
-/* The edges of the C interface: lengths of `out`, empty buffers, words next to a buffer, refused calls. Prints a line
- * for each and returns 1 if one fails.
+/* The edges of the C interface: lengths of `out`, empty buffers, words next to a buffer, lengths of the list, refused
+ * calls. Prints a line for each and returns 1 if one fails.
  *
  *     cc -I include bindings/c/edges.c target/staticlib/libengine.a -o edges
  */
@@ -26,12 +26,22 @@ static const uint8_t nil_script[] = {
     0x00, 0x00, 0x00, 0x00, 0x00, 0x08, 0x53, 0x54  /* tail */
 };
 
-/* The buffers of a call begin AT words into these arrays; what stands around them must not change. */
+/* when a do nil, with a session signal a at level 0. */
+static const uint8_t wait_script[] = {
+    0x01, 0x00, 0xFF, 0xFF,                         /* name 0 */
+    0x00, 0x00, 0x00, 0x00, 0x00, 0x00, 0x00, 0x00, /* node 0 */
+    0x09, 0x00, 0x00, 0x00, 0x00, 0x00, 0x00, 0x00, /* node 1 */
+    0x00, 0x04, 0x00, 0x04, 0x00, 0x14, 0x53, 0x54  /* tail */
+};
+
+/* The buffers of a call begin AT words into these arrays; what stands around them must not change, nor the list. */
 #define AT 2
 #define GUARD 0x5AA5C33C
+#define LIST_WORDS 5
 
 struct buffers {
     int32_t values[2 * AT + 1];
+    uint32_t list[2 * AT + LIST_WORDS];
     uint32_t log[2 * AT + 2 * STATION_LINE_WORDS];
     uint32_t out[2 * AT + STATION_RUN_WORDS + 1];
 };
@@ -49,6 +59,9 @@ static struct buffers fresh(int32_t value) {
     for (size_t i = 0; i < sizeof b.values / sizeof b.values[0]; i++) {
         b.values[i] = GUARD;
     }
+    for (size_t i = 0; i < sizeof b.list / sizeof b.list[0]; i++) {
+        b.list[i] = GUARD;
+    }
     for (size_t i = 0; i < sizeof b.log / sizeof b.log[0]; i++) {
         b.log[i] = GUARD;
     }
@@ -59,21 +72,31 @@ static struct buffers fresh(int32_t value) {
     return b;
 }
 
-/* All three arrays: the members are words of one size, so that there is no padding. */
+/* All four arrays: the members are words of one size, so that there is no padding. */
 static int same(const struct buffers *a, const struct buffers *b) {
     return memcmp(a, b, sizeof *a) == 0;
 }
 
-static void put_report(struct buffers *b, uint32_t number, uint32_t place, uint32_t ending, uint32_t steps,
-                       uint32_t lines) {
-    const uint32_t words[STATION_RUN_WORDS] = {number, place, ending, steps, 0, lines};
+static void put_refusal(struct buffers *b, uint32_t number, uint32_t place) {
+    const uint32_t words[STATION_RUN_WORDS] = {number, place, 0, 0, 0, 0};
     memcpy(b->out + AT, words, sizeof words);
 }
 
-/* Runs x := 7 on the buffers. */
+static void put_report(struct buffers *b, uint32_t ending, uint32_t steps, uint32_t instants, uint32_t lines) {
+    const uint32_t words[STATION_RUN_WORDS] = {0, 0, ending, steps, instants, lines};
+    memcpy(b->out + AT, words, sizeof words);
+}
+
+/* Runs x := 7 on the buffers, without a list. */
 static void run(struct buffers *b, uint32_t reader, uint32_t limit, size_t log_len, size_t out_len) {
-    station_run(book, sizeof book, script, sizeof script, reader, b->values + AT, 1, limit, b->log + AT, log_len,
-                b->out + AT, out_len);
+    station_run(book, sizeof book, script, sizeof script, reader, b->values + AT, 1, limit, NULL, 0, b->log + AT,
+                log_len, b->out + AT, out_len);
+}
+
+/* Runs when a do nil on the buffers, with so many words of the list. */
+static void run_wait(struct buffers *b, uint32_t limit, size_t list_len) {
+    station_run(book, sizeof book, wait_script, sizeof wait_script, 0, b->values + AT, 1, limit, b->list + AT,
+                list_len, b->log + AT, 2 * STATION_LINE_WORDS, b->out + AT, STATION_RUN_WORDS);
 }
 
 static void wrong_out_lengths(void) {
@@ -88,8 +111,8 @@ static void wrong_out_lengths(void) {
         }
     }
     station_check(book, sizeof book, script, sizeof script, NULL, 0);
-    station_run(book, sizeof book, script, sizeof script, 0, b.values + AT, 1, 1000, b.log + AT, STATION_LINE_WORDS,
-                NULL, 0);
+    station_run(book, sizeof book, script, sizeof script, 0, b.values + AT, 1, 1000, b.list + AT, 1, b.log + AT,
+                STATION_LINE_WORDS, NULL, 0);
     report("an out of another length: nothing changes", same(&b, &before));
 }
 
@@ -107,9 +130,10 @@ static void run_of_nothing(void) {
     uint32_t out[STATION_RUN_WORDS];
     const uint32_t finished[] = {0, 0, STATION_FINISHED, 0, 0, 0};
     const uint32_t wrong_values[] = {STATION_REFUSED_VALUES, 0, 0, 0, 0, 0};
-    station_run(book, sizeof book, nil_script, sizeof nil_script, 1, NULL, 0, 1000, NULL, 0, out, STATION_RUN_WORDS);
-    report("run of nil: values NULL, log NULL", memcmp(out, finished, sizeof out) == 0);
-    station_run(book, sizeof book, script, sizeof script, 0, NULL, 0, 1000, NULL, 0, out, STATION_RUN_WORDS);
+    station_run(book, sizeof book, nil_script, sizeof nil_script, 1, NULL, 0, 1000, NULL, 0, NULL, 0, out,
+                STATION_RUN_WORDS);
+    report("run of nil: values NULL, list NULL, log NULL", memcmp(out, finished, sizeof out) == 0);
+    station_run(book, sizeof book, script, sizeof script, 0, NULL, 0, 1000, NULL, 0, NULL, 0, out, STATION_RUN_WORDS);
     report("run of x := 7: values NULL is a wrong length", memcmp(out, wrong_values, sizeof out) == 0);
 }
 
@@ -119,12 +143,12 @@ static void log_lengths(void) {
     for (size_t n = 0; n <= 2 * STATION_LINE_WORDS; n++) {
         struct buffers b = fresh(0), expected = b;
         if (n < STATION_LINE_WORDS) {
-            put_report(&expected, 0, 0, STATION_LOG_FULL, 0, 0);
+            put_report(&expected, STATION_LOG_FULL, 0, 0, 0);
         } else {
             const uint32_t line[STATION_LINE_WORDS] = {1, 0, 0, 7};
             memcpy(expected.log + AT, line, sizeof line);
             expected.values[AT] = 7;
-            put_report(&expected, 0, 0, STATION_FINISHED, 1, 1);
+            put_report(&expected, STATION_FINISHED, 1, 0, 1);
         }
         run(&b, 0, 1000, n, STATION_RUN_WORDS);
         holds = holds && same(&b, &expected);
@@ -134,18 +158,73 @@ static void log_lengths(void) {
 
 static void log_null(void) {
     struct buffers b = fresh(3), expected = b;
-    put_report(&expected, 0, 0, STATION_LOG_FULL, 0, 0);
-    station_run(book, sizeof book, script, sizeof script, 0, b.values + AT, 1, 1000, NULL, 0, b.out + AT,
+    put_report(&expected, STATION_LOG_FULL, 0, 0, 0);
+    station_run(book, sizeof book, script, sizeof script, 0, b.values + AT, 1, 1000, NULL, 0, NULL, 0, b.out + AT,
                 STATION_RUN_WORDS);
     report("run of x := 7: log NULL is full before the first step", same(&b, &expected));
 }
 
-/* A call that is refused with this number, at place 0. */
+/* What each length of a list leaves: a is present on entering instant 2, or the list ends in half a pair. */
+static void list_lengths(void) {
+    const uint32_t list[LIST_WORDS] = {2, 0, 3, 0, 4};
+    int holds = 1;
+    for (size_t n = 0; n <= LIST_WORDS; n++) {
+        struct buffers b = fresh(0), expected;
+        memcpy(b.list + AT, list, sizeof list);
+        expected = b;
+        if (n % STATION_PAIR_WORDS != 0) {
+            put_refusal(&expected, STATION_REFUSED_LIST, (uint32_t)(n / STATION_PAIR_WORDS));
+        } else if (n == 0) {
+            put_report(&expected, STATION_SPENT, 1000, 1000, 0);
+        } else {
+            expected.values[AT] = 1;
+            put_report(&expected, STATION_FINISHED, 3, 2, 0);
+        }
+        run_wait(&b, 1000, n);
+        holds = holds && same(&b, &expected);
+    }
+    report("a list of 0 to 5 words: whole pairs only, and the list stays as it was", holds);
+}
+
+static void list_null(void) {
+    struct buffers b = fresh(0), expected = b;
+    put_report(&expected, STATION_SPENT, 1000, 1000, 0);
+    station_run(book, sizeof book, wait_script, sizeof wait_script, 0, b.values + AT, 1, 1000, NULL, 0, b.log + AT,
+                STATION_LINE_WORDS, b.out + AT, STATION_RUN_WORDS);
+    report("run of when a do nil: with list NULL no signal arrives", same(&b, &expected));
+}
+
+/* A list of two pairs that is refused with this number, at this place. */
+static void refused_list(const char *what, const uint32_t *list, uint32_t limit, uint32_t number, uint32_t place) {
+    struct buffers b = fresh(1), expected;
+    memcpy(b.list + AT, list, 2 * STATION_PAIR_WORDS * sizeof *list);
+    expected = b;
+    put_refusal(&expected, number, place);
+    run_wait(&b, limit, 2 * STATION_PAIR_WORDS);
+    report(what, same(&b, &expected));
+}
+
+static void refused_lists(void) {
+    const uint32_t zero[] = {0, 0, 1, 0};
+    const uint32_t falling[] = {UINT32_MAX, 0, UINT32_MAX - 1, 0};
+    const uint32_t no_name[] = {1, 0, 1, UINT32_MAX};
+    refused_list("a list with instant 0: values and log as they were", zero, 1000, STATION_REFUSED_LIST, 0);
+    refused_list("a list that falls: values and log as they were", falling, 1000, STATION_REFUSED_LIST, 1);
+    refused_list("a list with no name of the script: values and log as they were", no_name, 1000,
+                 STATION_REFUSED_LIST, 1);
+    refused_list("a limit too high and a wrong list: the limit is refused", zero, STATION_MAX_STEPS + 1,
+                 STATION_REFUSED_LIMIT, 0);
+}
+
+/* A call of x := 7 that is refused with this number, at place 0. Its list is wrong too: x is no signal. */
 static void refused(const char *what, uint32_t number, uint32_t reader, size_t values_len, uint32_t limit) {
-    struct buffers b = fresh(3), expected = b;
-    put_report(&expected, number, 0, 0, 0, 0);
-    station_run(book, sizeof book, script, sizeof script, reader, b.values + AT, values_len, limit, b.log + AT,
-                2 * STATION_LINE_WORDS, b.out + AT, STATION_RUN_WORDS);
+    struct buffers b = fresh(3), expected;
+    b.list[AT + STATION_PAIR_INSTANT] = 1;
+    b.list[AT + STATION_PAIR_NAME] = 0;
+    expected = b;
+    put_refusal(&expected, number, 0);
+    station_run(book, sizeof book, script, sizeof script, reader, b.values + AT, values_len, limit, b.list + AT,
+                STATION_PAIR_WORDS, b.log + AT, 2 * STATION_LINE_WORDS, b.out + AT, STATION_RUN_WORDS);
     report(what, same(&b, &expected));
 }
 
@@ -177,6 +256,10 @@ int main(void) {
     refused("a wrong reader: values and log as they were", STATION_REFUSED_READER, 2, 1, 1000);
     refused("two values for one name: values and log as they were", STATION_REFUSED_VALUES, 0, 2, 1000);
     refused("a limit too high: values and log as they were", STATION_REFUSED_LIMIT, 0, 1, STATION_MAX_STEPS + 1);
+    refused("a list that names a register: values and log as they were", STATION_REFUSED_LIST, 0, 1, 1000);
+    list_lengths();
+    list_null();
+    refused_lists();
     beginnings();
     return failures != 0;
 }

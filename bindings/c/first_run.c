@@ -51,8 +51,8 @@ int main(void) {
     if (checked[STATION_CHECK_NUMBER] != STATION_NOT_REFUSED) {
         return print_refusal(checked[STATION_CHECK_NUMBER], checked[STATION_CHECK_PLACE]);
     }
-    station_run(book, sizeof book, script, sizeof script, 0, values, 1, 1000, log, LINES * STATION_LINE_WORDS, ran,
-                STATION_RUN_WORDS);
+    station_run(book, sizeof book, script, sizeof script, 0, values, 1, 1000, NULL, 0, log, LINES * STATION_LINE_WORDS,
+                ran, STATION_RUN_WORDS);
     if (ran[STATION_RUN_NUMBER] != STATION_NOT_REFUSED) {
         return print_refusal(ran[STATION_RUN_NUMBER], ran[STATION_RUN_PLACE]);
     }

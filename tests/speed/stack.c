@@ -22,6 +22,8 @@
 #define ENOUGH (192 * 1024)
 #define PAINT 0xA5
 #define SESSION 0xFFFF
+/* The list has a pair for each of so many instants. */
+#define INSTANTS 8
 
 /* ---- Scripts. ---- */
 
@@ -94,7 +96,7 @@ static unsigned constant(struct draft *d, unsigned value)
     return add_expression(d, CONSTANT, 0, 0, value);
 }
 
-/* Of the names that the chains use, `there` is present at the start, `absent` is not. */
+/* Of the names that the chains use, `there` is present at the start and arrives in the first instants, `absent` not. */
 struct names {
     unsigned x, there, absent;
 };
@@ -346,6 +348,7 @@ struct call {
     size_t length;
     int32_t values[STATION_MAX_NAMES];
     size_t name_count;
+    uint32_t list[INSTANTS * STATION_PAIR_WORDS];
     uint32_t log[4 * 1024];
     uint32_t out[STATION_RUN_WORDS];
     uint8_t *frame;
@@ -356,8 +359,9 @@ static void *make_call(void *argument)
     struct call *c = argument;
     c->frame = __builtin_frame_address(0);
     if (c->runs)
-        station_run(book, sizeof book, c->file, c->length, 0, c->values, c->name_count, 5000, c->log,
-                    sizeof c->log / sizeof c->log[0], c->out, STATION_RUN_WORDS);
+        station_run(book, sizeof book, c->file, c->length, 0, c->values, c->name_count, 5000, c->list,
+                    sizeof c->list / sizeof c->list[0], c->log, sizeof c->log / sizeof c->log[0], c->out,
+                    STATION_RUN_WORDS);
     else
         station_check(book, sizeof book, c->file, c->length, c->out, STATION_CHECK_WORDS);
     return NULL;
@@ -386,6 +390,15 @@ static size_t measure(struct call *c, uint8_t *stack)
     return (size_t)(c->frame - lowest);
 }
 
+static void let_arrive(struct call *c, unsigned signal)
+{
+    for (uint32_t i = 0; i < INSTANTS; i++) {
+        uint32_t *pair = c->list + i * STATION_PAIR_WORDS;
+        pair[STATION_PAIR_INSTANT] = i + 1;
+        pair[STATION_PAIR_NAME] = signal;
+    }
+}
+
 static size_t measure_chain(const struct chain *chain, int runs, uint8_t *stack)
 {
     static struct draft d;
@@ -401,6 +414,7 @@ static size_t measure_chain(const struct chain *chain, int runs, uint8_t *stack)
     c.length = write_file(&d, c.file);
     c.name_count = d.name_count;
     c.values[n.there] = 1;
+    let_arrive(&c, n.there);
     bytes = measure(&c, stack);
     if (c.out[0] != 0) {
         fprintf(stderr, "stack: %s: refused %u %u\n", chain->label, c.out[0], c.out[1]);

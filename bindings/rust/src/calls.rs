@@ -7,6 +7,9 @@ use crate::refusal::Refusal;
 /// The most steps that [`run`] may be asked for; a higher limit is refused.
 pub const MAX_STEPS: u32 = 1_000_000;
 
+/// The words of a pair of the signal list.
+pub const PAIR_WORDS: usize = 2;
+
 /// What [`check`] answers for an accepted script. Both are levels of the book.
 #[derive(Clone, Copy, Debug, PartialEq, Eq, Hash)]
 pub struct Levels {
@@ -89,12 +92,35 @@ pub fn check(book: &[u8], script: &[u8]) -> Result<Levels, Refusal> {
 /// `values` has one entry for each name of the script: a register's value, 0 or 1 for a signal, 0 for an owned name.
 /// After the run it holds the state after the counted steps, with owned names 0. `log` may have any length; the run's
 /// lines stand at its head, four words each, and the words after them are untouched. A refused call changes neither.
+///
+/// `list` names the signals that arrive while the script runs, in pairs of two words: an instant, counted from 1 and
+/// never falling, then the number of a session signal. When an instant is entered, the signals that the list names for
+/// it are present, and all others absent. That writes no line. `&[]` is a list without pairs; an array or a vector of
+/// pairs gives the words of a list by `as_flattened`:
+///
+/// ```
+/// # let (book, mut values, mut log) = ([0x02, 0x00, 0x03, 0x00, 0x02], [0, 0], []);
+/// # let script = [
+/// #     0x01, 0x00, 0xFF, 0xFF, 0x01, 0x00, 0xFF, 0xFF, // names 0 and 1: signals
+/// #     0x00, 0x00, 0x00, 0x00, 0x00, 0x00, 0x00, 0x00, // node 0: nil
+/// #     0x09, 0x00, 0x00, 0x00, 0x00, 0x00, 0x00, 0x00, // node 1: when name 0 do node 0
+/// #     0x00, 0x08, 0x00, 0x08, 0x00, 0x18, 0x53, 0x54,
+/// # ];
+/// const LOCK: u32 = 0;
+/// const TILT: u32 = 1;
+/// let list = [[1, TILT], [3, LOCK], [3, TILT]];
+/// let run = station::run(&book, &script, 0, &mut values, 1000, list.as_flattened(), &mut log)?;
+/// # assert_eq!((run.ending, run.steps, run.instants), (station::Ending::Finished, 4, 3));
+/// # assert_eq!(values, [1, 1]);
+/// # Ok::<(), station::Refusal>(())
+/// ```
 pub fn run(
     book: &[u8],
     script: &[u8],
     reader: u32,
     values: &mut [i32],
     limit: u32,
+    list: &[u32],
     log: &mut [u32],
 ) -> Result<Run, Refusal> {
     let mut out = [0; raw::RUN_WORDS];
@@ -110,6 +136,8 @@ pub fn run(
             values.as_mut_ptr(),
             values.len(),
             limit,
+            list.as_ptr(),
+            list.len(),
             log.as_mut_ptr(),
             log.len(),
             out.as_mut_ptr(),

@@ -1,8 +1,8 @@
 //! Station scripts from Rust: check a script under a level book, and run it.
 //!
 //! A *level book* orders the levels, a *script file* holds names, expressions and nodes, a *value list* has one number
-//! for each name, and a *log* takes the lines that a *reader* may see. The formats are in the repository's
-//! `docs/FORMATS.md`, the refusals in `docs/REFUSALS.md`.
+//! for each name, a *signal list* says which signals arrive in which instant, and a *log* takes the lines that a
+//! *reader* may see. The formats are in the repository's `docs/FORMATS.md`, the refusals in `docs/REFUSALS.md`.
 //!
 //! [`check`] and [`run`] take any bytes and any numbers and never panic: what the rules do not allow is a [`Refusal`].
 //! They keep no state between calls, so that calls on different buffers may run at the same time.
@@ -25,7 +25,7 @@
 //!
 //! let mut values = [0];
 //! let mut log = [0; 4 * 256];
-//! let run = station::run(&book, &script, 0, &mut values, 1000, &mut log)?;
+//! let run = station::run(&book, &script, 0, &mut values, 1000, &[], &mut log)?;
 //! assert_eq!(run.ending, station::Ending::Finished);
 //! assert_eq!((run.steps, run.instants, run.lines), (1, 0, 1));
 //! assert_eq!(values, [7]);
@@ -43,6 +43,6 @@ mod log;
 pub mod raw;
 mod refusal;
 
-pub use calls::{check, run, Ending, Levels, Run, MAX_STEPS};
+pub use calls::{check, run, Ending, Levels, Run, MAX_STEPS, PAIR_WORDS};
 pub use log::{lines, Line, LINE_WORDS};
 pub use refusal::{Place, Reason, Refusal};

@@ -28,7 +28,7 @@ extern "C" {
     ///
     /// # Safety
     /// Each pointer is good for reads of its length, those of `values`, `log` and `out` also for writes, and none of
-    /// these three overlaps another slice.
+    /// these three overlaps another slice. `list` is only read.
     pub fn station_run(
         book: *const u8,
         book_len: usize,
@@ -38,6 +38,8 @@ extern "C" {
         values: *mut i32,
         values_len: usize,
         limit: u32,
+        list: *const u32,
+        list_len: usize,
         log: *mut u32,
         log_len: usize,
         out: *mut u32,

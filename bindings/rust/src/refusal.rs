@@ -1,4 +1,4 @@
-//! Refusals: the reason, and the place in the level book, the script file or the value list.
+//! Refusals: the reason, and the place in the level book, the script file, the value list or the signal list.
 
 use core::error::Error;
 use core::fmt;
@@ -35,12 +35,15 @@ pub enum Reason {
     Values,
     /// 14: the step limit is above 1,000,000.
     Limit,
+    /// 15: a pair of the signal list has the instant 0, an instant below that of the pair before it, or a name that is
+    /// no session signal; or the list ends in half a pair.
+    List,
     /// A number that this crate does not know.
     Unknown(u32),
 }
 
 /// The reasons with their names, in the order of their numbers: the first has number 1.
-const REASONS: [(Reason, &str); 14] = [
+const REASONS: [(Reason, &str); 15] = [
     (Reason::Book, "book"),
     (Reason::Order, "order"),
     (Reason::NoCommonLevel, "no common level"),
@@ -55,6 +58,7 @@ const REASONS: [(Reason, &str); 14] = [
     (Reason::Reader, "reader"),
     (Reason::Values, "values"),
     (Reason::Limit, "limit"),
+    (Reason::List, "list"),
 ];
 
 impl Reason {
@@ -100,6 +104,8 @@ pub enum Place {
     Node(u32),
     /// An entry of the value list; 0 also stands for its length.
     Value(u32),
+    /// A pair of the signal list, or half a pair at its end; `u32::MAX` also stands for every later one.
+    ListPair(u32),
 }
 
 /// Expressions have the places below this number, nodes those from it on, where a refusal can be about either.
@@ -141,6 +147,7 @@ impl Refusal {
             Reason::Node | Reason::Flow => Place::Node(place),
             Reason::LoosePart | Reason::OutOfReach => part(place),
             Reason::Values => Place::Value(place),
+            Reason::List => Place::ListPair(place),
             _ => Place::Whole,
         }
     }
@@ -157,6 +164,7 @@ impl fmt::Display for Place {
             Place::Node(k) => write!(f, "node {k}"),
             Place::Value(0) => write!(f, "the length or value 0"),
             Place::Value(x) => write!(f, "value {x}"),
+            Place::ListPair(i) => write!(f, "pair {i}"),
         }
     }
 }

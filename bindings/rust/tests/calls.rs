@@ -26,7 +26,7 @@ fn first_example() {
     let mut log = [UNTOUCHED; 9];
     let levels = check(&BOOK, &SCRIPT);
     assert_eq!(levels, Ok(Levels { write: 0, test: 0 }));
-    let answer = run(&BOOK, &SCRIPT, 0, &mut values, 1000, &mut log);
+    let answer = run(&BOOK, &SCRIPT, 0, &mut values, 1000, &[], &mut log);
     let (ending, steps, instants) = (Ending::Finished, 1, 0);
     let expected = Run {
         ending,
@@ -46,7 +46,7 @@ fn a_negative_value_is_read_as_it_was_assigned() {
     script[8..12].copy_from_slice(&(-7i32).to_be_bytes());
     let mut values = [0];
     let mut log = [0; 4];
-    let answer = run(&BOOK, &script, 0, &mut values, 1000, &mut log).expect("accepted");
+    let answer = run(&BOOK, &script, 0, &mut values, 1000, &[], &mut log).expect("accepted");
     let line = Line {
         step: 1,
         instant: 0,
@@ -62,7 +62,7 @@ fn a_log_of_fewer_than_four_words_is_full() {
     for words in 0..4 {
         let mut values = [3];
         let mut log = vec![UNTOUCHED; words];
-        let answer = run(&BOOK, &SCRIPT, 0, &mut values, 1000, &mut log).expect("accepted");
+        let answer = run(&BOOK, &SCRIPT, 0, &mut values, 1000, &[], &mut log).expect("accepted");
         assert_eq!(answer.ending, Ending::LogFull);
         assert_eq!((answer.steps, answer.instants, answer.lines), (0, 0, 0));
         assert_eq!(values, [3]);
@@ -72,7 +72,7 @@ fn a_log_of_fewer_than_four_words_is_full() {
 
 #[test]
 fn limits() {
-    let at = |limit| run(&BOOK, &SCRIPT, 0, &mut [0], limit, &mut [0; 4]);
+    let at = |limit| run(&BOOK, &SCRIPT, 0, &mut [0], limit, &[], &mut [0; 4]);
     let ending = |limit| at(limit).map(|answer| answer.ending);
     assert_eq!(ending(0), Ok(Ending::Spent));
     assert_eq!(ending(MAX_STEPS), Ok(Ending::Finished));
@@ -85,7 +85,8 @@ fn limits() {
 #[test]
 fn readers_that_are_no_level() {
     for reader in [2, 16, u32::MAX] {
-        let refusal = run(&BOOK, &SCRIPT, reader, &mut [0], 1000, &mut []).expect_err("refused");
+        let refusal =
+            run(&BOOK, &SCRIPT, reader, &mut [0], 1000, &[], &mut []).expect_err("refused");
         assert_eq!((refusal.reason, refusal.place), (Reason::Reader, 0));
     }
 }
@@ -96,9 +97,9 @@ fn empty_slices() {
     assert_eq!(reason(&[], &[]), Reason::Book);
     assert_eq!(reason(&[], &SCRIPT), Reason::Book);
     assert_eq!(reason(&BOOK, &[]), Reason::Tail);
-    let refusal = run(&BOOK, &SCRIPT, 0, &mut [], 1000, &mut []).expect_err("refused");
+    let refusal = run(&BOOK, &SCRIPT, 0, &mut [], 1000, &[], &mut []).expect_err("refused");
     assert_eq!((refusal.reason, refusal.place), (Reason::Values, 0));
-    let answer = run(&BOOK, &NIL, 0, &mut [], 0, &mut []).expect("accepted");
+    let answer = run(&BOOK, &NIL, 0, &mut [], 0, &[], &mut []).expect("accepted");
     assert_eq!((answer.ending, answer.steps), (Ending::Finished, 0));
 }
 
@@ -119,7 +120,7 @@ fn every_damage_of_one_byte_is_answered() {
             let mut script = SCRIPT;
             script[at] = byte;
             let checked = check(&BOOK, &script);
-            let ran = run(&BOOK, &script, 1, &mut [0], 10, &mut [0; 40]);
+            let ran = run(&BOOK, &script, 1, &mut [0], 10, &[], &mut [0; 40]);
             let refusal = ran.err().filter(|r| r.reason.number() < 12);
             assert_eq!(checked.err(), refusal);
         }
@@ -131,7 +132,7 @@ fn calls_may_run_at_the_same_time() {
     let call = || {
         let mut values = [0];
         let mut log = [0; 4];
-        let answer = run(&BOOK, &SCRIPT, 0, &mut values, 1000, &mut log);
+        let answer = run(&BOOK, &SCRIPT, 0, &mut values, 1000, &[], &mut log);
         (answer, values, log)
     };
     let alone = call();

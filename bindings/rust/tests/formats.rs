@@ -24,11 +24,37 @@ fn values(bytes: &[u8]) -> Vec<i32> {
     whole.iter().map(|&four| i32::from_be_bytes(four)).collect()
 }
 
-/// What the program `station` prints.
-fn printed(book: &[u8], script: &[u8], values: &mut [i32]) -> Result<Vec<String>, Refusal> {
+/// The words of a list: each line has the number of its first word, words, two blanks, and what they mean.
+fn words(block: &Block) -> Vec<u32> {
+    let mut words = Vec::new();
+    for line in &block.lines {
+        let (first, rest) = line.split_once("  ").expect("a word's number");
+        let (pair, _meaning) = rest.split_once("  ").expect("words, then their meaning");
+        assert_eq!(first, words.len().to_string(), "first word of: {line}");
+        let word = |text: &str| text.parse::<u32>().expect("a word");
+        words.extend(pair.split_whitespace().map(word));
+    }
+    words
+}
+
+/// An example: the script, the values at the start, and the list if there is one.
+#[derive(Default)]
+struct Example {
+    script: Vec<u8>,
+    values: Vec<i32>,
+    list: Vec<u32>,
+}
+
+/// What the program `station` prints; its list is empty.
+fn printed(book: &[u8], example: &mut Example) -> Result<Vec<String>, Refusal> {
     let mut log = [0; 4 * 256];
+    let Example {
+        script,
+        values,
+        list,
+    } = example;
     let levels = check(book, script)?;
-    let run = run(book, script, 0, values, 1000, &mut log)?;
+    let run = run(book, script, 0, values, 1000, list, &mut log)?;
     let ending = match run.ending {
         Ending::Finished => "finished",
         Ending::Spent => "spent",
@@ -51,21 +77,45 @@ fn all(kind: &str) -> Vec<Vec<u8>> {
         .collect()
 }
 
+/// The examples with their answers: a script begins one, an answer ends it.
+fn examples() -> Vec<(Example, Vec<String>)> {
+    let mut examples = Vec::new();
+    let mut example = Example::default();
+    for block in blocks("FORMATS.md") {
+        match &block.kind[..] {
+            "book" => {}
+            "script" => example.script = bytes(&block),
+            "values" => example.values = values(&bytes(&block)),
+            "list" => example.list = words(&block),
+            "answer" => examples.push((std::mem::take(&mut example), block.lines)),
+            other => panic!("no block of the document: {other}"),
+        }
+    }
+    examples
+}
+
 #[test]
 fn scripts_are_answered_as_the_document_says() {
     let book = &all("book")[0];
-    let scripts = all("script");
-    let starts = all("values");
-    let answers = blocks("FORMATS.md")
-        .into_iter()
-        .filter(|block| block.kind == "answer");
-    let mut examples = 0;
-    for ((script, start), answer) in scripts.iter().zip(&starts).zip(answers) {
-        let text = printed(book, script, &mut values(start));
-        assert_eq!(text, Ok(answer.lines));
-        examples += 1;
+    let examples = examples();
+    assert_eq!(examples.len(), 4);
+    assert_eq!((all("script").len(), all("values").len()), (4, 4));
+    let lists = examples.iter().map(|(example, _)| example.list.len());
+    assert_eq!(lists.collect::<Vec<usize>>(), [0, 0, 0, 6]);
+    for (mut example, answer) in examples {
+        assert_eq!(printed(book, &mut example), Ok(answer));
     }
-    assert_eq!((scripts.len(), starts.len(), examples), (3, 3, 3));
+}
+
+#[test]
+fn the_script_that_waits_finishes_only_with_its_list() {
+    let book = &all("book")[0];
+    let (mut example, _) = examples().pop().expect("an example with a list");
+    printed(book, &mut example).expect("accepted");
+    assert_eq!(example.values, [1, 1]);
+    (example.values, example.list) = (vec![0, 0], vec![]);
+    let text = printed(book, &mut example).expect("accepted");
+    assert_eq!(text, ["accepted 0 0", "spent 1000 1000"]);
 }
 
 #[test]
@@ -80,16 +130,16 @@ fn books_are_accepted() {
 
 #[test]
 fn the_first_example_is_that_of_the_program() {
+    let (mut example, _) = examples().swap_remove(0);
     assert_eq!(all("book")[0], hex("02 0003 0002"));
     assert_eq!(
-        all("script")[0],
+        example.script,
         hex("0000FFFF 0000000000000007 0100000000000000 0004000C00145354")
     );
-    let mut values = values(&all("values")[0]);
-    let text = printed(&all("book")[0], &all("script")[0], &mut values);
+    let text = printed(&all("book")[0], &mut example);
     assert_eq!(
         text.expect("accepted"),
         ["accepted 0 0", "1 0 0 7", "finished 1 0"]
     );
-    assert_eq!(values, [7]);
+    assert_eq!(example.values, [7]);
 }

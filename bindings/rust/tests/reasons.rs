@@ -2,7 +2,7 @@
 use station::{Place, Reason, Refusal};
 
 /// In the order of their numbers.
-const REASONS: [Reason; 14] = [
+const REASONS: [Reason; 15] = [
     Reason::Book,
     Reason::Order,
     Reason::NoCommonLevel,
@@ -17,6 +17,7 @@ const REASONS: [Reason; 14] = [
     Reason::Reader,
     Reason::Values,
     Reason::Limit,
+    Reason::List,
 ];
 
 #[test]
@@ -25,7 +26,7 @@ fn every_number_comes_back() {
         assert_eq!(reason.number(), number);
         assert_eq!(Reason::from_number(number), reason);
     }
-    for number in [0, 15, 255, u32::MAX] {
+    for number in [0, 16, 255, u32::MAX] {
         let reason = Reason::from_number(number);
         assert_eq!(reason, Reason::Unknown(number));
         assert_eq!(reason.number(), number);
@@ -50,6 +51,7 @@ fn places() {
     assert_eq!(at(Reason::OutOfReach, 258), Place::Node(2));
     assert_eq!(at(Reason::Flow, 7), Place::Node(7));
     assert_eq!(at(Reason::Values, 8), Place::Value(8));
+    assert_eq!(at(Reason::List, 9), Place::ListPair(9));
     assert_eq!(at(Reason::Unknown(99), u32::MAX), Place::Whole);
 }
 
@@ -64,4 +66,5 @@ fn a_refusal_is_an_error_that_names_its_place() {
     assert_eq!(text(3, 18), "refused 3 18: no common level, levels 1 and 2");
     assert_eq!(text(10, 258), "refused 10 258: out of reach, node 2");
     assert_eq!(text(13, 0), "refused 13 0: values, the length or value 0");
+    assert_eq!(text(15, 2), "refused 15 2: list, pair 2");
 }

@@ -10,6 +10,7 @@ struct Call {
     reader: u32,
     values: Vec<i32>,
     limit: u32,
+    list: Vec<u32>,
 }
 
 #[derive(Default)]
@@ -24,19 +25,22 @@ fn number<T: std::str::FromStr>(text: &str) -> T {
     text.parse().ok().expect("a number")
 }
 
-/// 'reader R, values V V V, limit L'
+fn numbers<T: std::str::FromStr>(text: &str) -> Vec<T> {
+    text.split_whitespace().map(number).collect()
+}
+
+/// 'reader R, values V V V, limit L', then also 'list I S I S' if it is not empty
 fn call(text: &str) -> Call {
     let part = |name: &str| {
         let mut parts = text.split(", ");
-        parts
-            .find_map(|p| p.strip_prefix(name))
-            .expect("reader, values and limit")
-            .trim()
+        parts.find_map(|p| p.strip_prefix(name)).map(str::trim)
     };
+    let needed = |name| part(name).expect("reader, values and limit");
     Call {
-        reader: number(part("reader")),
-        values: part("values").split_whitespace().map(number).collect(),
-        limit: number(part("limit")),
+        reader: number(needed("reader")),
+        values: numbers(needed("values")),
+        limit: number(needed("limit")),
+        list: part("list").map(numbers).unwrap_or_default(),
     }
 }
 
@@ -72,6 +76,7 @@ fn outcome(example: &Example) -> Result<(u32, u32), Refusal> {
             call.reader,
             &mut values,
             call.limit,
+            &call.list,
             &mut [0; 64],
         )?;
     }
@@ -107,7 +112,7 @@ fn every_refusal_has_an_example_in_order() {
         .filter_map(|e| outcome(&e).err());
     let mut numbers: Vec<u32> = refusals.map(|refusal| refusal.reason.number()).collect();
     numbers.dedup();
-    assert_eq!(numbers, (1..=14).collect::<Vec<u32>>());
+    assert_eq!(numbers, (1..=15).collect::<Vec<u32>>());
 }
 
 #[test]
@@ -120,6 +125,7 @@ fn a_refused_run_changes_neither_values_nor_log() {
             reader: 0,
             values: vec![3],
             limit: 1000,
+            list: vec![],
         };
         let call = example.call.clone().unwrap_or(anything);
         let mut values = call.values.clone();
@@ -130,6 +136,7 @@ fn a_refused_run_changes_neither_values_nor_log() {
             call.reader,
             &mut values,
             call.limit,
+            &call.list,
             &mut log,
         );
         assert_eq!(refusal.err(), outcome(example).err());
@@ -142,7 +149,7 @@ fn a_refused_run_changes_neither_values_nor_log() {
 fn headings_have_the_names_of_the_reasons() {
     let folder = std::path::Path::new(env!("CARGO_MANIFEST_DIR")).join("../../docs");
     let text = std::fs::read_to_string(folder.join("REFUSALS.md")).expect("the document");
-    for number in 1..=14 {
+    for number in 1..=15 {
         let heading = format!("\n## {number} {}\n", Reason::from_number(number).name());
         assert!(text.contains(&heading), "missing: {heading}");
     }

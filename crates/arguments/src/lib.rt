@@ -1,4 +1,6 @@
-// What is asked of a call besides a book and a script: refusals 12 to 14.
+// What is asked of a call besides a book and a script: refusals 12 to 15.
+pub mod list; // list.rt: refusal 15, the list of signals
+
 use layout::Script;
 use prelude::Refusal;
 ghost use mathlib.Core.Path.{_≡_};
@@ -74,9 +76,10 @@ pub fn call_refusal(
     reader: u32,
     values: &[i32],
     limit: u32,
+    list: &[u32],
 ) -> Refusal
     requires { ⌜ Laid (now s) c ⌝ }
-    ensures { λ r. ⌜ r ≡ callRefusal levels (now (s .entry)) reader (now (values .entry)) limit ⌝ }
+    ensures { λ r. ⌜ r ≡ callRefusal levels (now (s .entry)) reader (now (values .entry)) limit (now (list .entry)) ⌝ }
 {
     if levels <= (reader as usize) {
         return Refusal {
@@ -94,8 +97,5 @@ pub fn call_refusal(
             place: 0,
         };
     }
-    Refusal {
-        number: 0,
-        place: 0,
-    }
+    list::list_refusal(s, c, list)
 }

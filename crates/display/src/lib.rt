@@ -79,10 +79,10 @@ fn say_answers(v: Verdict, r: RunResult, log: &[u32]) {
     say_ending(r.ending, r.steps, r.instants);
 }
 
-// Checks and runs a script for the reader 0, with a log of 256 lines, and prints what comes of it.
-pub fn show_run(book: &[u8], script: &[u8], values: &mut [i32], limit: u32) {
+// Checks and runs a script with a list for the reader 0, with a log of 256 lines, and prints what comes of it.
+pub fn show_run(book: &[u8], script: &[u8], values: &mut [i32], limit: u32, list: &[u32]) {
     let mut log = [0u32; 1024];
     let v = engine::check(book, script);
-    let r = engine::run(book, script, 0, values, limit, &mut log);
+    let r = engine::run(book, script, 0, values, limit, list, &mut log);
     say_answers(v, r, &log);
 }

@@ -25,13 +25,14 @@ use Rattle.layout.specs.Layout.{layoutOf, nameCount}
 use Rattle.layout.specs.Entries.{nameOf}
 use Rattle.script.specs.Checked.{Checked, Levelled}
 use Rattle.script.proofs.Theorems.{accepted-exactly}
+use Rattle.inputs.specs.Lists.{listed}
 use Rattle.tree.specs.Tree.{namesOf, tree}
 use Rattle.runner.specs.declared.Ran.{Ran}
 use Rattle.plan.specs.Plan.{seesIn}
 use Rattle.runner.proofs.Outcomes.{written-is}
 use Rattle.checker.specs.Refusals.{checkRefusal}
 use Rattle.arguments.specs.Refusals.{callRefusal, runRefusal}
-use Rattle.arguments.proofs.Passing.{run-accepted, run-bounds}
+use Rattle.arguments.proofs.Passing.{run-accepted, run-bounds, run-listed}
 use Rattle.arguments.proofs.Writes.{tree-writes}
 use Rattle.results.specs.Reports.{reportBy}
 use Rattle.engine.specs.Answers.{runOf, Left, leftBy, refusedLeft, left}
@@ -39,51 +40,51 @@ use Rattle.engine.specs.Contracts.{CanStart, runFor, Returns}
 
 -- what a run that is not refused counts, which is within the limit, and what it leaves
 pub record Leaves
-    (b s : List ℕ) (reader : ℕ) (values : List ℤ) (limit : ℕ) (log : List ℕ) (r : Ran) (values′ : List ℤ) (log′ : List ℕ)
-    : Type 0 where
+    (b s : List ℕ) (reader : ℕ) (values : List ℤ) (limit : ℕ) (list log : List ℕ) (r : Ran) (values′ : List ℤ)
+    (log′ : List ℕ) : Type 0 where
   pub steps : r .at .steps ≤ mostSteps
   pub instants : r .at .instants ≤ mostSteps
   pub lines : r .at .lines ≤ mostSteps
   pub report :
-      reportBy (r .ending) (r .at .steps) (r .at .instants) (r .at .lines) ≡ left b s reader values limit log .report
-  pub final : values′ ≡ left b s reader values limit log .values
-  pub logged : log′ ≡ left b s reader values limit log .log
+      reportBy (r .ending) (r .at .steps) (r .at .instants) (r .at .lines) ≡ left b s reader values limit list log .report
+  pub final : values′ ≡ left b s reader values limit list log .values
+  pub logged : log′ ≡ left b s reader values limit list log .log
 
-module _ (b s : List ℕ) (reader : ℕ) (values : List ℤ) (limit : ℕ) where
+module _ (b s : List ℕ) (reader : ℕ) (values : List ℤ) (limit : ℕ) (list : List ℕ) where
   -- a refused call
   pub refused-left :
-      (log : List ℕ) {R : Refusal} → R ≡ runRefusal b s reader values limit → passes R ≡ false →
-      refusedLeft R values log ≡ left b s reader values limit log
+      (log : List ℕ) {R : Refusal} → R ≡ runRefusal b s reader values limit list → passes R ≡ false →
+      refusedLeft R values log ≡ left b s reader values limit list log
   unfolding left
   refused-left log e f = rw (e, ap passes (sym e) ∙ f)
 
-  pub by-check : {R : Refusal} → R ≡ checkRefusal b s → passes R ≡ false → R ≡ runRefusal b s reader values limit
+  pub by-check : {R : Refusal} → R ≡ checkRefusal b s → passes R ≡ false → R ≡ runRefusal b s reader values limit list
   unfolding runRefusal
   by-check e f = e ∙ sym (rw (ap passes (sym e) ∙ f))
 
   pub by-call :
-      {R : Refusal} → passes (checkRefusal b s) ≡ true → R ≡ callRefusal (count b) s reader values limit →
-      R ≡ runRefusal b s reader values limit
+      {R : Refusal} → passes (checkRefusal b s) ≡ true → R ≡ callRefusal (count b) s reader values limit list →
+      R ≡ runRefusal b s reader values limit list
   unfolding runRefusal
   by-call p e = e ∙ sym (rw p)
 
   -- a call that is not refused
-  module _ (p : passes (runRefusal b s reader values limit) ≡ true) where
+  module _ (p : passes (runRefusal b s reader values limit list) ≡ true) where
     file : Checked s × Levelled s (count b)
-    file = accepted-exactly .checked _ _ (run-accepted b s reader values limit p .0 .script)
+    file = accepted-exactly .checked _ _ (run-accepted b s reader values limit list p .0 .script)
 
     named : length values ≡ nameCount s
-    named = run-accepted b s reader values limit p .1 .named
+    named = run-accepted b s reader values limit list p .1 .named
 
     bounds : (reader < count b) × (limit ≤ mostSteps)
-    bounds = run-bounds b s reader values limit p
+    bounds = run-bounds b s reader values limit list p
 
     abbrev sees : ℕ → Bool
     sees = readable (bookLattice b) (namesOf s) reader
 
     module _ {bk : Book} (e : bk ≡ bookOf b) where
       -- it can be run
-      pub can-start : {c : Script} → c ≡ layoutOf s → CanStart s c bk reader values limit
+      pub can-start : {c : Script} → c ≡ layoutOf s → CanStart s c bk reader values limit list
       can-start l =
           record {
             plan =
@@ -91,42 +92,49 @@ module _ (b s : List ℕ) (reader : ℕ) (values : List ℤ) (limit : ℕ) where
                   laid = rw l (file .0 .laid);
                   checked = file .0;
                   levelled = rw e (file .1);
-                  levels = few-read b (passing _ (run-accepted b s reader values limit p .0 .book) .size) bk e;
+                  levels = few-read b (passing _ (run-accepted b s reader values limit list p .0 .book) .size) bk e;
                   reader = rw e (bounds .0);
                 };
             named = named;
             most = bounds .1;
+            right = run-listed b s reader values limit list p;
           }
 
       -- what the runner leaves
       module _ {log : List ℕ} {r : Ran} {values′ : List ℤ} {log′ : List ℕ}
-          (g : Returns (runFor bk s reader values limit log) log r values′ log′) where
+          (g : Returns (runFor bk s reader values limit list log) log r values′ log′) where
         agrees : (x : ℕ) → x < nameCount s → seesIn bk s reader x ≡ sees x
         agrees x h = rw e (order-at b (nameOf s x .level) reader (file .1 x h) (bounds .0))
 
-        given : Returns (runOf b s reader values limit log) log r values′ log′
+        given : Returns (runOf b s reader values limit list log) log r values′ log′
         given =
             subst (λ o. Returns o log r values′ log′)
-            (run-alike (namesOf s) (namesOf s) (seesIn bk s reader) _ (nameCount s) (λ x l. refl) (λ x l. refl) agrees limit
+            (run-alike (namesOf s) (namesOf s) (listed list) (seesIn bk s reader) _ (nameCount s) (λ x l. refl) (λ x l. refl) agrees limit
             (length log / 4) (starts (tree s) values) named (tree-writes s (file .0)))
             g
 
-        path : IsRun (namesOf s) sees limit (length log / 4) (starts (tree s) values) (runOf b s reader values limit log)
-        path = runs-agree (namesOf s) sees limit (length log / 4) (starts (tree s) values) .path
+        path :
+            IsRun (namesOf s) (listed list) sees limit (length log / 4) (starts (tree s) values)
+            (runOf b s reader values limit list log)
+        path = runs-agree (namesOf s) (listed list) sees limit (length log / 4) (starts (tree s) values) .path
 
-        is : leftBy (runOf b s reader values limit log) log ≡ left b s reader values limit log
+        is : leftBy (runOf b s reader values limit list log) log ≡ left b s reader values limit list log
         unfolding left
         is = sym (rw p)
 
-        pub leaves : Leaves b s reader values limit log r values′ log′
+        pub leaves : Leaves b s reader values limit list log r values′ log′
         leaves =
             let steps : r .at .steps ≤ mostSteps = omega (arith, given .steps, path .steps, path .inLimit, bounds .1) in
             record {
               steps = steps;
               instants = omega (arith, given .within, steps);
               lines =
-                  omega
-                  (arith, given .lines, run-few (namesOf s) sees limit (length log / 4) (starts (tree s) values), bounds .1);
+                  omega (
+                    arith,
+                    given .lines,
+                    run-few (namesOf s) (listed list) sees limit (length log / 4) (starts (tree s) values),
+                    bounds .1,
+                  );
               report =
                   (λ i.
                   record {
@@ -141,6 +149,6 @@ module _ (b s : List ℕ) (reader : ℕ) (values : List ℤ) (limit : ℕ) where
               final = given .final ∙ ap (λ (l : Left). l .values) is;
               logged =
                   given .logged
-                  ∙ written-is (runOf b s reader values limit log .lines) log (omega (arith, path .inRoom))
+                  ∙ written-is (runOf b s reader values limit list log .lines) log (omega (arith, path .inRoom))
                   ∙ ap (λ (l : Left). l .log) is;
             }

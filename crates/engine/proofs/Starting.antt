@@ -13,6 +13,7 @@ use Rattle.language.proofs.Naming.{run-alike}
 use Rattle.layout.specs.Layout.{layoutOf, nameCount, nodeCount}
 use Rattle.layout.proofs.Layouts.{few-bounds}
 use Rattle.script.specs.Checked.{Checked}
+use Rattle.inputs.specs.Lists.{listed}
 use Rattle.tree.specs.Tree.{namesOf, tree}
 use Rattle.program.specs.Program as program
 use Rattle.plan.specs.Plan.{ProgramOf}
@@ -23,21 +24,32 @@ use Rattle.moves.specs.declared.counts.Counts.{Counts}
 use Rattle.moves.specs.Moves.{Running}
 use Rattle.runner.specs.declared.Ran.{Ran}
 use Rattle.runner.specs.Outcome.{Outcome, recorded, outcome}
-use Rattle.runner.specs.Contracts.{root, scriptAt, outcomeOf, Runs}
+use Rattle.arguments.specs.Contracts.{ListRight}
+use Rattle.runner.specs.Contracts.{root, scriptAt, ListIn, outcomeOf, Runs}
 use Rattle.engine.specs.Contracts.{Returns}
 
 -- nothing has been counted
 abbrev pub none : Counts
 none = record { steps = 0; instants = 0; lines = 0 }
 
+-- a list that is right for the file is right for its program
+pub listed-in :
+    {s list words : List ℕ} {sees : ℕ → Bool} → ProgramOf s sees words → ListRight s list → ListIn words list
+listed-in made right =
+    record {
+      rising = right .rising;
+      known = λ k l. omega (arith, right .known k l, made .names);
+      signals = λ k l. made .named _ (right .known k l) .signal ∙ right .signals k l;
+    }
+
 module _ (s : List ℕ) (ok : Checked s) {sees : ℕ → Bool} {words : List ℕ} (made : ProgramOf s sees words) (limit : ℕ)
-    (values : List ℤ) (log : List ℕ) where
+    (values : List ℤ) (list log : List ℕ) where
   abbrev room : ℕ
   room = length log / 4
 
   -- where the program's run stops
   abbrev ends : Stop ℕ
-  ends = reach (program.namesOf words) (program.seenBy words) limit room (starts (tree s) values)
+  ends = reach (program.namesOf words) (listed list) (program.seenBy words) limit room (starts (tree s) values)
 
   module _ (st : List ℕ) (clear : st ≡ replicate (program.nodeCount words) 0) where
     whole : residualOf words (root words) st ≡ tree s
@@ -47,25 +59,25 @@ module _ (s : List ℕ) (ok : Checked s) {sees : ℕ → Bool} {words : List ℕ
         ∙ ap (λ n. program.processOf words (n - 1)) (made .nodes)
         ∙ made .process (nodeCount s - 1) (omega (arith, some))
 
-    outcome-is : outcomeOf words limit room (scriptAt words st values log none) ≡ recorded 0 log ends
+    outcome-is : outcomeOf words list limit room (scriptAt words st values log none) ≡ recorded 0 log ends
     unfolding outcome
     outcome-is =
         rw (sub-zero limit, sub-zero room)
         (ap
         (λ (p : Proc ℕ).
         recorded 0 log
-        (reach (program.namesOf words) (program.seenBy words) limit room
+        (reach (program.namesOf words) (listed list) (program.seenBy words) limit room
         (record { process = p; values = values; steps = 0; instants = 0 })))
         whole)
 
     pub returns-run :
         length values ≡ nameCount s → {r : Ran} {st′ : List ℕ} {values′ back : List ℤ} {log′ : List ℕ} →
-        Runs words limit st values log none st′ values′ log′ r → back ≡ givenBack (program.namesOf words) values′ →
-        Returns (run (namesOf s) sees limit room (starts (tree s) values)) log r back log′
+        Runs words list limit st values log none st′ values′ log′ r → back ≡ givenBack (program.namesOf words) values′ →
+        Returns (run (namesOf s) (listed list) sees limit room (starts (tree s) values)) log r back log′
     returns-run e {r} {st′} {values′} {back} {log′} h b =
         let left-so = h .left ∙ ap (λ (o : Outcome ℕ). o .at) outcome-is in
         subst (λ o. Returns o log r back log′)
-        (run-alike (program.namesOf words) (namesOf s) (program.seenBy words) sees (nameCount s)
+        (run-alike (program.namesOf words) (namesOf s) (listed list) (program.seenBy words) sees (nameCount s)
         (λ x l. made .named x l .signal) (λ x l. made .named x l .session) (made .seen) limit room _ e (tree-writes s ok))
         (record {
           ending = h .ending ∙ ap (λ (o : Outcome ℕ). endingNumber (o .ending)) outcome-is;

@@ -9,6 +9,7 @@ use Rattle.prelude.specs.Refusals.{passes}
 use Rattle.lattice.specs.Lattice.{bookLattice}
 use Rattle.language.specs.Levels.{writeLevel, testLevel}
 use Rattle.language.specs.Calls.{Run, starts, readable, run, endingNumber, words}
+use Rattle.inputs.specs.Lists.{listed}
 use Rattle.tree.specs.Tree.{namesOf, tree}
 use Rattle.results.specs.declared.Verdict.{Verdict}
 use Rattle.results.specs.declared.RunResult.{RunResult}
@@ -27,10 +28,12 @@ verdict b s =
     (testLevel (bookLattice b) (namesOf s) (tree s)))
     (verdictBy (checkRefusal b s) 0 0)
 
--- The run of a script under a book, for a reader: its step limit, and a log that has room for a line in each four words.
-abbrev pub runOf : List ℕ → List ℕ → ℕ → List ℤ → ℕ → List ℕ → Run
-runOf b s reader values limit log =
-    run (namesOf s) (readable (bookLattice b) (namesOf s) reader) limit (length log / 4) (starts (tree s) values)
+-- The run of a script under a book, for a reader: its step limit, the signals that its list names for each instant, and a
+-- log that has room for a line in each four words.
+abbrev pub runOf : List ℕ → List ℕ → ℕ → List ℤ → ℕ → List ℕ → List ℕ → Run
+runOf b s reader values limit list log =
+    run (namesOf s) (listed list) (readable (bookLattice b) (namesOf s) reader) limit (length log / 4)
+    (starts (tree s) values)
 
 -- what a call of run leaves
 pub record Left : Type 0 where
@@ -52,9 +55,9 @@ leftBy r log =
 abbrev pub refusedLeft : Refusal → List ℤ → List ℕ → Left
 refusedLeft r values log = record { report = refusedReport r; values = values; log = log }
 
-unfoldable pub left : List ℕ → List ℕ → ℕ → List ℤ → ℕ → List ℕ → Left
-left b s reader values limit log =
+unfoldable pub left : List ℕ → List ℕ → ℕ → List ℤ → ℕ → List ℕ → List ℕ → Left
+left b s reader values limit list log =
     cond
-    (passes (runRefusal b s reader values limit))
-    (leftBy (runOf b s reader values limit log) log)
-    (refusedLeft (runRefusal b s reader values limit) values log)
+    (passes (runRefusal b s reader values limit list))
+    (leftBy (runOf b s reader values limit list log) log)
+    (refusedLeft (runRefusal b s reader values limit list) values log)

@@ -27,16 +27,17 @@ pub extern "C" fn station_run(
     reader: u32,
     values: &mut [i32],
     limit: u32,
+    list: &[u32],
     log: &mut [u32],
     out: &mut [u32],
 )
-    ensures { λ _. ⌜ now (out .exit) ≡ whereAsked 6 (now (out .entry)) (reportWords (left (now (book .entry)) (now (script .entry)) reader (now (values .entry)) limit (now (log .entry)) .report)) (now (out .entry)) ⌝ }
-    ensures { λ _. ⌜ now (values .exit) ≡ whereAsked 6 (now (out .entry)) (left (now (book .entry)) (now (script .entry)) reader (now (values .entry)) limit (now (log .entry)) .values) (now (values .entry)) ⌝ }
-    ensures { λ _. ⌜ now (log .exit) ≡ whereAsked 6 (now (out .entry)) (left (now (book .entry)) (now (script .entry)) reader (now (values .entry)) limit (now (log .entry)) .log) (now (log .entry)) ⌝ }
+    ensures { λ _. ⌜ now (out .exit) ≡ whereAsked 6 (now (out .entry)) (reportWords (left (now (book .entry)) (now (script .entry)) reader (now (values .entry)) limit (now (list .entry)) (now (log .entry)) .report)) (now (out .entry)) ⌝ }
+    ensures { λ _. ⌜ now (values .exit) ≡ whereAsked 6 (now (out .entry)) (left (now (book .entry)) (now (script .entry)) reader (now (values .entry)) limit (now (list .entry)) (now (log .entry)) .values) (now (values .entry)) ⌝ }
+    ensures { λ _. ⌜ now (log .exit) ≡ whereAsked 6 (now (out .entry)) (left (now (book .entry)) (now (script .entry)) reader (now (values .entry)) limit (now (list .entry)) (now (log .entry)) .log) (now (log .entry)) ⌝ }
 {
     if out.len() != 6 {
         return;
     }
-    let r = crate::run(book, script, reader, values, limit, log);
+    let r = crate::run(book, script, reader, values, limit, list, log);
     put_report(r, out);
 }

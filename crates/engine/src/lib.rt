@@ -34,10 +34,11 @@ fn run_checked(
     reader: usize,
     values: &mut [i32],
     limit: u32,
+    list: &[u32],
     log: &mut [u32],
 ) -> Ran
-    requires { ⌜ CanStart (now s) c b reader (now values) limit ⌝ }
-    ensures { λ r. ⌜ Returns (runFor b (now (s .entry)) reader (now (values .entry)) limit (now (log .entry))) (now (log .entry)) r (now (values .exit)) (now (log .exit)) ⌝ }
+    requires { ⌜ CanStart (now s) c b reader (now values) limit (now list) ⌝ }
+    ensures { λ r. ⌜ Returns (runFor b (now (s .entry)) reader (now (values .entry)) limit (now (list .entry)) (now (log .entry))) (now (log .entry)) r (now (values .exit)) (now (log .exit)) ⌝ }
 {
     let program = plan::find_plan(s, c, b, reader);
     let mut state = [0u8; Script::MAX_NODES];
@@ -48,30 +49,40 @@ fn run_checked(
         instants: 0,
         lines: 0,
     };
-    let r = runner::run(&program, values, &mut state[0..n], log, most, from);
+    let r = runner::run(&program, values, &mut state[0..n], list, log, most, from);
     instants::clear_owned(&program, values);
     r
 }
 
-// Runs a script under a book for a reader, from these values, for at most `limit` steps. A refused call changes nothing.
-// Else the values are those after the counted steps, with owned names 0, and the log begins with the run's lines.
+// Runs a script under a book for a reader, from these values, for at most `limit` steps. The list names signals that are
+// present as an instant begins: pairs of an instant and a signal. A refused call changes nothing. Else the values are
+// those after the counted steps, with owned names 0, and the log begins with the run's lines.
 pub fn run(
     book: &[u8],
     script: &[u8],
     reader: u32,
     values: &mut [i32],
     limit: u32,
+    list: &[u32],
     log: &mut [u32],
 ) -> RunResult
-    ensures { λ r. ⌜ r ≡ left (now (book .entry)) (now (script .entry)) reader (now (values .entry)) limit (now (log .entry)) .report ⌝ }
-    ensures { λ _. ⌜ now (values .exit) ≡ left (now (book .entry)) (now (script .entry)) reader (now (values .entry)) limit (now (log .entry)) .values ⌝ }
-    ensures { λ _. ⌜ now (log .exit) ≡ left (now (book .entry)) (now (script .entry)) reader (now (values .entry)) limit (now (log .entry)) .log ⌝ }
+    ensures { λ r. ⌜ r ≡ left (now (book .entry)) (now (script .entry)) reader (now (values .entry)) limit (now (list .entry)) (now (log .entry)) .report ⌝ }
+    ensures { λ _. ⌜ now (values .exit) ≡ left (now (book .entry)) (now (script .entry)) reader (now (values .entry)) limit (now (list .entry)) (now (log .entry)) .values ⌝ }
+    ensures { λ _. ⌜ now (log .exit) ≡ left (now (book .entry)) (now (script .entry)) reader (now (values .entry)) limit (now (list .entry)) (now (log .entry)) .log ⌝ }
 {
     let p = checker::prepare(book, script);
     if p.refusal.number != 0 {
         return refused_result(p.refusal);
     }
-    let refusal = arguments::call_refusal(script, p.script, p.book.count, reader, values, limit);
+    let refusal = arguments::call_refusal(
+        script,
+        p.script,
+        p.book.count,
+        reader,
+        values,
+        limit,
+        list,
+    );
     if refusal.number != 0 {
         return refused_result(refusal);
     }
@@ -82,6 +93,7 @@ pub fn run(
         reader as usize,
         values,
         limit,
+        list,
         log,
     );
     let at = r.at;

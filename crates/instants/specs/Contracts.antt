@@ -3,12 +3,13 @@ use mathlib.Core.Path.{_≡_}
 use mathlib.Core.Bool.{Bool, true, cond, not, _&&_}
 use mathlib.Core.List.{List}
 use Prim.Native.Nat.{ℕ, _≤_, _<_}
-use lib.IntN.{ℤ}
+use lib.IntN.{ℤ, pos}
 use lib.ListN.{length}
 use Rattle.prelude.specs.Search.{any}
 use Rattle.language.specs.Syntax.{Names}
-use Rattle.language.specs.Steps.{present, suspended, change, instantStart}
+use Rattle.language.specs.Steps.{held, present, suspended, change, noSignal, instantStart}
 use Rattle.language.specs.Calls.{givenBack}
+use Rattle.inputs.specs.Lists.{pairCount, signalAt}
 use Rattle.program.specs.Program.{namesOf}
 use Rattle.program.specs.Forms.{beside, partIn}
 use Rattle.residual.specs.Nodes.{NodeIn, inFront, inRear, residualOf}
@@ -36,9 +37,21 @@ abbrev pub isCleared : Names ℕ → Bool → ℕ → Bool
 isCleared names owned x = cond owned (not (names .isSession x)) (names .isSignal x)
 
 abbrev pub cleared : Names ℕ → Bool → List ℤ → List ℤ
-cleared names owned values = cond owned (givenBack names values) (instantStart names values)
+cleared names owned values = cond owned (givenBack names values) (instantStart names noSignal values)
 
--- what the end of an instant makes of node k, and of the values
+-- what the end of an instant makes of node k, and of the values: no signal is present yet
 pub record NextInstant (words : List ℕ) (k : ℕ) (st st′ : List ℕ) (vs vs′ : List ℤ) : Type 0 where
   pub process : residualOf words k st′ ≡ change (residualOf words k st) vs
-  pub values : vs′ ≡ instantStart (namesOf words) vs
+  pub values : vs′ ≡ instantStart (namesOf words) noSignal vs
+
+-- pairs of a list, and a value for each signal that they name
+pub record CanSet (list : List ℕ) (from to : ℕ) (values : List ℤ) : Type 0 where
+  pub order : from ≤ to
+  pub within : to ≤ pairCount list
+  pub valued : (k : ℕ) → k < pairCount list → signalAt list k < length values
+
+-- the signals of these pairs are present, and the other names as they were
+pub record MadePresent (list : List ℕ) (from to : ℕ) (before after : List ℤ) : Type 0 where
+  pub same : length after ≡ length before
+  pub named : (k : ℕ) → from ≤ k → k < to → held after (signalAt list k) ≡ pos 1
+  pub others : (x : ℕ) → ((k : ℕ) → from ≤ k → k < to → signalAt list k ≡ x → ⊥) → held after x ≡ held before x

@@ -8,11 +8,11 @@ use program::forms::find_rear;
 use program::forms::form_at;
 ghost use mathlib.Core.Path.{_≡_};
 ghost use Prim.Native.Nat.{_<_};
-ghost use Rattle.language.specs.Steps.{change, instantStart};
+ghost use Rattle.language.specs.Steps.{change, noSignal, instantStart};
 ghost use Rattle.language.specs.Calls.{givenBack};
 ghost use Rattle.program.specs.Program.{mostNames, namesOf};
 ghost use Rattle.residual.specs.Nodes.{Valued, NodeIn, residualOf};
-ghost use Rattle.instants.specs.Contracts.{someSignalPresent, isCleared, cleared, NextInstant};
+ghost use Rattle.instants.specs.Contracts.{someSignalPresent, isCleared, cleared, NextInstant, CanSet, MadePresent};
 
 // The instant change of node k, which goes into what is in front and reads the signals of the instant that ends.
 fn change_instant(program: &[usize; WORDS], values: &[i32], state: &mut [u8], k: usize)
@@ -92,7 +92,7 @@ fn clear(program: &[usize; WORDS], owned: bool, values: &mut [i32])
 // Every signal is absent.
 fn clear_signals(program: &[usize; WORDS], values: &mut [i32])
     requires { ⌜ Valued (now program) (now values) ⌝ }
-    ensures { λ _. ⌜ now (values .exit) ≡ instantStart (namesOf (now (program .entry))) (now (values .entry)) ⌝ }
+    ensures { λ _. ⌜ now (values .exit) ≡ instantStart (namesOf (now (program .entry))) noSignal (now (values .entry)) ⌝ }
 {
     clear(program, false, values);
 }
@@ -104,6 +104,19 @@ pub fn begin_instant(program: &[usize; WORDS], values: &mut [i32], state: &mut [
 {
     change_instant(program, values, state, k);
     clear_signals(program, values);
+}
+
+// The signals of the pairs from `from` up to `to` become present.
+pub fn make_present(list: &[u32], from: usize, to: usize, values: &mut [i32])
+    requires { ⌜ CanSet (now list) from to (now values) ⌝ }
+    ensures { λ _. ⌜ MadePresent (now (list .entry)) from to (now (values .entry)) (now (values .exit)) ⌝ }
+{
+    let mut k = from;
+    while k < to {
+        let a = inputs::signal_at(list, k);
+        values[a] = 1;
+        k += 1;
+    }
 }
 
 // Every owned name is 0.

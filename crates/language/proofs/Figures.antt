@@ -7,7 +7,7 @@ use mathlib.Core.Logic.{_⊎_, inl, inr}
 use lib.IntN.{ℤ}
 use Rattle.prelude.proofs.Bools.{by-cases, fails, and-left, and-right, or-left, or-right}
 use Rattle.language.specs.Syntax.{Names, Proc, nil, assign, letIn, ifThenElse, while, sequence, emit, local, watching, when, parallel, isNil}
-use Rattle.language.specs.Steps.{present, Output, silent, StepResult, leaves, inside, suspended, move, change, instantStart, step}
+use Rattle.language.specs.Steps.{present, Output, silent, StepResult, leaves, inside, suspended, move, change, Inputs, instantStart, step}
 use Rattle.language.specs.Calls.{System, output, next}
 use Rattle.language.specs.Suspension.{Suspended, WHEN-SUS₁, WHEN-SUS₂, WATCH-SUS, SEQ-SUS, PAR-SUS}
 use Rattle.language.specs.Moves.{Move, ASSIGN-OP, SEQ-OP₁, SEQ-OP₂, LET-OP, COND-OP₁, COND-OP₂, WHILE-OP₁, WHILE-OP₂, EMIT-OP, LOCAL-OP, WATCH-OP₁, WATCH-OP₂, WHEN-OP₁, WHEN-OP₂, PAR-OP₁, PAR-OP₂, PAR-OP₃}
@@ -202,7 +202,7 @@ module _ {L : Type 0} where
   change-is s (SEQ-SUS d) = SEQ-CHANGED (change-is s d)
   change-is s (PAR-SUS d d′) = PAR-CHANGED (change-is s d) (change-is s d′)
 
-module _ {L : Type 0} (names : Names L) (at : System L) where
+module _ {L : Type 0} (names : Names L) (inputs : Inputs) (at : System L) where
   -- a system from its parts
   abbrev built : Proc L → List ℤ → ℕ → System L
   built p s i = record { process = p; values = s; steps = suc (at .steps); instants = i }
@@ -212,7 +212,7 @@ module _ {L : Type 0} (names : Names L) (at : System L) where
   outcome b =
       cond
       b
-      (leaves (change (at .process) (at .values)) (instantStart names (at .values)))
+      (leaves (change (at .process) (at .values)) (instantStart names (inputs (suc (at .instants))) (at .values)))
       (move (at .process) (at .values))
 
   abbrev following : Bool → System L
@@ -220,27 +220,30 @@ module _ {L : Type 0} (names : Names L) (at : System L) where
 
   known :
       (b : Bool) → suspended (at .process) (at .values) ≡ b →
-      (output names at ≡ outcome b .output) × (next names at ≡ following b)
+      (output names inputs at ≡ outcome b .output) × (next names inputs at ≡ following b)
   unfolding step
-  known b h = subst (λ c. (output names at ≡ outcome c .output) × (next names at ≡ following c)) h (refl, refl)
+  known b h = subst (λ c. (output names inputs at ≡ outcome c .output) × (next names inputs at ≡ following c)) h (refl, refl)
 
-  pub step-only : {o : Output} {to : System L} → Step names at o to → (output names at ≡ o) × (next names at ≡ to)
+  pub step-only : {o : Output} {to : System L} → Step names inputs at o to → (output names inputs at ≡ o) × (next names inputs at ≡ to)
   step-only (MOVE d) =
       let k = known false (move-not-suspended d) in
       let m = move-only d in
       (k .0 ∙ m .0, k .1 ∙ ap₂ (λ p s. built p s (at .instants)) (m .1) (m .2))
   step-only (INSTANT-OP d c) =
-      let k = known true (suspended-of (at .values) d) in
-      (k .0, k .1 ∙ ap (λ p. built p (instantStart names (at .values)) (suc (at .instants))) (changed-only (at .values) c))
+      let k = known true (suspended-of (at .values) d) in (
+        k .0,
+        k .1 ∙ ap (λ p. built p (instantStart names (inputs (suc (at .instants))) (at .values)) (suc (at .instants)))
+            (changed-only (at .values) c),
+      )
 
-  pub step-is : isNil (at .process) ≡ false → Step names at (output names at) (next names at)
+  pub step-is : isNil (at .process) ≡ false → Step names inputs at (output names inputs at) (next names inputs at)
   unfolding step
   step-is n = go (suspended (at .process) (at .values)) refl
     where
-      go : (b : Bool) → suspended (at .process) (at .values) ≡ b → Step names at (outcome b .output) (following b)
+      go : (b : Bool) → suspended (at .process) (at .values) ≡ b → Step names inputs at (outcome b .output) (following b)
       go true h = let d = suspended-is (at .process) (at .values) h in INSTANT-OP d (change-is (at .values) d)
       go false h = MOVE (move-is (at .process) (at .values) n h)
 
-  pub nil-rests : isNil (at .process) ≡ true → {o : Output} {to : System L} → Step names at o to → ⊥
+  pub nil-rests : isNil (at .process) ≡ true → {o : Output} {to : System L} → Step names inputs at o to → ⊥
   nil-rests h (MOVE d) = true≢false (sym h ∙ move-not-nil d)
   nil-rests h (INSTANT-OP d c) = true≢false (sym h ∙ suspended-not-nil d)

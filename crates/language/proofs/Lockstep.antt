@@ -10,8 +10,8 @@ use lib.IntN.{ℤ}
 use Rattle.prelude.proofs.Bools.{by-cases, by-both}
 use Rattle.values.specs.Values.{holds, negation}
 use Rattle.language.specs.Syntax.{Names, Exp, constant, register, binary, negated, Occurs, here, left, right, under, Proc, nil, assign, letIn, ifThenElse, while, sequence, emit, local, watching, when, parallel, isNil}
-use Rattle.language.specs.Steps.{held, present, apply, evaluate, value, test, Output, silent, assigned, emitted, StepResult, inside, suspended, move, change, step}
-use Rattle.language.specs.Calls.{Line, System, lineFor, calledFor, output, next}
+use Rattle.language.specs.Steps.{held, present, apply, evaluate, value, test, Output, silent, assigned, emitted, StepResult, inside, suspended, move, change, Inputs, step}
+use Rattle.language.specs.Calls.{Line, System, lineFor, calledFor, stepOf, output, next}
 use Rattle.language.proofs.Stores.{set-unseen, LowEqual, set-low, instant-low, instant-register}
 use Rattle.language.proofs.Safe.{LowReads, LowTests, Quiet, Safe, step-uses}
 
@@ -213,17 +213,18 @@ module _ {L : Type 0} (names : Names L) (low : ℕ → Bool) where
       (λ v. silently refl q)
       (λ v. same-inside (λ z. parallel z p′) (move-same p s t q (h .2) kp)))
 
+  -- where the same low signals are listed
   step-same :
-      (p : Proc L) (s t : List ℤ) → LowEqual low s t → Safe names low p → Lockstep p →
-      SameResult (step names p s) (step names p t)
+      (I J : ℕ → Bool) → ((a : ℕ) → low a ≡ true → I a ≡ J a) → (p : Proc L) (s t : List ℤ) → LowEqual low s t →
+      Safe names low p → Lockstep p → SameResult (step names I p s) (step names J p t)
   unfolding step
-  step-same p s t q h k =
+  step-same I J same p s t q h k =
       by-both
       SameResult
       (suspended p s)
       (suspended p t)
       (suspended-same p s t q h k)
-      (λ u. silently (change-same p s t q h k) (instant-low names low s t q))
+      (λ u. silently (change-same p s t q h k) (instant-low names low I J s t same q))
       (λ u. move-same p s t q h k)
 
   -- an outcome that shows nothing low: its output is hidden, and the session's low registers are as they were
@@ -281,13 +282,14 @@ module _ {L : Type 0} (names : Names L) (low : ℕ → Bool) where
       (λ v. untouched (parallel q p) s)
       (λ v. unchanged-inside (λ z. parallel z q) (move-unchanged p s (h .0))))
 
-  step-unchanged : (p : Proc L) (s : List ℤ) → Quiet names low p → Unchanged s (step names p s)
+  step-unchanged :
+      (listed : ℕ → Bool) (p : Proc L) (s : List ℤ) → Quiet names low p → Unchanged s (step names listed p s)
   unfolding step
-  step-unchanged p s h =
+  step-unchanged listed p s h =
       by-cases
       (Unchanged s)
       (suspended p s)
-      (λ u. record { hidden = no-output; registers = λ x l w i. instant-register names s x i })
+      (λ u. record { hidden = no-output; registers = λ x l w i. instant-register names listed s x i })
       (λ u. move-unchanged p s h)
 
   -- Systems. A reader of the low names cannot tell these apart, and they are about to do the same.
@@ -337,19 +339,26 @@ module _ {L : Type 0} (names : Names L) (low : ℕ → Bool) where
   called-stamped at (assigned x v) = line-stamped at x v
   called-stamped at (emitted a) = line-stamped at a _
 
+  -- inputs that name the same low signals
+  abbrev pub LowInputs : Inputs → Inputs → Type 0
+  LowInputs I J = (i a : ℕ) → low a ≡ true → I i a ≡ J i a
+
   -- One step of two systems.
-  pub record SameStep (at at′ : System L) : Type 0 where
-    pub twins : Twins (next names at) (next names at′)
-    pub line : calledFor low at (output names at) ≡ calledFor low at′ (output names at′)
+  pub record SameStep (I J : Inputs) (at at′ : System L) : Type 0 where
+    pub twins : Twins (next names I at) (next names J at′)
+    pub line : calledFor low at (output names I at) ≡ calledFor low at′ (output names J at′)
 
   pub steps-alike :
-      (at at′ : System L) → Twins at at′ → Safe names low (at .process) → Lockstep (at .process) → SameStep at at′
-  steps-alike at at′ q h k =
-      let m =
+      (I J : Inputs) → LowInputs I J → (at at′ : System L) → Twins at at′ → Safe names low (at .process) →
+      Lockstep (at .process) → SameStep I J at at′
+  steps-alike I J same at at′ q h k =
+      let m : SameResult (stepOf names I at) (stepOf names J at′) =
       subst
-      (λ p. SameResult (step names (at .process) (at .values)) (step names p (at′ .values)))
+      (λ p. SameResult (stepOf names I at) (step names (J (suc (at′ .instants))) p (at′ .values)))
       (q .process)
-      (step-same (at .process) (at .values) (at′ .values) (q .values) h k)
+      (step-same (I (suc (at .instants))) (J (suc (at′ .instants)))
+      (λ a l. same (suc (at .instants)) a l ∙ ap (λ i. J (suc i) a) (q .instants))
+      (at .process) (at .values) (at′ .values) (q .values) h k)
       in
       let e =
       subst
@@ -369,18 +378,19 @@ module _ {L : Type 0} (names : Names L) (low : ℕ → Bool) where
       }
 
   -- One step of a system that writes nothing low.
-  pub record QuietStep (at : System L) : Type 0 where
-    pub quiet : Quiet names low (next names at .process)
-    pub line : calledFor low at (output names at) ≡ none
+  pub record QuietStep (inputs : Inputs) (at : System L) : Type 0 where
+    pub quiet : Quiet names low (next names inputs at .process)
+    pub line : calledFor low at (output names inputs at) ≡ none
     pub registers :
         (x : ℕ) → low x ≡ true → names .isSession x ≡ true → names .isSignal x ≡ false →
-        held (next names at .values) x ≡ held (at .values) x
+        held (next names inputs at .values) x ≡ held (at .values) x
 
-  pub steps-quietly : (at : System L) → Quiet names low (at .process) → QuietStep at
-  steps-quietly at h =
-      let k = step-unchanged (at .process) (at .values) h in
+  pub steps-quietly : (inputs : Inputs) (at : System L) → Quiet names low (at .process) → QuietStep inputs at
+  steps-quietly inputs at h =
+      let listed = inputs (suc (at .instants)) in
+      let k = step-unchanged listed (at .process) (at .values) h in
       record {
-        quiet = step-uses _ _ _ names (at .process) (at .values) h;
+        quiet = step-uses _ _ _ names listed (at .process) (at .values) h;
         line = called-none at (k .hidden);
         registers = k .registers;
       }

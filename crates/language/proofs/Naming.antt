@@ -10,7 +10,7 @@ use lib.ListN.{length, length-set}
 use Rattle.prelude.proofs.Bools.{by-cases}
 use Rattle.prelude.proofs.Tables.{table-same}
 use Rattle.language.specs.Syntax.{Names, Proc, nil, assign, letIn, ifThenElse, while, sequence, emit, local, watching, when, parallel, isNil}
-use Rattle.language.specs.Steps.{Output, silent, assigned, emitted, StepResult, leaves, suspended, change, move, instantStart, step}
+use Rattle.language.specs.Steps.{Output, silent, assigned, emitted, StepResult, leaves, suspended, change, move, Inputs, instantStart, step}
 use Rattle.language.specs.Calls.{System, Stop, calledFor, givenBack, returned, output, next, behind, reach, run}
 use Rattle.language.proofs.Stores.{instant-length}
 use Rattle.language.proofs.Safe.{Uses, step-uses}
@@ -47,13 +47,15 @@ module _ {L : Type 0} (P : ℕ → Type 0) where
       by-cases (Keeps (length s)) (isNil p) (λ _. (refl, tt))
       (λ _. by-cases (Keeps (length s)) (suspended p s) (λ _. (refl, tt)) (λ _. move-keeps p s (h .0)))
 
-  step-keeps : (names : Names L) (p : Proc L) (s : List ℤ) → WritesOnly P p → Keeps (length s) (step names p s)
+  step-keeps :
+      (names : Names L) (listed : ℕ → Bool) (p : Proc L) (s : List ℤ) → WritesOnly P p →
+      Keeps (length s) (step names listed p s)
   unfolding step
-  step-keeps names p s h =
-      by-cases (Keeps (length s)) (suspended p s) (λ _. (instant-length names s, tt)) (λ _. move-keeps p s h)
+  step-keeps names listed p s h =
+      by-cases (Keeps (length s)) (suspended p s) (λ _. (instant-length names listed s, tt)) (λ _. move-keeps p s h)
 
 -- Names and readers that agree on the first n names.
-module _ {L : Type 0} (names names′ : Names L) (seen seen′ : ℕ → Bool) (n : ℕ)
+module _ {L : Type 0} (names names′ : Names L) (inputs : Inputs) (seen seen′ : ℕ → Bool) (n : ℕ)
     (signals : (x : ℕ) → x < n → names .isSignal x ≡ names′ .isSignal x)
     (sessions : (x : ℕ) → x < n → names .isSession x ≡ names′ .isSession x)
     (sights : (x : ℕ) → x < n → seen x ≡ seen′ x) where
@@ -61,9 +63,10 @@ module _ {L : Type 0} (names names′ : Names L) (seen seen′ : ℕ → Bool) (
   unfolding givenBack
   back-same s e = table-same _ _ (length s) (λ x l. rw (sessions x (omega (arith, e, l))))
 
-  step-same : (p : Proc L) (s : List ℤ) → length s ≡ n → step names p s ≡ step names′ p s
+  step-same :
+      (listed : ℕ → Bool) (p : Proc L) (s : List ℤ) → length s ≡ n → step names listed p s ≡ step names′ listed p s
   unfolding step instantStart
-  step-same p s e =
+  step-same listed p s e =
       ap (λ z. cond (suspended p s) (leaves (change p s) z) (move p s))
       (table-same _ _ (length s) (λ x l. rw (signals x (omega (arith, e, l)))))
 
@@ -80,24 +83,25 @@ module _ {L : Type 0} (names names′ : Names L) (seen seen′ : ℕ → Bool) (
 
   runs-same :
       (k room : ℕ) (at : System L) → length (at .values) ≡ n → WritesOnly (λ x. x < n) (at .process) →
-      Same (reach names seen k room at) (reach names′ seen′ k room at)
+      Same (reach names inputs seen k room at) (reach names′ inputs seen′ k room at)
   runs-same zero room at e w =
-      both-stay names names′ seen seen′ Same at at refl (λ _. record { same = refl; long = e }) room
+      both-stay names names′ inputs inputs seen seen′ Same at at refl (λ _. record { same = refl; long = e }) room
   runs-same (suc k) room at e w =
-      let h = step-keeps (λ x. x < n) names (at .process) (at .values) w in
-      let q = step-same (at .process) (at .values) e in
-      both-go names names′ seen seen′ Same at at refl (λ _. record { same = refl; long = e })
-      (called-same at (output names at) (h .1) ∙ ap (λ (r : StepResult L). calledFor seen′ at (r .output)) q)
+      let listed = inputs (suc (at .instants)) in
+      let h = step-keeps (λ x. x < n) names listed (at .process) (at .values) w in
+      let q = step-same listed (at .process) (at .values) e in
+      both-go names names′ inputs inputs seen seen′ Same at at refl (λ _. record { same = refl; long = e })
+      (called-same at (output names inputs at) (h .1) ∙ ap (λ (r : StepResult L). calledFor seen′ at (r .output)) q)
       (λ l r r′ _ u. record { same = ap (behind (l ∷ [])) (u .same); long = u .long })
       k k room
       (λ left.
-      let u = runs-same k left (next names at) (h .0 ∙ e) (step-uses _ _ _ names (at .process) (at .values) w) in
+      let u = runs-same k left (next names inputs at) (h .0 ∙ e) (step-uses _ _ _ names listed (at .process) (at .values) w) in
       record {
         same =
             u .same
             ∙ ap
             (λ (r : StepResult L).
-            reach names′ seen′ k left
+            reach names′ inputs seen′ k left
             (record {
               process = r .process;
               values = r .values;
@@ -110,12 +114,12 @@ module _ {L : Type 0} (names names′ : Names L) (seen seen′ : ℕ → Bool) (
 
   -- a run asks only about these names
   module _ (k room : ℕ) (at : System L) (e : length (at .values) ≡ n) (w : WritesOnly (λ x. x < n) (at .process)) where
-    pub reach-alike : reach names seen k room at ≡ reach names′ seen′ k room at
+    pub reach-alike : reach names inputs seen k room at ≡ reach names′ inputs seen′ k room at
     reach-alike = runs-same k room at e w .same
 
-    pub run-alike : run names seen k room at ≡ run names′ seen′ k room at
+    pub run-alike : run names inputs seen k room at ≡ run names′ inputs seen′ k room at
     run-alike =
-        let r = reach names seen k room at in
+        let r = reach names inputs seen k room at in
         (λ i.
         record {
           ending = r .ending;

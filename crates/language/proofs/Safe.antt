@@ -61,9 +61,10 @@ module _ {L : Type 0} (tested written declared : ℕ → Type 0) where
       (λ t. h .1)
       (λ f. by-cases UsesAfter (suspended p s) (λ t. (h .1, h .0)) (λ g. (move-uses p s (h .0), h .1)))
 
-  pub step-uses : (names : Names L) (p : Proc L) (s : List ℤ) → Uses p → UsesAfter (step names p s)
+  pub step-uses :
+      (names : Names L) (listed : ℕ → Bool) (p : Proc L) (s : List ℤ) → Uses p → UsesAfter (step names listed p s)
   unfolding step
-  step-uses names p s h = by-cases UsesAfter (suspended p s) (λ t. change-uses p s h) (λ f. move-uses p s h)
+  step-uses names listed p s h = by-cases UsesAfter (suspended p s) (λ t. change-uses p s h) (λ f. move-uses p s h)
 
 module _ {L : Type 0} (names : Names L) (low : ℕ → Bool) where
   abbrev pub LowReads : Exp → Type 0
@@ -164,6 +165,7 @@ module _ {L : Type 0} (names : Names L) (low : ℕ → Bool) where
       (λ t. (h .1, h .0, h .3, h .2))
       (λ g. (⊎-map (move-tests p s) (λ u. u) (h .0), ⊎-map (λ u. u) (move-quiet p s) (h .1), move-safe p s (h .2), h .3)))
 
-  pub step-safe : (p : Proc L) (s : List ℤ) → Safe names low p → SafeAfter (step names p s)
+  pub step-safe :
+      (listed : ℕ → Bool) (p : Proc L) (s : List ℤ) → Safe names low p → SafeAfter (step names listed p s)
   unfolding step
-  step-safe p s h = by-cases SafeAfter (suspended p s) (λ t. change-safe p s h) (λ f. move-safe p s h)
+  step-safe listed p s h = by-cases SafeAfter (suspended p s) (λ t. change-safe p s h) (λ f. move-safe p s h)

@@ -1,8 +1,8 @@
 -- What the names hold after a store, at the start of an instant, and when a run gives its values back.
-use Prim.Native.Nat.{ℕ, _≤_}
+use Prim.Native.Nat.{ℕ, _≤_, _<_}
 use native.Mathlib.Decide.{decLt, ℕ-discrete}
 use native.Mathlib.Omega.{arith}
-use mathlib.Core.Path.{_≡_, refl, sym, ap, _∙_}
+use mathlib.Core.Path.{_≡_, refl, sym, ap, ap₂, _∙_}
 use mathlib.Core.Bool.{Bool, true, false, cond, true≢false}
 use mathlib.Core.List.{List}
 use lib.IntN.{ℤ, pos}
@@ -11,6 +11,7 @@ use lib.Seq.{getD-set-same, getD-set-other, set-out}
 use Rattle.prelude.specs.Table.{table}
 use Rattle.prelude.proofs.Bools.{by-cases}
 use Rattle.prelude.proofs.Tables.{length-table, table-at}
+use Rattle.values.specs.Values.{truth}
 use Rattle.language.specs.Syntax.{Names}
 use Rattle.language.specs.Steps.{held, instantStart}
 use Rattle.language.specs.Calls.{givenBack}
@@ -62,24 +63,28 @@ mapped f s x h =
           ∙ sym (h (omega arith))
     ]
 
-module _ {L : Type 0} (names : Names L) (s : List ℤ) where
-  pub instant-at : (x : ℕ) → held (instantStart names s) x ≡ cond (names .isSignal x) (pos 0) (held s x)
+module _ {L : Type 0} (names : Names L) (listed : ℕ → Bool) (s : List ℤ) where
+  pub instant-at :
+      (x : ℕ) → x < length s →
+      held (instantStart names listed s) x ≡ cond (names .isSignal x) (truth (listed x)) (held s x)
   unfolding instantStart
-  instant-at x =
-      mapped
-      _
-      s
-      x
-      (λ o. by-cases (λ z. z ≡ pos 0) (names .isSignal x) (λ k. refl) (λ k. List·getD-eq-default s (pos 0) o))
+  instant-at x l = table-at _ (length s) x (pos 0) l
 
-  -- an instant keeps the registers
-  pub instant-register : (x : ℕ) → names .isSignal x ≡ false → held (instantStart names s) x ≡ held s x
-  instant-register x h = instant-at x ∙ rw h
-
-  pub instant-length : length (instantStart names s) ≡ length s
+  pub instant-length : length (instantStart names listed s) ≡ length s
   unfolding instantStart
   instant-length = length-table _ (length s)
 
+  instant-past : (x : ℕ) → length s ≤ x → held (instantStart names listed s) x ≡ held s x
+  instant-past x o =
+      List·getD-eq-default (instantStart names listed s) (pos 0) (omega (arith, instant-length))
+      ∙ sym (List·getD-eq-default s (pos 0) o)
+
+  -- an instant keeps the registers
+  pub instant-register : (x : ℕ) → names .isSignal x ≡ false → held (instantStart names listed s) x ≡ held s x
+  instant-register x h =
+      elim (decLt x (length s)) [ yes l ↦ instant-at x l ∙ rw h | no o ↦ instant-past x (omega arith) ]
+
+module _ {L : Type 0} (names : Names L) (s : List ℤ) where
   -- a run gives back what its session names hold, and 0 of its owned names
   given-back-at : (x : ℕ) → held (givenBack names s) x ≡ cond (names .isSession x) (held s x) (pos 0)
   unfolding givenBack
@@ -93,14 +98,23 @@ module _ {L : Type 0} (names : Names L) (s : List ℤ) where
   pub given-back-owned : (x : ℕ) → names .isSession x ≡ false → held (givenBack names s) x ≡ pos 0
   given-back-owned x h = given-back-at x ∙ rw h
 
+-- where the same low signals are listed
 pub instant-low :
-    {L : Type 0} (names : Names L) (low : ℕ → Bool) (s t : List ℤ) → LowEqual low s t →
-    LowEqual low (instantStart names s) (instantStart names t)
-instant-low names low s t q =
+    {L : Type 0} (names : Names L) (low I J : ℕ → Bool) (s t : List ℤ) → ((a : ℕ) → low a ≡ true → I a ≡ J a) →
+    LowEqual low s t → LowEqual low (instantStart names I s) (instantStart names J t)
+instant-low names low I J s t same q =
     record {
-      lengths = instant-length names s ∙ q .lengths ∙ sym (instant-length names t);
+      lengths = instant-length names I s ∙ q .lengths ∙ sym (instant-length names J t);
       agree =
-          λ x l. instant-at names s x
-          ∙ ap (cond (names .isSignal x) (pos 0)) (q .agree x l)
-          ∙ sym (instant-at names t x);
+          λ x l.
+          elim (decLt x (length s)) [
+            | yes i ↦
+                instant-at names I s x i
+                ∙ ap₂ (λ b v. cond (names .isSignal x) (truth b) v) (same x l) (q .agree x l)
+                ∙ sym (instant-at names J t x (omega (arith, q .lengths)))
+            | no o ↦
+                instant-past names I s x (omega arith)
+                ∙ q .agree x l
+                ∙ sym (instant-past names J t x (omega (arith, q .lengths)))
+          ];
     }

@@ -9,10 +9,10 @@ use Rattle.lattice.specs.Lattice.{Lattice, Laws}
 use Rattle.language.specs.Syntax.{Names, Proc}
 use Rattle.language.specs.Scope.{Scoped}
 use Rattle.language.specs.Levels.{writeLevel, testLevel, needs}
-use Rattle.language.specs.Steps.{held}
+use Rattle.language.specs.Steps.{held, Inputs, instantStart}
 use Rattle.language.specs.Calls.{System, starts, readable, reach}
 use Rattle.language.specs.Typing.{environment, Below, Typed}
-use Rattle.language.specs.Results.{StepsAgree, RunsAgree, RunsJoin, LevelsAgree, StartsAgree, NonInterference}
+use Rattle.language.specs.Results.{AllAbsent, StepsAgree, RunsAgree, RunsJoin, LevelsAgree, StartsAgree, NonInterference}
 use Rattle.language.proofs.Needs.{Needs, needs-hold, hold-needs}
 use Rattle.language.proofs.Typing.{derives, derived, environment-covers, environment-agrees}
 use Rattle.language.proofs.Figures.{step-is, step-only, nil-rests}
@@ -23,23 +23,33 @@ use Rattle.language.proofs.Lockstep.{Twins}
 use Rattle.language.proofs.Noninterference.{Same, agree, prefix}
 use Rattle.language.proofs.Flows.{safe-of}
 
-pub steps-agree : {L : Type 0} (names : Names L) (at : System L) → StepsAgree names at
-steps-agree names at =
+pub all-absent : {L : Type 0} (names : Names L) → AllAbsent names
+unfolding instantStart
+all-absent names i s = refl
+
+pub steps-agree : {L : Type 0} (names : Names L) (inputs : Inputs) (at : System L) → StepsAgree names inputs at
+steps-agree names inputs at =
     record {
       allowed =
-          step-is names at;
-      only = λ o to d. step-only names at d;
-      nil-rests = λ h o to d. nil-rests names at h d;
+          step-is names inputs at;
+      only = λ o to d. step-only names inputs at d;
+      nil-rests = λ h o to d. nil-rests names inputs at h d;
     }
 
 pub runs-agree :
-    {L : Type 0} (names : Names L) (seen : ℕ → Bool) (n room : ℕ) (at : System L) → RunsAgree names seen n room at
-runs-agree names seen n room at = record { path = run-is names seen n room at; only = run-only names seen n room at }
+    {L : Type 0} (names : Names L) (inputs : Inputs) (seen : ℕ → Bool) (n room : ℕ) (at : System L) →
+    RunsAgree names inputs seen n room at
+runs-agree names inputs seen n room at =
+    record { path = run-is names inputs seen n room at; only = run-only names inputs seen n room at }
 
 pub runs-join :
-    {L : Type 0} (names : Names L) (seen : ℕ → Bool) (n room : ℕ) (at : System L) → RunsJoin names seen n room at
-runs-join names seen n room at =
-    record { joins = λ limit. reach-onward names seen n limit room at; once = reach-once names seen room at }
+    {L : Type 0} (names : Names L) (inputs : Inputs) (seen : ℕ → Bool) (n room : ℕ) (at : System L) →
+    RunsJoin names inputs seen n room at
+runs-join names inputs seen n room at =
+    record {
+      joins = λ limit. reach-onward names inputs seen n limit room at;
+      once = reach-once names inputs seen room at;
+    }
 
 module _
     {L : Type 0} (𝓛 : Lattice L) (laws : Laws 𝓛) (names : Names L) (p : Proc L) (scope : ℕ → Bool)
@@ -86,22 +96,22 @@ module _
         equal x l false k = h .owned x k .0 ∙ sym (h .owned x k .1)
 
     pub noninterference : needs 𝓛 names p ≡ true → (reader : L) → NonInterference 𝓛 names reader p
-    noninterference h reader s t q room n m l =
+    noninterference h reader s t q I J same room n m l =
         record {
-          shorter = both .lines ∙ prefix names low n m n room (starts p t) (zero-add n) l;
-          equal = λ e. both .lines ∙ ap (λ j. reach names low j room (starts p t) .lines) e;
+          shorter = both .lines ∙ prefix names low J n m n room (starts p t) (zero-add n) l;
+          equal = λ e. both .lines ∙ ap (λ j. reach names J low j room (starts p t) .lines) e;
           registers =
               λ e x w i u.
               given-back-session names _ x w
               ∙ both .registers x u w i
-              ∙ ap (λ j. held (reach names low j room (starts p t) .at .values) x) e
+              ∙ ap (λ j. held (reach names J low j room (starts p t) .at .values) x) e
               ∙ sym (given-back-session names _ x w);
         }
       where
         low : ℕ → Bool
         low = readable 𝓛 names reader
 
-        both : Same names low (reach names low n room (starts p s)) (reach names low n room (starts p t))
+        both : Same names low (reach names I low n room (starts p s)) (reach names J low n room (starts p t))
         both =
-            agree names low n room (starts p s) (starts p t) (starts-twins reader s t q)
+            agree names low I J same n room (starts p s) (starts p t) (starts-twins reader s t q)
             (safe-of 𝓛 laws names reader p (names .isSession) scoped (needs-hold 𝓛 names p h))

@@ -10,7 +10,7 @@ use mir.Val.{ofZ}
 use Rattle.prelude.specs.Table.{table}
 use Rattle.lattice.specs.Lattice.{Lattice}
 use Rattle.language.specs.Syntax.{Names, Proc, isNil}
-use Rattle.language.specs.Steps.{held, Output, silent, assigned, emitted, suspended, step}
+use Rattle.language.specs.Steps.{held, Output, silent, assigned, emitted, StepResult, suspended, Inputs, step}
 
 -- 'step from 1, instant from 0, name, value (1 for an emission)'
 pub record Line : Type 0 where
@@ -84,20 +84,25 @@ module _ {L : Type 0} (seen : ℕ → Bool) (at : System L) where
   calledFor (assigned x v) = lineFor x v
   calledFor (emitted a) = lineFor a (pos 1)
 
-module _ {L : Type 0} (names : Names L) where
+module _ {L : Type 0} (names : Names L) (inputs : Inputs) where
+  -- the step of a system: an instant change enters the next instant
+  abbrev pub stepOf : System L → StepResult L
+  stepOf at = step names (inputs (suc (at .instants))) (at .process) (at .values)
+
   -- what a step shows, and the system after it
   abbrev pub output : System L → Output
-  output at = step names (at .process) (at .values) .output
+  output at = stepOf at .output
 
   abbrev pub next : System L → System L
   next at =
       record {
-        process = step names (at .process) (at .values) .process;
-        values = step names (at .process) (at .values) .values;
+        process = stepOf at .process;
+        values = stepOf at .values;
         steps = suc (at .steps);
         instants = cond (suspended (at .process) (at .values)) (suc (at .instants)) (at .instants);
       }
 
+module _ {L : Type 0} (names : Names L) where
   -- 'Values then hold the state after the counted steps, owned names 0.'
   unfoldable pub givenBack : List ℤ → List ℤ
   givenBack s = table (λ x. cond (names .isSession x) (held s x) (pos 0)) (length s)
@@ -128,7 +133,7 @@ module _ {L : Type 0} where
   noted (some l) zero go full = full
   noted (some l) (suc room) go full = behind (l ∷ []) (go room)
 
-module _ {L : Type 0} (names : Names L) (seen : ℕ → Bool) where
+module _ {L : Type 0} (names : Names L) (inputs : Inputs) (seen : ℕ → Bool) where
   -- Where a run of at most n steps more stops, with room for so many lines. 'Before each step: 0 finished if the script
   -- is nil; else 1 spent if the limit is reached; else 2 log full if this step needs a line and no four words are
   -- left.'
@@ -138,7 +143,11 @@ module _ {L : Type 0} (names : Names L) (seen : ℕ → Bool) where
       cond
       (isNil (at .process))
       (halts finished at)
-      (noted (calledFor seen at (output names at)) room (λ left. reach n left (next names at)) (halts logFull at))
+      (noted
+      (calledFor seen at (output names inputs at))
+      room
+      (λ left. reach n left (next names inputs at))
+      (halts logFull at))
 
   -- what that run returns
   abbrev pub run : ℕ → ℕ → System L → Run

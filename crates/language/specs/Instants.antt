@@ -5,7 +5,7 @@ use mathlib.Core.Bool.{Bool, true, false}
 use mathlib.Core.List.{List}
 use lib.IntN.{ℤ}
 use Rattle.language.specs.Syntax.{Names, Proc, nil, sequence, watching, when, parallel}
-use Rattle.language.specs.Steps.{present, Output, silent, instantStart}
+use Rattle.language.specs.Steps.{present, Output, silent, Inputs, instantStart}
 use Rattle.language.specs.Calls.{System}
 use Rattle.language.specs.Suspension.{Suspended}
 use Rattle.language.specs.Moves.{Move}
@@ -19,17 +19,18 @@ pub data Changed {L : Type 0} (E : ℕ → Bool) : Proc L → Proc L → Type 0 
   SEQ-CHANGED : {p p′ q : Proc L} → Changed E p p′ → Changed E (sequence p q) (sequence p′ q)
   PAR-CHANGED : {p p′ q q′ : Proc L} → Changed E p p′ → Changed E q q′ → Changed E (parallel p q) (parallel p′ q′)
 
--- A step is a move or an instant change; it is counted, and an instant change counts an instant.
-pub data Step {L : Type 0} (names : Names L) (at : System L) : Output → System L → Type 0 where
+-- A step is a move or an instant change; it is counted, and an instant change counts an instant. The signals of the
+-- instant that it enters are I: where the report has ⟨Γ, S, ∅, [P]_E⟩ there is ⟨Γ, S, I, [P]_E⟩.
+pub data Step {L : Type 0} (names : Names L) (inputs : Inputs) (at : System L) : Output → System L → Type 0 where
   MOVE :
       {o : Output} {p′ : Proc L} {s′ : List ℤ} → Move (at .values) (at .process) o p′ s′ →
-      Step names at o (record { process = p′; values = s′; steps = suc (at .steps); instants = at .instants })
+      Step names inputs at o (record { process = p′; values = s′; steps = suc (at .steps); instants = at .instants })
   INSTANT-OP :
       {p′ : Proc L} → Suspended (present (at .values)) (at .process) →
       Changed (present (at .values)) (at .process) p′ →
-      Step names at silent (record {
+      Step names inputs at silent (record {
         process = p′;
-        values = instantStart names (at .values);
+        values = instantStart names (inputs (suc (at .instants))) (at .values);
         steps = suc (at .steps);
         instants = suc (at .instants);
       })

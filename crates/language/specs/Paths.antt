@@ -6,17 +6,17 @@ use mathlib.Core.Option.{some}
 use mathlib.Core.List.{List, [], _++_, Option·toList}
 use lib.ListN.{length}
 use Rattle.language.specs.Syntax.{Names, isNil}
-use Rattle.language.specs.Steps.{Output}
+use Rattle.language.specs.Steps.{Output, Inputs}
 use Rattle.language.specs.Calls.{Line, Ending, finished, spent, logFull, System, Run, calledFor, givenBack}
 use Rattle.language.specs.Instants.{Step}
 
-module _ {L : Type 0} (names : Names L) (seen : ℕ → Bool) where
+module _ {L : Type 0} (names : Names L) (inputs : Inputs) (seen : ℕ → Bool) where
   -- n steps from one system to another, with the lines that they call for
   pub data Path : ℕ → System L → List Line → System L → Type 0 where
     here : {at : System L} → Path zero at [] at
     more :
         {n : ℕ} {at mid end : System L} {o : Output} {ls : List Line} →
-        Step names at o mid → Path n mid ls end → Path (suc n) at (Option·toList (calledFor seen at o) ++ ls) end
+        Step names inputs at o mid → Path n mid ls end → Path (suc n) at (Option·toList (calledFor seen at o) ++ ls) end
 
   -- Why a run ends at a system, after so many of at most n steps and with so many lines of at most `room`: 'finished if
   -- the script is nil; else spent if the limit is reached; else log full if this step needs a line and no four words
@@ -26,7 +26,7 @@ module _ {L : Type 0} (names : Names L) (seen : ℕ → Bool) where
     LIMIT-REACHED : {lines : ℕ} → isNil (at .process) ≡ false → RunEnds n room at spent n lines
     LOG-FULL :
         {made : ℕ} {o : Output} {to : System L} {l : Line} →
-        made < n → Step names at o to → calledFor seen at o ≡ some l → RunEnds n room at logFull made room
+        made < n → Step names inputs at o to → calledFor seen at o ≡ some l → RunEnds n room at logFull made room
 
   -- a run of at most n steps and `room` lines, as a path of the report's relation
   pub record IsRun (n room : ℕ) (at : System L) (r : Run) : Type 0 where

@@ -5,7 +5,7 @@ use mathlib.Core.List.{List}
 use lib.IntN.{ℤ, pos}
 use lib.ListN.{getD, set, length}
 use Rattle.prelude.specs.Table.{table}
-use Rattle.values.specs.Values.{sum, difference, product, quotient, holds, lessThan, equalTo, negation}
+use Rattle.values.specs.Values.{sum, difference, product, quotient, holds, truth, lessThan, equalTo, negation}
 use Rattle.language.specs.Syntax.{Names, Operator, add, subtract, multiply, divide, less, equal, Exp, constant, register, binary, negated, Proc, nil, assign, letIn, ifThenElse, while, sequence, emit, local, watching, when, parallel, isNil}
 
 -- The values: one number for each name. The report's store S is what its registers hold; a signal is in the report's
@@ -112,11 +112,24 @@ module _ {L : Type 0} where
   change (when a p) s = cond (present s a) (when a (change p s)) (when a p)
   change (parallel p q) s = parallel (change p s) (change q s)
 
-module _ {L : Type 0} (names : Names L) where
-  -- What an instant begins with: 'Then every signal is absent.'
-  unfoldable pub instantStart : List ℤ → List ℤ
-  instantStart s = table (λ x. cond (names .isSignal x) (pos 0) (held s x)) (length s)
+-- The signals that the instrument makes present, for each instant: 02 (a), 'its listed signals'.
+abbrev pub Inputs : Type 0
+Inputs = ℕ → ℕ → Bool
 
-  -- 'If the whole is suspended, the step is an instant change.'
+-- ∅: no signal; and none in any instant
+abbrev pub noSignal : ℕ → Bool
+noSignal a = false
+
+abbrev pub noInputs : Inputs
+noInputs i = noSignal
+
+module _ {L : Type 0} (names : Names L) (listed : ℕ → Bool) where
+  -- What an instant begins with for which these signals are listed: 'Then every signal is absent', but 'on entering an
+  -- instant its listed signals are present'.
+  unfoldable pub instantStart : List ℤ → List ℤ
+  instantStart s = table (λ x. cond (names .isSignal x) (truth (listed x)) (held s x)) (length s)
+
+  -- 'If the whole is suspended, the step is an instant change.' The listed signals are those of the instant that it
+  -- enters: they are present 'in the same step as the change and without a log line'.
   unfoldable pub step : Proc L → List ℤ → StepResult L
   step p s = cond (suspended p s) (leaves (change p s) (instantStart s)) (move p s)

@@ -40,7 +40,7 @@ module _ {seen : ℕ → Bool} {limit room : ℕ} where
   path-space stays h = h
   path-space {at} (moves r p) h = path-space p (lines-fit room (nextLine seen at) (at .lines) h (r .space))
 
-  path-instants : {at to : Running ℕ} → MovePath seen limit room at to → to .instants ≡ at .instants
+  pub path-instants : {at to : Running ℕ} → MovePath seen limit room at to → to .instants ≡ at .instants
   unfolding moved
   path-instants stays = refl
   path-instants (moves r p) = path-instants p

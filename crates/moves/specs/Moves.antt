@@ -10,7 +10,7 @@ use lib.ListN.{set}
 use mir.Syntax.{w32}
 use mir.Val.{ofZ}
 use Rattle.language.specs.Syntax.{Names, Proc, isNil}
-use Rattle.language.specs.Steps.{leaves, suspended, move, change, instantStart}
+use Rattle.language.specs.Steps.{leaves, suspended, move, change, Inputs, instantStart}
 use Rattle.language.specs.Calls.{Line, System, calledFor}
 use Rattle.moves.specs.declared.counts.Counts.{Counts}
 use Rattle.moves.specs.declared.counts.Reason.{Reason}
@@ -67,11 +67,11 @@ module _ {L : Type 0} where
       }
 
 -- after an instant change, which is a step, and writes no line
-abbrev pub changed : {L : Type 0} → Names L → Running L → Running L
-changed names at =
+abbrev pub changed : {L : Type 0} → Names L → Inputs → Running L → Running L
+changed names inputs at =
     record {
       process = change (at .process) (at .values);
-      values = instantStart names (at .values);
+      values = instantStart names (inputs (suc (at .instants))) (at .values);
       log = at .log;
       steps = suc (at .steps);
       instants = suc (at .instants);

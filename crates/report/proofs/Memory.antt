@@ -13,7 +13,7 @@ use lib.ListN.{set, length, length-set}
 use lib.Seq.{getD-set-same, getD-set-other}
 use borrow.Author.Tests.{eq-eqb, ne-eqb, eqb-true}
 use Rattle.prelude.proofs.Bools.{fails, by-cases}
-use Rattle.values.specs.Values.{holds}
+use Rattle.values.specs.Values.{holds, truth}
 use Rattle.language.specs.Syntax.{Names}
 use Rattle.language.specs.NameKinds.{Kind, var, sig, same, put, isOf}
 use Rattle.language.specs.Typing.{Environment}
@@ -22,7 +22,6 @@ use Rattle.language.proofs.NameKinds.{same-kind, same-number, same-at, other, o
 use Rattle.language.proofs.Stores.{instant-at, instant-length}
 use Rattle.report.specs.Names.{Renaming}
 use Rattle.report.specs.Configurations.{update}
-use Rattle.report.specs.Instants.{noSignal}
 
 held-set : (s : List ℤ) (x : ℕ) (v : ℤ) (y : ℕ) → x < length s → held (set s x v) y ≡ cond (eqb x y) v (held s y)
 held-set s x v y l =
@@ -43,6 +42,10 @@ pub record Agree {L : Type 0} (names : Names L) (n : ℕ) (F : Kind → ℕ → 
   pub store : (x : ℕ) → F var x ≡ true → held s x ≡ S (ρ var x)
   pub signals : (a : ℕ) → F sig a ≡ true → present s a ≡ E (ρ sig a)
   pub absent : (a : ℕ) → Γ sig a ≡ none → E a ≡ false
+
+holds-truth : (b : Bool) → holds (truth b) ≡ b
+holds-truth true = refl
+holds-truth false = refl
 
 pub defined :
     {L : Type 0} (Γ : Environment L) (k j : Kind) (z w : ℕ) (δ : L) → Γ k z ≡ none → Γ j w ≡ some δ → k ≡ j → z ≡ w → ⊥
@@ -223,18 +226,26 @@ module _
         go y f false i =
             ap holds (store-set x (pos 1) y (g .within sig x h)) ∙ rw (i, apart sig x y h f i) (g .signals y f)
 
-    pub agree-none : Agree names n F ρ origin (instantStart names s) Γ S noSignal
-    agree-none =
+    -- an instant begins, for which these signals are listed
+    pub agree-instant :
+        (I : ℕ → Bool) → ((a : ℕ) → F sig a ≡ true → I a ≡ I (ρ sig a)) → ((a : ℕ) → Γ sig a ≡ none → I a ≡ false) →
+        Agree names n F ρ origin (instantStart names I s) Γ S I
+    agree-instant I same absent =
         record {
-          size = instant-length names s ∙ g .size;
+          size = instant-length names I s ∙ g .size;
           within = g .within;
           kinded = g .kinded;
           back = g .back;
           dom = g .dom;
-          store = λ x f. instant-at names s x ∙ rw (register x f) (g .store x f);
-          signals = λ a f. ap holds (instant-at names s a) ∙ rw (g .kinded sig a f);
-          absent = λ a u. refl;
+          store = λ x f. begins var x f ∙ rw (register x f) (g .store x f);
+          signals = λ a f. ap holds (begins sig a f) ∙ rw (g .kinded sig a f) (holds-truth (I a) ∙ same a f);
+          absent = absent;
         }
       where
+        begins :
+            (k : Kind) (x : ℕ) → F k x ≡ true →
+            held (instantStart names I s) x ≡ cond (names .isSignal x) (truth (I x)) (held s x)
+        begins k x f = instant-at names I s x (omega (arith, g .size, g .within k x f))
+
         register : (x : ℕ) → F var x ≡ true → names .isSignal x ≡ false
         register x f = fails (names .isSignal x) (λ e. true≢false (sym (g .kinded var x f) ∙ rw e))

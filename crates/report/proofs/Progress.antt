@@ -12,7 +12,7 @@ use Rattle.values.specs.Values.{holds}
 use Rattle.language.specs.Syntax.{Exp, constant, register, binary, negated, Occurs, here, left, right, under, Proc, nil, assign, letIn, ifThenElse, while, sequence, emit, local, watching, when, parallel}
 use Rattle.language.specs.NameKinds.{Kind, var, sig, same, put}
 use Rattle.language.specs.Typing.{Environment}
-use Rattle.language.specs.Steps.{evaluate, Output}
+use Rattle.language.specs.Steps.{evaluate, Output, Inputs}
 use Rattle.language.proofs.NameKinds.{same-number, other, either}
 use Rattle.report.specs.Names.{Free, Renaming, renamedIn, Renamed, r-nil, r-assign, r-let, r-if, r-while, r-sequence, r-emit, r-local, r-watching, r-when, r-parallel, Substituted}
 use Rattle.report.specs.Configurations.{Configuration}
@@ -254,15 +254,16 @@ module _ {L : Type 0} (m : ℕ) (Γ : Environment L) (S : ℕ → ℤ) (E : ℕ 
       go (inr (inr u)) w = it (u .names) (PAR-OP₂ (u .move))
 
 -- Proposition 2.4: a configuration is terminated exactly when its process is nil
-pub record CanStep {L : Type 0} (m : ℕ) (C : Configuration L) : Type 0 where
-  pub alive : Alive C
+pub record CanStep {L : Type 0} (inputs : Inputs) (m : ℕ) (C : Configuration L) : Type 0 where
+  pub alive : Alive inputs C
   pub names : NamesBelow (suc m) (alive .next .environment)
 
 pub can-step :
-    {L : Type 0} (m : ℕ) (C : Configuration L) → NamesBelow m (C .environment) → (C .process ≡ nil) ⊎ CanStep m C
-can-step m C h = go (can m (C .environment) (C .store) (C .signals) h (C .process))
+    {L : Type 0} (inputs : Inputs) (m : ℕ) (C : Configuration L) → NamesBelow m (C .environment) →
+    (C .process ≡ nil) ⊎ CanStep inputs m C
+can-step inputs m C h = go (can m (C .environment) (C .store) (C .signals) h (C .process))
   where
-    go : Can m (C .environment) (C .store) (C .signals) h (C .process) → (C .process ≡ nil) ⊎ CanStep m C
+    go : Can m (C .environment) (C .store) (C .signals) h (C .process) → (C .process ≡ nil) ⊎ CanStep inputs m C
     go (inl e) = inl e
     go (inr (inl f)) =
         let u = changes (C .signals) f in
@@ -281,9 +282,9 @@ no-move f q = elim (rw q at f) [ ]
 no-suspension : {L : Type 0} {E : ℕ → Bool} {p : Proc L} → Suspended E p → p ≡ nil → ⊥
 no-suspension f q = elim (rw q at f) [ ]
 
-pub nil-terminated : {L : Type 0} (C : Configuration L) → C .process ≡ nil → Alive C → ⊥
-nil-terminated C q a = go (a .step)
+pub nil-terminated : {L : Type 0} (inputs : Inputs) (C : Configuration L) → C .process ≡ nil → Alive inputs C → ⊥
+nil-terminated inputs C q a = go (a .step)
   where
-    go : {o : Output} {D : Configuration _} → Step C o D → ⊥
+    go : {o : Output} {D : Configuration _} → Step inputs C o D → ⊥
     go (MOVE f) = no-move f q
     go (INSTANT-OP f g) = no-suspension f q

@@ -206,8 +206,8 @@ module _
           instants = begins .instants;
         }
 
-    pub start-fixed : (below : L → Bool) → Fixed names n below Γ F₀ (λ k y. y) at
-    start-fixed below =
+    pub start-fixed : Fixed names n Γ F₀ (λ k y. y) at
+    start-fixed =
         record {
           made = only;
           kept = λ k x δ h. refl;

@@ -1,24 +1,24 @@
 -- Each path of the report goes beside the one path in place.
 use Prim.Native.Nat.{ℕ, suc}
-use mathlib.Core.Path.{_≡_, refl, sym, ap, _∙_}
+use mathlib.Core.Path.{_≡_, refl, sym, ap, subst, _∙_}
 use mathlib.Core.Bool.{Bool, true, false, cond}
-use mathlib.Core.Option.{none, some}
+use mathlib.Core.Option.{Option, none, some}
 use mathlib.Core.List.{List, [], _++_, Option·toList}
 use lib.IntN.{ℤ}
 use Rattle.language.specs.Syntax.{Names}
 use Rattle.language.specs.NameKinds.{Kind, var, sig}
 use Rattle.language.specs.Scope.{Declared}
 use Rattle.language.specs.Typing.{Environment}
-use Rattle.language.specs.Steps.{present, Output, silent}
+use Rattle.language.specs.Steps.{present, Output, silent, Inputs, instantStart}
 use Rattle.language.specs.Calls.{Line, System, lineFor, calledFor}
 use Rattle.language.specs.Instants as inplace
 use Rattle.language.specs.Paths as paths
 use Rattle.report.specs.Names.{Renaming}
-use Rattle.report.specs.Configurations.{Configuration}
+use Rattle.report.specs.Configurations.{Configuration, InputsWithin}
 use Rattle.report.specs.Instants.{Step, MOVE, INSTANT-OP}
 use Rattle.report.specs.Paths.{NamedLine, named, counted, isSeen, linesFor, ExecutionPath, here, more}
 use Rattle.report.specs.Results.{SameLine, SameLines, no-lines, one-more}
-use Rattle.report.proofs.Memory.{agree-none}
+use Rattle.report.proofs.Memory.{Agree, defined, agree-instant}
 use Rattle.report.proofs.Waiting.{Signals, suspended-back, changed-back}
 use Rattle.report.proofs.Matching.{SameOutput, no-output, an-assignment, an-emission, changed-carries, Grown, grown-same, grown-then, Tied, back}
 
@@ -30,15 +30,50 @@ module _ {L : Type 0} (names : Names L) (n : ℕ) where
     pub steps : C .steps ≡ at .steps
     pub instants : C .instants ≡ at .instants
 
+  -- a session name keeps its name: Γ is the environment of the session's names
+  pub record Fixed (Γ : Environment L) (F : Kind → ℕ → Bool) (ρ : Renaming) (at : System L) : Type 0 where
+    pub made : (k : Kind) (x : ℕ) (δ : L) → Γ k x ≡ some δ → F k x ≡ true
+    pub kept : (k : Kind) (x : ℕ) (δ : L) → Γ k x ≡ some δ → ρ k x ≡ x
+    pub free : (k : Kind) (x : ℕ) (δ : L) → Declared k x (at .process) → Γ k x ≡ some δ → ⊥
+
+  -- Names of the session alone are listed: a signal of the script is listed if the report's name for it is, and no name
+  -- is that the report does not have.
+  module _ {Γ Γ′ : Environment L} {F : Kind → ℕ → Bool} {ρ origin : Renaming} {at : System L} {s : List ℤ} {S : ℕ → ℤ}
+      {E : ℕ → Bool} (x : Fixed Γ F ρ at) (g : Agree names n F ρ origin s Γ′ S E) (I : ℕ → Bool)
+      (within : (a : ℕ) → Γ sig a ≡ none → I a ≡ false)
+    where
+      listed-within : (a : ℕ) → Γ′ sig a ≡ none → I a ≡ false
+      listed-within a u = go (Γ sig a) refl
+        where
+          go : (v : Option L) → Γ sig a ≡ v → I a ≡ false
+          go none e = within a e
+          go (some δ) e =
+              absurd (defined Γ′ sig sig a (ρ sig a) _ u (g .dom sig a (x .made sig a δ e)) refl (sym (x .kept sig a δ e)))
+
+      -- no session signal is the report's name for another name
+      own : (a : ℕ) (δ : L) → F sig a ≡ true → Γ sig (ρ sig a) ≡ some δ → ρ sig a ≡ a
+      own a δ f e =
+          sym (g .back sig (ρ sig a) (x .made sig (ρ sig a) δ e))
+          ∙ ap (origin sig) (x .kept sig (ρ sig a) δ e)
+          ∙ g .back sig a f
+
+      listed-same : (a : ℕ) → F sig a ≡ true → I a ≡ I (ρ sig a)
+      listed-same a f = go (Γ sig a) (Γ sig (ρ sig a)) refl refl
+        where
+          go : (v w : Option L) → Γ sig a ≡ v → Γ sig (ρ sig a) ≡ w → I a ≡ I (ρ sig a)
+          go (some δ) w e d = ap I (sym (x .kept sig a δ e))
+          go none none e d = within a e ∙ sym (within (ρ sig a) d)
+          go none (some δ) e d = ap I (sym (own a δ f d))
+
   -- the step in place that corresponds to one of the report, to D
-  pub record Stepped (F : Kind → ℕ → Bool) (ρ origin : Renaming) (at : System L) (C : Configuration L) (O : Output)
+  pub record Stepped (inputs : Inputs) (F : Kind → ℕ → Bool) (ρ origin : Renaming) (at : System L) (C : Configuration L) (O : Output)
       (D : Configuration L) : Type 0 where
     pub F′ : Kind → ℕ → Bool
     pub ρ′ : Renaming
     pub origin′ : Renaming
     pub out : Output
     pub to : System L
-    pub step : inplace.Step names at out to
+    pub step : inplace.Step names inputs at out to
     pub output : SameOutput F ρ out O
     pub joined : Joined F′ ρ′ origin′ to D
     pub decl : (k : Kind) (y : ℕ) → Declared k y (to .process) → Declared k y (at .process)
@@ -47,9 +82,10 @@ module _ {L : Type 0} (names : Names L) (n : ℕ) where
     pub grown : Grown (C .environment) (D .environment) origin origin′
 
   pub step-back :
-      {F : Kind → ℕ → Bool} {ρ origin : Renaming} {at : System L} {C D : Configuration L} {O : Output} →
-      Step C O D → Joined F ρ origin at C → Stepped F ρ origin at C O D
-  step-back (MOVE f) j =
+      {inputs : Inputs} {Γ : Environment L} {F : Kind → ℕ → Bool} {ρ origin : Renaming} {at : System L}
+      {C D : Configuration L} {O : Output} → InputsWithin Γ inputs →
+      Step inputs C O D → Joined F ρ origin at C → Fixed Γ F ρ at → Stepped inputs F ρ origin at C O D
+  step-back within (MOVE f) j x =
       let w = j .tied in
       let u = back names n f (w .renamed) (w .agree) (w .made) (w .clean) (w .carries) in
       record {
@@ -78,8 +114,9 @@ module _ {L : Type 0} (names : Names L) (n : ℕ) where
         stays = u .stays;
         grown = u .grown;
       }
-  step-back {F} {ρ} {origin} {at} {C} (INSTANT-OP f g) j =
+  step-back {inputs = inputs} {F = F} {ρ = ρ} {origin = origin} {at = at} {C = C} within (INSTANT-OP f g) j x =
       let w = j .tied in
+      let I : ℕ → Bool = inputs (suc (C .instants)) in
       let signals : Signals (present (at .values)) (C .signals) ρ (at .process) = λ a z. w .agree .signals a (w .made sig a z) in
       let u = changed-back (present (at .values)) (C .signals) g (w .renamed) signals (w .clean) in
       record {
@@ -88,14 +125,18 @@ module _ {L : Type 0} (names : Names L) (n : ℕ) where
         origin′ = origin;
         out = silent;
         to = _;
-        step = inplace.INSTANT-OP (suspended-back (present (at .values)) (C .signals) f (w .renamed) signals) (u .change);
+        step =
+            inplace.INSTANT-OP (suspended-back (present (at .values)) (C .signals) f (w .renamed) signals) (u .change);
         output = no-output;
         joined =
             record {
               tied =
                   record {
                     renamed = u .renamed;
-                    agree = agree-none (w .agree);
+                    agree =
+                        subst (λ i. Agree names n F ρ origin (instantStart names (inputs (suc i)) (at .values)) (C .environment) (C .store) I)
+                        (j .instants)
+                        (agree-instant (w .agree) I (listed-same x (w .agree) I (within _)) (listed-within x (w .agree) I (within _)));
                     made = λ k y z. w .made k y (u .free k y z);
                     clean = u .kept .clean;
                     carries = changed-carries names n (u .change) (w .carries);
@@ -109,30 +150,25 @@ module _ {L : Type 0} (names : Names L) (n : ℕ) where
         grown = grown-same (C .environment) origin;
       }
 
+  pub fixed-on :
+      {inputs : Inputs} {Γ : Environment L} {F : Kind → ℕ → Bool} {ρ origin : Renaming} {at : System L}
+      {C D : Configuration L} {O : Output} →
+      (u : Stepped inputs F ρ origin at C O D) → Fixed Γ F ρ at → Fixed Γ (u .F′) (u .ρ′) (u .to)
+  fixed-on u x =
+      record {
+        made = λ k y δ h. u .grows k y (x .made k y δ h);
+        kept = λ k y δ h. u .stays k y (λ d. x .free k y δ d h) ∙ x .kept k y δ h;
+        free = λ k y δ d h. x .free k y δ (u .decl k y d) h;
+      }
+
   module _ (below : L → Bool) (Γ : Environment L) where
     -- 'a name at or below the reader's level'
     abbrev pub sees : ℕ → Bool
     sees x = below (names .level x)
 
-    -- a session name keeps its name
-    pub record Fixed (F : Kind → ℕ → Bool) (ρ : Renaming) (at : System L) : Type 0 where
-      pub made : (k : Kind) (x : ℕ) (δ : L) → Γ k x ≡ some δ → F k x ≡ true
-      pub kept : (k : Kind) (x : ℕ) (δ : L) → Γ k x ≡ some δ → ρ k x ≡ x
-      pub free : (k : Kind) (x : ℕ) (δ : L) → Declared k x (at .process) → Γ k x ≡ some δ → ⊥
-
-    pub fixed-on :
-        {F : Kind → ℕ → Bool} {ρ origin : Renaming} {at : System L} {C D : Configuration L} {O : Output} →
-        (u : Stepped F ρ origin at C O D) → Fixed F ρ at → Fixed (u .F′) (u .ρ′) (u .to)
-    fixed-on u x =
-        record {
-          made = λ k y δ h. u .grows k y (x .made k y δ h);
-          kept = λ k y δ h. u .stays k y (λ d. x .free k y δ d h) ∙ x .kept k y δ h;
-          free = λ k y δ d h. x .free k y δ (u .decl k y d) h;
-        }
-
     -- the lines that two corresponding steps call for
     module _ {F : Kind → ℕ → Bool} {ρ origin : Renaming} {at : System L} {C : Configuration L}
-        (j : Joined F ρ origin at C) (x : Fixed F ρ at) (last : Renaming)
+        (j : Joined F ρ origin at C) (x : Fixed Γ F ρ at) (last : Renaming)
         (same : (k : Kind) (z : ℕ) (δ : L) → C .environment k z ≡ some δ → last k z ≡ origin k z)
       where
         -- a line for each, or none
@@ -186,24 +222,24 @@ module _ {L : Type 0} (names : Names L) (n : ℕ) where
     append-lines (one-more u v) w = one-more u (append-lines v w)
 
     -- a path in place beside one of the report, and how their ends correspond
-    pub record Along (m : ℕ) (origin : Renaming) (at : System L) (C : Configuration L) (ms : List NamedLine)
+    pub record Along (inputs : Inputs) (m : ℕ) (origin : Renaming) (at : System L) (C : Configuration L) (ms : List NamedLine)
         (D : Configuration L) : Type 0 where
       pub lines : List Line
       pub last : System L
-      pub path : paths.Path names sees m at lines last
+      pub path : paths.Path names inputs sees m at lines last
       pub F : Kind → ℕ → Bool
       pub ρ : Renaming
       pub origin′ : Renaming
       pub joined : Joined F ρ origin′ last D
-      pub fixed : Fixed F ρ last
+      pub fixed : Fixed Γ F ρ last
       pub same : SameLines names Γ origin′ lines ms
       pub grown : Grown (C .environment) (D .environment) origin origin′
 
     pub walk :
-        {m : ℕ} {C D : Configuration L} {ms : List NamedLine} → ExecutionPath below m C ms D →
-        {F : Kind → ℕ → Bool} {ρ origin : Renaming} {at : System L} → Joined F ρ origin at C → Fixed F ρ at →
-        Along m origin at C ms D
-    walk {C = C} here {F} {ρ} {origin} {at} j x =
+        {inputs : Inputs} → InputsWithin Γ inputs → {m : ℕ} {C D : Configuration L} {ms : List NamedLine} →
+        ExecutionPath below inputs m C ms D → {F : Kind → ℕ → Bool} {ρ origin : Renaming} {at : System L} →
+        Joined F ρ origin at C → Fixed Γ F ρ at → Along inputs m origin at C ms D
+    walk within {C = C} here {F} {ρ} {origin} {at} j x =
         record {
           lines = [];
           last = at;
@@ -216,9 +252,9 @@ module _ {L : Type 0} (names : Names L) (n : ℕ) where
           same = no-lines;
           grown = grown-same (C .environment) origin;
         }
-    walk (more f fs) {at = at} j x =
-        let u = step-back f j in
-        let r = walk fs (u .joined) (fixed-on u x) in
+    walk within (more f fs) {at = at} j x =
+        let u = step-back within f j x in
+        let r = walk within fs (u .joined) (fixed-on u x) in
         record {
           lines = Option·toList (calledFor sees at (u .out)) ++ r .lines;
           last = r .last;

@@ -10,6 +10,7 @@ use Rattle.language.specs.Syntax.{Exp, constant, register, Occurs, here, left, 
 use Rattle.language.specs.NameKinds.{Kind, sig}
 use Rattle.language.specs.Scope.{withName, RegisterIn, ReadsIn, Declared}
 use Rattle.language.specs.Typing.{environment}
+use Rattle.language.specs.Steps.{noInputs}
 use Rattle.language.specs.Calls.{run}
 use Rattle.language.proofs.NameKinds.{same-number}
 use Rattle.language.proofs.Theorems.{runs-agree}
@@ -51,10 +52,10 @@ loop-is-script =
 -- its runs, of any length, are the report's
 pub loop-reported :
     (below : ℕ → Bool) (limit room : ℕ) →
-    Reported loopNames (environment loopNames isOfSession) below limit loopStarts
+    Reported loopNames (environment loopNames isOfSession) noInputs below limit loopStarts
     (begun (environment loopNames isOfSession) loopStarts)
-    (run loopNames (λ x. below 0) limit room loopStarts)
+    (run loopNames noInputs (λ x. below 0) limit room loopStarts)
 loop-reported below limit room =
-    reported loop-is-script refl (begun-begins (environment loopNames isOfSession) loopStarts) below
-    (runs-agree loopNames (λ x. below 0) limit room loopStarts .path)
+    reported loop-is-script refl (begun-begins (environment loopNames isOfSession) loopStarts) (λ i a e. refl) below
+    (runs-agree loopNames noInputs (λ x. below 0) limit room loopStarts .path)
     refl

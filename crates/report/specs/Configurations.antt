@@ -8,7 +8,7 @@ use lib.IntN.{ℤ}
 use Rattle.language.specs.Syntax.{Proc}
 use Rattle.language.specs.NameKinds.{var, sig}
 use Rattle.language.specs.Typing.{Environment}
-use Rattle.language.specs.Steps.{held, present}
+use Rattle.language.specs.Steps.{held, present, Inputs}
 use Rattle.language.specs.Calls.{System}
 
 -- A configuration, and how many steps and instants have been counted. What the store holds outside dom(Γ) is left free.
@@ -34,6 +34,10 @@ pub record Begins {L : Type 0} (Γ : Environment L) (at : System L) (C : Configu
   pub process : C .process ≡ at .process
   pub steps : C .steps ≡ at .steps
   pub instants : C .instants ≡ at .instants
+
+-- I ⊆ dom(Γ), in every instant
+abbrev pub InputsWithin : {L : Type 0} → Environment L → Inputs → Type 0
+InputsWithin Γ inputs = (i a : ℕ) → Γ sig a ≡ none → inputs i a ≡ false
 
 -- there is one
 abbrev isIn : {L : Type 0} → Option L → Bool

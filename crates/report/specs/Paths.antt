@@ -5,7 +5,7 @@ use mathlib.Core.Option.{Option, none, some}
 use mathlib.Core.List.{List, [], _∷_, _++_}
 use Rattle.language.specs.Syntax.{nil}
 use Rattle.language.specs.NameKinds.{Kind, var, sig}
-use Rattle.language.specs.Steps.{Output, silent, assigned, emitted}
+use Rattle.language.specs.Steps.{Output, silent, assigned, emitted, Inputs}
 use Rattle.language.specs.Calls.{Line, System, calledFor}
 use Rattle.report.specs.Configurations.{Configuration}
 use Rattle.report.specs.Instants.{Step}
@@ -40,8 +40,8 @@ module _ {L : Type 0} (below : L → Bool) where
   linesFor C o = named (kindOf o) (calledFor (λ x. isSeen (C .environment (kindOf o) x)) (counted C) o)
 
   -- n steps from one configuration to another, with the lines that they call for
-  pub data ExecutionPath : ℕ → Configuration L → List NamedLine → Configuration L → Type 0 where
-    here : {C : Configuration L} → ExecutionPath zero C [] C
+  pub data ExecutionPath (inputs : Inputs) : ℕ → Configuration L → List NamedLine → Configuration L → Type 0 where
+    here : {C : Configuration L} → ExecutionPath inputs zero C [] C
     more :
         {n : ℕ} {C C′ C″ : Configuration L} {o : Output} {ls : List NamedLine} →
-        Step C o C′ → ExecutionPath n C′ ls C″ → ExecutionPath (suc n) C (linesFor C o ++ ls) C″
+        Step inputs C o C′ → ExecutionPath inputs n C′ ls C″ → ExecutionPath inputs (suc n) C (linesFor C o ++ ls) C″

@@ -13,7 +13,7 @@ use lib.ListN.{length}
 use Rattle.language.specs.Syntax.{Names}
 use Rattle.language.specs.NameKinds.{Kind, var, sig, isOf}
 use Rattle.language.specs.Typing.{Environment}
-use Rattle.language.specs.Steps.{held, present, Output}
+use Rattle.language.specs.Steps.{held, present, Output, Inputs}
 use Rattle.language.specs.Calls.{Line, Ending, finished, spent, logFull, System, Run}
 use Rattle.language.specs.Paths as paths
 use Rattle.report.specs.Names.{Free, Renaming, Renamed}
@@ -53,38 +53,38 @@ module _ {L : Type 0} (names : Names L) (Γ : Environment L) where
     pub inverse : (k : Kind) (x : ℕ) → Free k x (at .process) → origin k (renaming k x) ≡ x
 
 -- Some path of n steps of the report.
-pub record HasPath {L : Type 0} (below : L → Bool) (n : ℕ) (C : Configuration L) : Type 0 where
+pub record HasPath {L : Type 0} (below : L → Bool) (inputs : Inputs) (n : ℕ) (C : Configuration L) : Type 0 where
   pub lines : List NamedLine
   pub last : Configuration L
-  pub path : ExecutionPath below n C lines last
+  pub path : ExecutionPath below inputs n C lines last
 
 -- How a run ended, of the configuration that a path of the report has come to: finished, it is terminated; spent, it is
 -- alive and the limit is reached; log full, it is alive, and its next step calls for a line.
-abbrev pub EndsAs : {L : Type 0} → (L → Bool) → Ending → Configuration L → ℕ → ℕ → Type 0
-EndsAs below finished C made limit = Terminated C
-EndsAs below spent C made limit = Alive C × (made ≡ limit)
-EndsAs {L} below logFull C made limit =
-    Alive C × (made < limit) × ((o : Output) (D : Configuration L) → Step C o D → length (linesFor below C o) ≡ 1)
+abbrev pub EndsAs : {L : Type 0} → (L → Bool) → Inputs → Ending → Configuration L → ℕ → ℕ → Type 0
+EndsAs below inputs finished C made limit = Terminated inputs C
+EndsAs below inputs spent C made limit = Alive inputs C × (made ≡ limit)
+EndsAs {L} below inputs logFull C made limit =
+    Alive inputs C × (made < limit) × ((o : Output) (D : Configuration L) → Step inputs C o D → length (linesFor below C o) ≡ 1)
 
 -- Demand 2 in the report's own terms, of a run of at most `limit` steps that starts at `at`, beside the paths of the report
 -- that start at C. The run itself is a path in place, and `last` is what it leaves.
-pub record Reported {L : Type 0} (names : Names L) (Γ : Environment L) (below : L → Bool) (limit : ℕ) (at : System L)
-    (C : Configuration L) (r : Run) : Type 0 where
+pub record Reported {L : Type 0} (names : Names L) (Γ : Environment L) (inputs : Inputs) (below : L → Bool) (limit : ℕ)
+    (at : System L) (C : Configuration L) (r : Run) : Type 0 where
   pub last : System L
-  pub path : paths.Path names (λ x. below (names .level x)) (r .steps) at (r .lines) last
+  pub path : paths.Path names inputs (λ x. below (names .level x)) (r .steps) at (r .lines) last
   -- there is such a path
-  pub exists : HasPath below (r .steps) C
+  pub exists : HasPath below inputs (r .steps) C
   -- and this holds of every one, whatever fresh names it takes
   pub alike :
-      (ms : List NamedLine) (D : Configuration L) → ExecutionPath below (r .steps) C ms D → Alike names Γ (r .lines) last ms D
+      (ms : List NamedLine) (D : Configuration L) → ExecutionPath below inputs (r .steps) C ms D → Alike names Γ (r .lines) last ms D
   pub instants :
-      (ms : List NamedLine) (D : Configuration L) → ExecutionPath below (r .steps) C ms D → D .instants ≡ r .instants
+      (ms : List NamedLine) (D : Configuration L) → ExecutionPath below inputs (r .steps) C ms D → D .instants ≡ r .instants
   pub store :
-      (ms : List NamedLine) (D : Configuration L) → ExecutionPath below (r .steps) C ms D →
+      (ms : List NamedLine) (D : Configuration L) → ExecutionPath below inputs (r .steps) C ms D →
       (x : ℕ) (δ : L) → Γ var x ≡ some δ → D .store x ≡ held (r .values) x
   pub signals :
-      (ms : List NamedLine) (D : Configuration L) → ExecutionPath below (r .steps) C ms D →
+      (ms : List NamedLine) (D : Configuration L) → ExecutionPath below inputs (r .steps) C ms D →
       (a : ℕ) (δ : L) → Γ sig a ≡ some δ → D .signals a ≡ present (r .values) a
   pub ends :
-      (ms : List NamedLine) (D : Configuration L) → ExecutionPath below (r .steps) C ms D →
-      EndsAs below (r .ending) D (r .steps) limit
+      (ms : List NamedLine) (D : Configuration L) → ExecutionPath below inputs (r .steps) C ms D →
+      EndsAs below inputs (r .ending) D (r .steps) limit

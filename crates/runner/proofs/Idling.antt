@@ -1,4 +1,4 @@
--- Where no signal is present an instant change changes nothing: a suspended script stays as it is to the end.
+-- Where no signal is present and none is listed an instant change changes nothing: a suspended script stays as it is.
 use mathlib.Core.Path.{_≡_, refl, sym, ap, _∙_}
 use mathlib.Core.Bool.{Bool, true, false, cond, true≢false}
 use mathlib.Core.List.{List}
@@ -11,10 +11,10 @@ use lib.ListN.{length, List·getD-eq-default}
 use lib.Seq.{ext-getD}
 use Rattle.prelude.proofs.Bools.{and-second, by-cases}
 use Rattle.prelude.proofs.Searches.{none-of-any}
-use Rattle.prelude.proofs.Tables.{length-table, table-at}
-use Rattle.values.specs.Values.{holds}
+use Rattle.values.specs.Values.{holds, truth}
 use Rattle.language.specs.Syntax.{Names, Proc}
-use Rattle.language.specs.Steps.{held, present, suspended, change, instantStart}
+use Rattle.language.specs.Steps.{held, present, suspended, change, Inputs, instantStart}
+use Rattle.language.proofs.Stores.{instant-at, instant-length}
 use Rattle.program.specs.Program.{nodeCount, namesOf, processOf}
 use Rattle.program.specs.Runnable.{Runnable}
 use Rattle.program.proofs.Views.{NodeView, aNil, anAssign, aLet, anIf, aWhile, aSequence, anEmit, aLocal, aWatching, aWhen, aParallel, node-view}
@@ -68,28 +68,28 @@ module _ (names : Names ℕ) (values : List ℤ) (none : someSignalPresent names
     idle-stays k h = residual-stays values (processOf words k) (still-below (suc k) k (omega arith) h)
 
   -- and so do the values
-  abbrev starts : ℕ → ℤ
-  starts x = cond (names .isSignal x) (pos 0) (held values x)
+  module _ (listed : ℕ → Bool) (unlisted : (x : ℕ) → listed x ≡ false) where
+    same-at : (x : ℕ) → held values x ≡ cond (names .isSignal x) (truth (listed x)) (held values x)
+    same-at x =
+        by-cases (λ z. held values x ≡ z) (names .isSignal x)
+        (λ h. zero-of (held values x) (absent x h) ∙ sym (ap truth (unlisted x)))
+        (λ h. refl)
 
-  same-at : (x : ℕ) → held values x ≡ starts x
-  same-at x =
-      by-cases (λ z. held values x ≡ z) (names .isSignal x) (λ h. zero-of (held values x) (absent x h)) (λ h. refl)
-
-  pub values-stay : instantStart names values ≡ values
-  unfolding instantStart
-  values-stay =
-      ext-getD (pos 0) _ _ (length-table starts (length values))
-      (λ x h. table-at starts (length values) x (pos 0) (rw (length-table starts (length values)) at h) ∙ sym (same-at x))
+    pub values-stay : instantStart names listed values ≡ values
+    values-stay =
+        let n = instant-length names listed values in
+        ext-getD (pos 0) _ _ n (λ x h. instant-at names listed values x (rw n at h) ∙ sym (same-at x))
 
 -- however many instant changes are made
 pub outcome-idle :
-    (names : Names ℕ) (seen : ℕ → Bool) (limit room : ℕ) {p : Proc ℕ} {s : List ℤ} (log : List ℕ) (at : Counts) →
-    suspended p s ≡ true → change p s ≡ p → instantStart names s ≡ s → (n : ℕ) → at .steps + n ≤ limit →
-    outcome names seen limit room (runningWith p s log (afterChanges at n))
-    ≡ outcome names seen limit room (runningWith p s log at)
-outcome-idle names seen limit room log at w p v zero t = rw (add-zero (at .steps), add-zero (at .instants))
-outcome-idle names seen limit room log at w p v (suc n) t =
+    (names : Names ℕ) (inputs : Inputs) (seen : ℕ → Bool) (limit room : ℕ) {p : Proc ℕ} {s : List ℤ} (log : List ℕ)
+    (at : Counts) → suspended p s ≡ true → change p s ≡ p → (n : ℕ) →
+    ((k : ℕ) → k < n → instantStart names (inputs (suc (at .instants + k))) s ≡ s) → at .steps + n ≤ limit →
+    outcome names inputs seen limit room (runningWith p s log (afterChanges at n))
+    ≡ outcome names inputs seen limit room (runningWith p s log at)
+outcome-idle names inputs seen limit room log at w p zero v t = rw (add-zero (at .steps), add-zero (at .instants))
+outcome-idle names inputs seen limit room log at w p (suc n) v t =
     let here : Running ℕ = runningWith _ _ log (afterChanges at n) in
     rw (add-suc (at .steps) n, add-suc (at .instants) n)
-    (rw (p, v) at (outcome-changes names seen limit room here w (omega (arith, t)))
-    ∙ outcome-idle names seen limit room log at w p v n (omega (arith, t)))
+    (rw (p, v n (omega arith)) at (outcome-changes names inputs seen limit room here w (omega (arith, t)))
+    ∙ outcome-idle names inputs seen limit room log at w p n (λ k l. v k (omega arith)) (omega (arith, t)))

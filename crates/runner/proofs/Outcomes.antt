@@ -11,7 +11,7 @@ use lib.ListN.{length, drop, length-append}
 use lib.Seq.{sets, sets-eq}
 use borrow.Author.Tests.{ltb-true, ltb-false}
 use Rattle.language.specs.Syntax.{Names, isNil}
-use Rattle.language.specs.Steps.{StepResult as Left, leaves, suspended, move, change, instantStart, step}
+use Rattle.language.specs.Steps.{StepResult as Left, leaves, suspended, move, change, Inputs, instantStart, step}
 use Rattle.language.specs.Calls.{Line, Ending, finished, spent, logFull, Stop, calledFor, halts, noted, reach, words}
 use Rattle.moves.specs.Moves.{Running, system, putLine, logAfter, linesAfter, hasRoom, nextLine, moved, changed, Live, MovePath, stays, moves}
 use Rattle.runner.specs.Outcome.{Outcome, written, recorded, outcome, stopped}
@@ -40,13 +40,13 @@ module _ {L : Type 0} where
   noted-full room (some l) n go full h =
       let k : room - n ≡ 0 = omega (arith, ltb-false n room h) in rw k
 
-module _ {L : Type 0} (names : Names L) (seen : ℕ → Bool) (limit room : ℕ) (at : Running L) where
+module _ {L : Type 0} (names : Names L) (inputs : Inputs) (seen : ℕ → Bool) (limit room : ℕ) (at : Running L) where
   abbrev out : Running L → Outcome L
-  out to = outcome names seen limit room to
+  out to = outcome names inputs seen limit room to
 
   -- the run from here
   abbrev rest : Stop L
-  rest = reach names seen (limit - at .steps) (room - at .lines) (system at)
+  rest = reach names inputs seen (limit - at .steps) (room - at .lines) (system at)
 
   stops-here : (how : Ending) → rest ≡ halts how (system at) → out at ≡ stopped how at
   unfolding outcome written
@@ -56,7 +56,7 @@ module _ {L : Type 0} (names : Names L) (seen : ℕ → Bool) (limit room : ℕ)
   unfolding reach
   outcome-finished h = stops-here finished (nothing (limit - at .steps))
     where
-      nothing : (n : ℕ) → reach names seen n (room - at .lines) (system at) ≡ halts finished (system at)
+      nothing : (n : ℕ) → reach names inputs seen n (room - at .lines) (system at) ≡ halts finished (system at)
       nothing zero = rw h
       nothing (suc n) = rw h
 
@@ -73,6 +73,7 @@ module _ {L : Type 0} (names : Names L) (seen : ℕ → Bool) (limit room : ℕ)
     after r b left =
         reach
         names
+        inputs
         seen
         (limit - suc (at .steps))
         left
@@ -88,7 +89,7 @@ module _ {L : Type 0} (names : Names L) (seen : ℕ → Bool) (limit room : ℕ)
         noted (calledFor seen (system at) (r .output)) (room - at .lines) (after r b) (halts logFull (system at))
 
     rest-goes :
-        {r : Left L} {b : Bool} → isNil (at .process) ≡ false → step names (at .process) (at .values) ≡ r →
+        {r : Left L} {b : Bool} → isNil (at .process) ≡ false → step names (inputs (suc (at .instants))) (at .process) (at .values) ≡ r →
         suspended (at .process) (at .values) ≡ b → rest ≡ goes r b
     unfolding reach
     rest-goes h e w = rw (one-more, h) (ap₂ goes e w)
@@ -99,7 +100,7 @@ module _ {L : Type 0} (names : Names L) (seen : ℕ → Bool) (limit room : ℕ)
 
     rest-changes :
         suspended (at .process) (at .values) ≡ true →
-        rest ≡ goes (leaves (change (at .process) (at .values)) (instantStart names (at .values))) true
+        rest ≡ goes (leaves (change (at .process) (at .values)) (instantStart names (inputs (suc (at .instants))) (at .values))) true
     unfolding step
     rest-changes w = rest-goes (waits-some (at .process) (at .values) w) (rw w) w
 
@@ -117,16 +118,16 @@ module _ {L : Type 0} (names : Names L) (seen : ℕ → Bool) (limit room : ℕ)
       ∙ ap (recorded (at .lines) (at .log)) (sym (rest-moves t l))
 
   pub outcome-changes :
-      suspended (at .process) (at .values) ≡ true → at .steps < limit → out (changed names at) ≡ out at
+      suspended (at .process) (at .values) ≡ true → at .steps < limit → out (changed names inputs at) ≡ out at
   unfolding outcome calledFor noted
   outcome-changes w t = ap (recorded (at .lines) (at .log)) (sym (rest-changes t w))
 
 pub outcome-moves :
-    {L : Type 0} (names : Names L) {seen : ℕ → Bool} {limit room : ℕ} {at to : Running L} →
-    MovePath seen limit room at to → outcome names seen limit room to ≡ outcome names seen limit room at
-outcome-moves names stays = refl
-outcome-moves names {seen = seen} {limit = limit} {room = room} {at = at} (moves r p) =
-    outcome-moves names p ∙ outcome-move names seen limit room at (r .live) (r .time) (r .space)
+    {L : Type 0} (names : Names L) (inputs : Inputs) {seen : ℕ → Bool} {limit room : ℕ} {at to : Running L} →
+    MovePath seen limit room at to → outcome names inputs seen limit room to ≡ outcome names inputs seen limit room at
+outcome-moves names inputs stays = refl
+outcome-moves names inputs {seen = seen} {limit = limit} {room = room} {at = at} (moves r p) =
+    outcome-moves names inputs p ∙ outcome-move names inputs seen limit room at (r .live) (r .time) (r .space)
 
 -- lines, and then more lines
 written-both :
@@ -140,17 +141,17 @@ written-both (l ∷ ls) ms n log =
 
 -- a run goes on from wherever a shorter one stopped
 pub outcome-onward :
-    {L : Type 0} (names : Names L) (seen : ℕ → Bool) (limit limit′ room : ℕ) (at : Running L) → at .steps ≤ limit →
+    {L : Type 0} (names : Names L) (inputs : Inputs) (seen : ℕ → Bool) (limit limit′ room : ℕ) (at : Running L) → at .steps ≤ limit →
     limit ≤ limit′ →
-    outcome names seen limit′ room at ≡ outcome names seen limit′ room (outcome names seen limit room at .at)
+    outcome names inputs seen limit′ room at ≡ outcome names inputs seen limit′ room (outcome names inputs seen limit room at .at)
 unfolding outcome
-outcome-onward names seen limit limit′ room at h k =
-    let r = reach names seen (limit - at .steps) (room - at .lines) (system at) in
-    let q = reach names seen (limit′ - r .at .steps) (room - at .lines - length (r .lines)) (r .at) in
+outcome-onward names inputs seen limit limit′ room at h k =
+    let r = reach names inputs seen (limit - at .steps) (room - at .lines) (system at) in
+    let q = reach names inputs seen (limit′ - r .at .steps) (room - at .lines - length (r .lines)) (r .at) in
     let e : at .lines + (length (r .lines) + length (q .lines)) ≡ at .lines + length (r .lines) + length (q .lines) = omega arith in
     let d : room - at .lines - length (r .lines) ≡ room - (at .lines + length (r .lines)) = omega arith in
     ap (recorded (at .lines) (at .log))
-    (reach-onward names seen (limit - at .steps) limit′ (room - at .lines) (system at) (omega (arith, h, k)))
+    (reach-onward names inputs seen (limit - at .steps) limit′ (room - at .lines) (system at) (omega (arith, h, k)))
     ∙ rw (← written-both (r .lines) (q .lines) (at .lines) (at .log), length-append (r .lines) (q .lines), e, d)
 
 -- the stores of `written`, word by word

@@ -2,14 +2,17 @@
 use mathlib.Core.Path.{_≡_, refl, sym, ap, _∙_, subst}
 use mathlib.Core.Bool.{true, false, false≢true}
 use mathlib.Core.List.{List}
-use Prim.Native.Nat.{ℕ, _+_, _-_, _/_, _≤_, _<_}
+use Prim.Native.Nat.{ℕ, zero, suc, _+_, _/_, _<_}
+use native.Mathlib.Nat.{add-zero}
 use native.Mathlib.Omega.{arith}
 use lib.IntN.{ℤ}
 use lib.ListN.{length}
 use Rattle.language.specs.Calls.{endingNumber}
 use Rattle.language.specs.Steps.{suspended}
 use Rattle.program.specs.Program.{namesOf, seenBy}
-use Rattle.instants.specs.Contracts.{someSignalPresent}
+use Rattle.inputs.specs.Lists.{listed}
+use Rattle.inputs.specs.Contracts.{Cursor}
+use Rattle.inputs.proofs.Lists.{listed-none}
 use Rattle.moves.specs.declared.counts.Counts.{Counts}
 use Rattle.moves.specs.declared.counts.Reason.{Reason}
 use Rattle.moves.specs.declared.counts.Reason.the-variants.{Nil, Suspended, Spent, Full}
@@ -20,7 +23,7 @@ use Rattle.moves.proofs.Framing.{waits-some}
 use Rattle.moves.proofs.Advancing.{counted-on, can-on}
 use Rattle.runner.specs.declared.Ran.{Ran}
 use Rattle.runner.specs.Outcome.{Outcome, stopped}
-use Rattle.runner.specs.Contracts.{root, scriptAt, CanRun, InstantMade, endingBy, endingOf, isSuspended, outcomeOf, Runs}
+use Rattle.runner.specs.Contracts.{root, scriptAt, CanRun, InstantMade, endingBy, endingOf, isSuspended, outcomeOf, Idles, Runs}
 use Rattle.runner.proofs.Idling.{idle-stays, values-stay, outcome-idle}
 use Rattle.runner.proofs.Outcomes.{outcome-moves, outcome-finished, outcome-spent, outcome-full, outcome-changes}
 
@@ -31,13 +34,13 @@ is-suspended Suspended e = refl
 is-suspended Spent e = absurd (false≢true e)
 is-suspended Full e = absurd (false≢true e)
 
-module _ (words : List ℕ) (limit : ℕ) (begun : Running ℕ) where
+module _ (words list : List ℕ) (limit : ℕ) (begun : Running ℕ) where
   abbrev room : ℕ
   room = length (begun .log) / 4
 
   -- a run that has come to these bytes, values, log and counts comes to the same as from where it began
   pub record Comes (st : List ℕ) (values : List ℤ) (log : List ℕ) (at : Counts) : Type 0 where
-    pub same : outcomeOf words limit room (scriptAt words st values log at) ≡ outcomeOf words limit room begun
+    pub same : outcomeOf words list limit room (scriptAt words st values log at) ≡ outcomeOf words list limit room begun
     pub can : CanRun words st values log limit at
     pub logged : length log ≡ length (begun .log)
 
@@ -58,7 +61,7 @@ module _ (words : List ℕ) (limit : ℕ) (begun : Running ℕ) where
           Comes st′ values′ log′ (r .at)
       comes-on b v l =
           record {
-            same = outcome-moves (namesOf words) (here .path) ∙ u .same;
+            same = outcome-moves (namesOf words) (listed list) (here .path) ∙ u .same;
             can = can-on (u .can) b v (counted-on (i .path) (u .can .counted) refl l);
             logged = l ∙ u .logged;
           }
@@ -71,7 +74,7 @@ module _ (words : List ℕ) (limit : ℕ) (begun : Running ℕ) where
         {st′ : List ℕ} {values′ : List ℤ} {at′ : Counts} →
         suspended (scriptAt words st values log at .process) values ≡ true → at .steps < limit →
         length st′ ≡ length st → length values′ ≡ length values →
-        scriptAt words st′ values′ log at′ ≡ changed (namesOf words) (scriptAt words st values log at) →
+        scriptAt words st′ values′ log at′ ≡ changed (namesOf words) (listed list) (scriptAt words st values log at) →
         Comes st′ values′ log at′
     comes-changed w l b v e =
         let steps = ap (λ (x : Running ℕ). x .steps) e in
@@ -80,8 +83,8 @@ module _ (words : List ℕ) (limit : ℕ) (begun : Running ℕ) where
         let c = u .can in
         record {
           same =
-              ap (outcomeOf words limit room) e
-              ∙ outcome-changes (namesOf words) (seenBy words) limit room (scriptAt words st values log at) w l
+              ap (outcomeOf words list limit room) e
+              ∙ outcome-changes (namesOf words) (listed list) (seenBy words) limit room (scriptAt words st values log at) w l
               ∙ u .same;
           can =
               can-on c b v
@@ -94,35 +97,47 @@ module _ (words : List ℕ) (limit : ℕ) (begun : Running ℕ) where
           logged = u .logged;
         }
 
-    -- suspended with no signal present: to the end, where nothing changes
-    pub comes-idle :
-        suspended (scriptAt words st values log at .process) values ≡ true →
-        someSignalPresent (namesOf words) values ≡ false → Comes st values log (afterChanges at (limit - at .steps))
-    comes-idle w none =
-        let c = u .can in
-        let s : at .steps + (limit - at .steps) ≤ limit = omega (arith, c .counted .time) in
-        record {
-          same =
-              outcome-idle (namesOf words) (seenBy words) limit room log at w
-              (idle-stays (namesOf words) values none words (c .valued .runnable) (λ x. refl) (root words) (c .node .known) st)
-              (values-stay (namesOf words) values none) (limit - at .steps) s
-              ∙ u .same;
-          can =
-              can-on c refl refl
-              (record {
-                time = s;
-                most = c .counted .most;
-                instants = omega (arith, c .counted .instants);
-                space = c .counted .space;
-              });
-          logged = u .logged;
-        }
+    -- suspended, for n instants in which nothing changes
+    module _ (w : suspended (scriptAt words st values log at .process) values ≡ true) (c : ℕ)
+        (here : Cursor list (at .instants) c) where
+      idle-same :
+          (n : ℕ) → Idles words values list c limit at n →
+          outcomeOf words list limit room (scriptAt words st values log (afterChanges at n))
+          ≡ outcomeOf words list limit room (scriptAt words st values log at)
+      idle-same zero i = rw (add-zero (at .steps), add-zero (at .instants))
+      idle-same (suc n) i =
+          let none = i .absent (omega arith) in
+          let can = u .can in
+          outcome-idle (namesOf words) (listed list) (seenBy words) limit room log at w
+          (idle-stays (namesOf words) values none words (can .valued .runnable) (λ x. refl) (root words) (can .node .known) st)
+          (suc n)
+          (λ k l.
+          values-stay (namesOf words) values none (listed list (suc (at .instants + k)))
+          (listed-none list (at .instants) (suc (at .instants + k)) (at .instants + suc n) c here (i .cursor)
+          (omega arith) (omega arith)))
+          (i .time)
+
+      pub comes-idle : (n : ℕ) → Idles words values list c limit at n → Comes st values log (afterChanges at n)
+      comes-idle n i =
+          let can = u .can in
+          record {
+            same = idle-same n i ∙ u .same;
+            can =
+                can-on can refl refl
+                (record {
+                  time = i .time;
+                  most = can .counted .most;
+                  instants = omega (arith, can .counted .instants);
+                  space = can .counted .space;
+                });
+            logged = u .logged;
+          }
 
     -- where it stops
     pub stops-there :
         (why : Reason) → Ends (seenBy words) limit room (scriptAt words st values log at) why →
         (why ≡ Suspended → at .steps ≡ limit) →
-        outcomeOf words limit room begun ≡ stopped (endingBy why) (scriptAt words st values log at)
+        outcomeOf words list limit room begun ≡ stopped (endingBy why) (scriptAt words st values log at)
     stops-there why e w = sym (u .same) ∙ here why e w
       where
         script : Running ℕ
@@ -130,22 +145,25 @@ module _ (words : List ℕ) (limit : ℕ) (begun : Running ℕ) where
 
         here :
             (why : Reason) → Ends (seenBy words) limit room script why → (why ≡ Suspended → at .steps ≡ limit) →
-            outcomeOf words limit room script ≡ stopped (endingBy why) script
-        here Nil e w = outcome-finished (namesOf words) (seenBy words) limit room script e
+            outcomeOf words list limit room script ≡ stopped (endingBy why) script
+        here Nil e w = outcome-finished (namesOf words) (listed list) (seenBy words) limit room script e
         here Suspended e w =
-            outcome-spent (namesOf words) (seenBy words) limit room script (waits-some (script .process) values e) (w refl)
-        here Spent e w = outcome-spent (namesOf words) (seenBy words) limit room script (e .live .some) (e .time)
-        here Full e w = outcome-full (namesOf words) (seenBy words) limit room script (e .live) (e .time) (e .space)
+            outcome-spent (namesOf words) (listed list) (seenBy words) limit room script (waits-some (script .process) values e)
+            (w refl)
+        here Spent e w =
+            outcome-spent (namesOf words) (listed list) (seenBy words) limit room script (e .live .some) (e .time)
+        here Full e w =
+            outcome-full (namesOf words) (listed list) (seenBy words) limit room script (e .live) (e .time) (e .space)
 
 -- what the run returns and leaves
 pub runs-to :
-    {words st st₀ : List ℕ} {values values₀ : List ℤ} {log log₀ : List ℕ} {at₀ at : Counts} {limit : ℕ}
-    (u : Comes words limit (scriptAt words st₀ values₀ log₀ at₀) st values log at) (why : Reason) →
+    {words list st st₀ : List ℕ} {values values₀ : List ℤ} {log log₀ : List ℕ} {at₀ at : Counts} {limit : ℕ}
+    (u : Comes words list limit (scriptAt words st₀ values₀ log₀ at₀) st values log at) (why : Reason) →
     Ends (seenBy words) limit (length log₀ / 4) (scriptAt words st values log at) why →
     (why ≡ Suspended → at .steps ≡ limit) → {r : Ran} → r .ending ≡ endingOf why → r .at ≡ at →
-    Runs words limit st₀ values₀ log₀ at₀ st values log r
-runs-to {words} {st} {values = values} {log = log} {at = at} {limit = limit} u why e w {r} n a =
-    let o = stops-there words limit _ u why e w in
+    Runs words list limit st₀ values₀ log₀ at₀ st values log r
+runs-to {words} {list} {st} {values = values} {log = log} {at = at} {limit = limit} u why e w {r} n a =
+    let o = stops-there words list limit _ u why e w in
     rw a
     (record {
       ending = n ∙ ap (λ (z : Outcome ℕ). endingNumber (z .ending)) (sym o);

@@ -4,6 +4,7 @@ use Prim.Native.Nat.{ℕ, suc, _+_, _-_}
 use mathlib.Core.Bool.{Bool}
 use lib.ListN.{length}
 use Rattle.language.specs.Syntax.{Names}
+use Rattle.language.specs.Steps.{Inputs}
 use Rattle.language.specs.Calls.{Line, Ending, Stop, reach}
 use Rattle.moves.specs.Moves.{Running, system, putLine}
 
@@ -36,6 +37,6 @@ module _ {L : Type 0} where
       })
 
 -- from anywhere, under a limit on all steps, with a log that has room for so many lines
-unfoldable pub outcome : {L : Type 0} → Names L → (ℕ → Bool) → ℕ → ℕ → Running L → Outcome L
-outcome names seen limit room at =
-    recorded (at .lines) (at .log) (reach names seen (limit - at .steps) (room - at .lines) (system at))
+unfoldable pub outcome : {L : Type 0} → Names L → Inputs → (ℕ → Bool) → ℕ → ℕ → Running L → Outcome L
+outcome names inputs seen limit room at =
+    recorded (at .lines) (at .log) (reach names inputs seen (limit - at .steps) (room - at .lines) (system at))

@@ -1,4 +1,4 @@
-// Runs a program, as far as the step limit and the log let it, from wherever it has come to.
+// Runs a program with its list, as far as the step limit and the log let it, from wherever it has come to.
 use moves::counts::Counts;
 use moves::counts::Reason;
 use moves::counts::Rested;
@@ -6,7 +6,7 @@ use program::WORDS;
 ghost use mathlib.Core.Path.{_≡_};
 ghost use Prim.Native.Nat.{_≤_};
 ghost use Rattle.program.specs.Program.{nodeCount};
-ghost use Rattle.runner.specs.Contracts.{root, isSuspended, endingOf, CanRun, InstantMade, CanChange, Begins, Runs};
+ghost use Rattle.runner.specs.Contracts.{root, isSuspended, endingOf, CanRun, InstantMade, CanChange, Begins, CanIdle, Idles, CanRunListed, Runs};
 
 // How a run ended: 01's number; and what it has counted.
 pub struct Ran {
@@ -61,19 +61,50 @@ pub fn run_instant(
     advance::advance(program, values, state, log, limit, at, k)
 }
 
-// The instant ends and the next one begins, which is a step.
+// The instant ends and the next one begins, which is a step. The pairs from `from` up to `to` are those of the next one.
 pub fn next_instant(
     program: &[usize; WORDS],
     values: &mut [i32],
     state: &mut [u8],
+    list: &[u32],
+    from: usize,
+    to: usize,
     at: Counts,
 ) -> Counts
-    requires { ⌜ CanChange (now program) (now state) (now values) at ⌝ }
-    ensures { λ r. ⌜ Begins (now (program .entry)) (now (state .entry)) (now (values .entry)) at (now (state .exit)) (now (values .exit)) r ⌝ }
+    requires { ⌜ CanChange (now program) (now state) (now values) (now list) from to at ⌝ }
+    ensures { λ r. ⌜ Begins (now (program .entry)) (now (list .entry)) (now (state .entry)) (now (values .entry)) at (now (state .exit)) (now (values .exit)) r ⌝ }
 {
     let k = root_of(program);
     instants::begin_instant(program, values, state, k);
+    instants::make_present(list, from, to, values);
     at.after_changes(1)
+}
+
+// How many instant changes change nothing, of a suspended script: none if a signal is present; else those up to the
+// instant before the next one that the list names, or to the limit. They are counted and not made.
+fn idle_changes(
+    program: &[usize; WORDS],
+    values: &[i32],
+    list: &[u32],
+    cursor: usize,
+    limit: usize,
+    at: Counts,
+) -> usize
+    requires { ⌜ CanIdle (now program) (now values) (now list) cursor limit at ⌝ }
+    ensures { λ r. ⌜ Idles (now (program .entry)) (now (values .entry)) (now (list .entry)) cursor limit at r ⌝ }
+{
+    if instants::some_signal_present(program, values) {
+        return 0;
+    }
+    let rest = limit - at.steps;
+    if inputs::pair_count(list) <= cursor {
+        return rest;
+    }
+    let ahead = inputs::instant_at(list, cursor) - at.instants - 1;
+    if ahead < rest {
+        return ahead;
+    }
+    rest
 }
 
 // Runs a program from these bytes, values and counts, under a limit on all steps. What is left stands in the bytes, so that
@@ -82,14 +113,16 @@ pub fn run(
     program: &[usize; WORDS],
     values: &mut [i32],
     state: &mut [u8],
+    list: &[u32],
     log: &mut [u32],
     limit: usize,
     from: Counts,
 ) -> Ran
-    requires { ⌜ CanRun (now program) (now state) (now values) (now log) limit from ⌝ }
-    ensures { λ r. ⌜ Runs (now (program .entry)) limit (now (state .entry)) (now (values .entry)) (now (log .entry)) from (now (state .exit)) (now (values .exit)) (now (log .exit)) r ⌝ }
+    requires { ⌜ CanRunListed (now program) (now state) (now values) (now list) (now log) limit from ⌝ }
+    ensures { λ r. ⌜ Runs (now (program .entry)) (now (list .entry)) limit (now (state .entry)) (now (values .entry)) (now (log .entry)) from (now (state .exit)) (now (values .exit)) (now (log .exit)) r ⌝ }
 {
     let mut at = from;
+    let mut cursor = inputs::pass(list, 0, from.instants);
     loop {
         let r = run_instant(program, values, state, log, limit, at);
         let why = r.why;
@@ -101,14 +134,13 @@ pub fn run(
                 at: reached,
             };
         }
-        if !instants::some_signal_present(program, values) {
-            // Nothing can change from here on: each step that is left is an instant change.
-            let rest = limit - reached.steps;
-            return Ran {
-                ending,
-                at: reached.after_changes(rest),
-            };
+        let idle = idle_changes(program, values, list, cursor, limit, reached);
+        let waited = reached.after_changes(idle);
+        if limit <= waited.steps {
+            return Ran { ending, at: waited };
         }
-        at = next_instant(program, values, state, reached);
+        let to = inputs::pass(list, cursor, waited.instants + 1);
+        at = next_instant(program, values, state, list, cursor, to, waited);
+        cursor = to;
     }
 }

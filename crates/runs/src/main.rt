@@ -1,6 +1,6 @@
-// Runs the examples of 01 that are not proved, and those of the report, as the file stdin has them. For each it prints a title
-// and what comes of the script, for the reader 0. What it prints is held to the file stdout, which was worked out from the two
-// papers alone.
+// Runs the examples of 01 that are not proved, those of the report and some with lists, as the file stdin has them. For each it
+// prints a title and what comes of the script, for the reader 0. What it prints is held to the file stdout, which was worked
+// out from the papers alone.
 use display::hex;
 use libc::STDIN_FILENO;
 ghost use Prim.Native.Nat.{_≤_, _<_};
@@ -8,11 +8,16 @@ ghost use lib.ListN.{length};
 
 const SCRIPT: usize = 512;
 
-// The bytes of a call: five for the book, two for the limit, and one for each value.
+// The bytes of a call: five for the book, two for the limit, and one for each value. With a list there is the number of values
+// before them, and behind them a byte for each word of the list.
 const CALL: usize = 72;
 
 fn signed(byte: u8) -> i32 {
     byte as i32
+}
+
+fn unsigned(byte: u8) -> u32 {
+    byte as u32
 }
 
 fn numbers_of(bytes: &[u8]) -> [i32; CALL]
@@ -27,27 +32,58 @@ fn numbers_of(bytes: &[u8]) -> [i32; CALL]
     numbers
 }
 
-// Runs a script by the bytes of a call.
-fn call(script: &[u8], bytes: &[u8])
-    requires { ⌜ (7 ≤ length (now bytes)) × (length (now bytes) ≤ 72) ⌝ }
+fn words_of(bytes: &[u8]) -> [u32; CALL]
+    requires { ⌜ length (now bytes) ≤ 72 ⌝ }
+{
+    let mut words = [0u32; CALL];
+    let mut i: usize = 0;
+    while i < bytes.len() {
+        words[i] = unsigned(bytes[i]);
+        i += 1;
+    }
+    words
+}
+
+// Runs a script by the bytes of a call: its values begin at index `from`, its list at index `end`.
+fn call(script: &[u8], bytes: &[u8], from: usize, end: usize)
+    requires { ⌜ (7 ≤ from) × (from ≤ end) × (end ≤ length (now bytes)) × (length (now bytes) ≤ 72) ⌝ }
 {
     let mut numbers = numbers_of(bytes);
+    let words = words_of(bytes);
     let n = bytes.len();
     let limit = prelude::word_of(bytes[5], bytes[6]) as u32;
-    display::show_run(&bytes[0..5], script, &mut numbers[7..n], limit);
+    display::show_run(
+        &bytes[0..5],
+        script,
+        &mut numbers[from..end],
+        limit,
+        &words[end..n],
+    );
 }
 
 fn run(line: &[u8], script: &[u8]) {
     let mut bytes = [0u8; CALL];
     let n = hex::read(line, &mut bytes, 0);
     if 7 <= n {
-        call(script, &bytes[0..n]);
+        call(script, &bytes[0..n], 7, n);
     }
     display::say_byte(b'\n');
 }
 
-// A line's first byte says what it is: a title, the start of a script, a part of it, or a run. Answers how many bytes of the
-// script there are.
+fn run_listed(line: &[u8], script: &[u8]) {
+    let mut bytes = [0u8; CALL];
+    let n = hex::read(line, &mut bytes, 0);
+    let count = prelude::wide(bytes[7]);
+    if 8 <= n {
+        if count <= n - 8 {
+            call(script, &bytes[0..n], 8, 8 + count);
+        }
+    }
+    display::say_byte(b'\n');
+}
+
+// A line's first byte says what it is: a title, the start of a script, a part of it, a run, or a run with a list. Answers how
+// many bytes of the script there are.
 fn take_line(line: &[u8], script: &mut [u8], end: usize) -> usize
     requires { ⌜ (0 < length (now line)) × (end ≤ length (now script)) ⌝ }
     ensures { λ r. ⌜ r ≤ length (now (script .entry)) ⌝ }
@@ -57,6 +93,7 @@ fn take_line(line: &[u8], script: &mut [u8], end: usize) -> usize
         b'n' => return 0,
         b's' => return hex::read(line, script, end),
         b'r' => run(line, &script[0..end]),
+        b'l' => run_listed(line, &script[0..end]),
         _ => {}
     }
     end

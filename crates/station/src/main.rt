@@ -20,11 +20,12 @@ fn load(path: &[u8; 10], buffer: &mut [u8; SIZE]) -> usize
     n
 }
 
-// Runs a script from the values of a file, for 1000 steps.
+// Runs a script from the values of a file, for 1000 steps. No signal is listed.
 fn show(book: &[u8], script: &[u8], bytes: &[u8]) {
     let mut values = [0i32; Script::MAX_NAMES + 1];
     let n = file_values::read_values(bytes, &mut values);
-    display::show_run(book, script, &mut values[0..n], 1000);
+    let list = [0u32; 0];
+    display::show_run(book, script, &mut values[0..n], 1000, &list);
 }
 
 fn main() {

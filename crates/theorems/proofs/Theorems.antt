@@ -1,16 +1,18 @@
 -- The theorems about the two calls. Their statements stand in specs/Results.antt.
 use mathlib.Core.Path.{_≡_, refl, sym, ap, _∙_, subst}
-use mathlib.Core.Bool.{Bool, true}
-use mathlib.Core.List.{List, map}
+use mathlib.Core.Bool.{Bool, true, _&&_}
+use mathlib.Core.Option.{none, some}
+use mathlib.Core.List.{List, [], map}
 use Prim.Native.Nat.{ℕ, _/_, _≤_, _<_}
 use native.Mathlib.Decide.{decLt}
 use native.Mathlib.Omega.{arith}
 use lib.IntN.{ℤ}
 use lib.ListN.{length}
 use lib.Dec.{ltb}
-use borrow.Author.Tests.{eq-eqb, eqb-true, ltb-true}
+use borrow.Author.Tests.{eq-eqb, eqb-true, lt-ltb, ltb-true}
 use Rattle.prelude.specs.Refusals.{passes}
-use Rattle.prelude.proofs.Bools.{by-cases, and-left, and-right}
+use Rattle.prelude.specs.Search.{firstFrom, first, any}
+use Rattle.prelude.proofs.Bools.{by-cases, fails, and-intro, and-left, and-right, same-truth}
 use Rattle.book.specs.LevelBook.{count, rows, atOrBelow}
 use Rattle.lattice.specs.Refusals as books
 use Rattle.lattice.specs.Lattice.{Lattice, bookLattice}
@@ -20,12 +22,16 @@ use Rattle.language.specs.Levels.{writeLevel, testLevel}
 use Rattle.language.specs.Scope.{Scoped}
 use Rattle.language.specs.Calls.{Run, starts, readable, run, lineWords}
 use Rattle.language.specs.Typing.{Below, Typed, Tightest}
-use Rattle.language.specs.Results.{LevelsAgree, stampedUpTo, StartsAgree, RecordsAgree}
+use Rattle.language.specs.NameKinds.{sig}
+use Rattle.language.specs.Results.{LevelsAgree, stampedUpTo, StartsAgree, InputsAgree, RecordsAgree}
 use Rattle.language.proofs.LevelRanges.{Closed, levels-in}
 use Rattle.language.proofs.Theorems as language
+use Rattle.report.specs.Configurations.{InputsWithin}
 use Rattle.report.specs.Scope.{Script}
 use Rattle.report.proofs.Starts.{begun-begins}
 use Rattle.report.proofs.Theorems as report
+use Rattle.inputs.specs.Lists.{listed}
+use Rattle.inputs.proofs.Lists.{listed-where}
 use Rattle.layout.specs.Layout.{nameCount}
 use Rattle.layout.specs.Entries.{isSessionName}
 use Rattle.script.specs.Checked.{Checked}
@@ -36,12 +42,13 @@ use Rattle.tree.proofs.Theorems.{tree-scoped, tree-named}
 use Rattle.results.specs.declared.Verdict.{Verdict}
 use Rattle.checker.specs.Refusals.{checkRefusal}
 use Rattle.arguments.specs.Refusals.{runRefusal}
+use Rattle.arguments.specs.Contracts.{ListRight}
 use Rattle.results.specs.Reports.{verdictBy}
 use Rattle.engine.specs.Answers.{verdict, runOf, Left, leftBy, left}
 use Rattle.theorems.specs.Records.{stamp}
-use Rattle.theorems.specs.Results.{sessionEnvironment, CheckAgrees, RunAgrees, RunReported, StartEqual, NothingShows, DemandThree}
+use Rattle.theorems.specs.Results.{sessionEnvironment, CheckAgrees, RunAgrees, RunsUnlisted, RunReported, Readable, StartEqual, ListsAgree, NothingShows, DemandThree, DemandThreeUnlisted}
 use Rattle.checker.proofs.Passing.{Accepted, checked, accepted, accepts}
-use Rattle.arguments.proofs.Passing.{Started, run-accepted}
+use Rattle.arguments.proofs.Passing.{Started, run-accepted, run-listed}
 use Rattle.theorems.proofs.Records.{record-of, stamped-words}
 
 -- the operations of a book's lattice give levels of the book
@@ -148,29 +155,50 @@ module _ (b s : List ℕ) where
             );
       }
 
-module _ (b s : List ℕ) (reader : ℕ) (values : List ℤ) (limit : ℕ) (log : List ℕ) where
+-- what a list names that is not refused: session signals of the script
+module _ (s list : List ℕ) (right : ListRight s list) where
+  listed-known : (i a : ℕ) → listed list i a ≡ true → (a < nameCount s) × (namesOf s .isSession a ≡ true)
+  listed-known i a h =
+      let u = listed-where list i a h in
+      rw (← u .3) (right .known (u .0) (u .1), right .session (u .0) (u .1))
+
+  inputs-within : InputsWithin (sessionEnvironment s) (listed list)
+  inputs-within i a e = fails (listed list i a) (λ h. absent (in-session h) e)
+    where
+      in-session : listed list i a ≡ true → (isSessionName s a && namesOf s .isSignal a) ≡ true
+      in-session h =
+          let u = listed-where list i a h in
+          let k = listed-known i a h in
+          let signal : namesOf s .isSignal a ≡ true = rw (← u .3) (right .signals (u .0) (u .1)) in
+          and-intro _ _ (and-intro _ _ (lt-ltb a (nameCount s) (k .0)) (k .1)) signal
+
+      absent : (isSessionName s a && namesOf s .isSignal a) ≡ true → sessionEnvironment s sig a ≡ none → ⊥
+      absent h e = let d : some (namesOf s .level a) ≡ none = rw h at e in let z : _≡_ {A = ℕ} 0 1 = cc in omega arith
+
+module _ (b s : List ℕ) (reader : ℕ) (values : List ℤ) (limit : ℕ) (list log : List ℕ) where
   -- as above, of run
   left-passes :
-      left b s reader values limit log .report .number ≡ 0 → passes (runRefusal b s reader values limit) ≡ true
+      left b s reader values limit list log .report .number ≡ 0 → passes (runRefusal b s reader values limit list) ≡ true
   unfolding left
   left-passes =
       by-cases
-      (λ (l : Left). l .report .number ≡ 0 → passes (runRefusal b s reader values limit) ≡ true)
-      (passes (runRefusal b s reader values limit))
+      (λ (l : Left). l .report .number ≡ 0 → passes (runRefusal b s reader values limit list) ≡ true)
+      (passes (runRefusal b s reader values limit list))
       (λ t z. t)
       (λ f z. eq-eqb _ _ z)
 
   left-is :
-      left b s reader values limit log .report .number ≡ 0 →
-      left b s reader values limit log ≡ leftBy (runOf b s reader values limit log) log
+      left b s reader values limit list log .report .number ≡ 0 →
+      left b s reader values limit list log ≡ leftBy (runOf b s reader values limit list log) log
   unfolding left
   left-is z = let h = left-passes z in rw h
 
-  pub run-agrees : RunAgrees b s reader values limit log
+  pub run-agrees : RunAgrees b s reader values limit list log
   run-agrees =
       let agree =
       language.runs-agree
       (namesOf s)
+      (listed list)
       (readable (bookLattice b) (namesOf s) reader)
       limit
       (length log / 4)
@@ -193,14 +221,15 @@ module _ (b s : List ℕ) (reader : ℕ) (values : List ℤ) (limit : ℕ) (log 
         declared = t .declared;
       }
 
-  pub run-reported : RunReported b s reader values limit log
+  pub run-reported : RunReported b s reader values limit list log
   run-reported =
       record {
         begins = begun-begins (sessionEnvironment s) (starts (tree s) values);
         reported =
             λ z C begins.
-            let a = run-accepted b s reader values limit (left-passes z) in
+            let a = run-accepted b s reader values limit list (left-passes z) in
             report.reported (script-of (checked b s (a .0 .script))) (a .1 .named) begins
+            (inputs-within s list (run-listed b s reader values limit list (left-passes z)))
             (λ δ. bookLattice b .leq δ reader)
             (run-agrees .path)
             refl;
@@ -222,22 +251,35 @@ starts-agree b s reader values₁ values₂ one two same =
       owned = λ x n. (one .owned x n, two .owned x n);
     }
 
+-- lists that agree for the session agree for the whole script, since they name nothing else
+inputs-agree :
+    (b s : List ℕ) (reader : ℕ) (list₁ list₂ : List ℕ) → ListRight s list₁ → ListRight s list₂ →
+    ListsAgree b s reader list₁ list₂ → InputsAgree (bookLattice b) (namesOf s) reader (listed list₁) (listed list₂)
+inputs-agree b s reader list₁ list₂ one two same i a r =
+    same-truth _ _
+    (λ h. let k = listed-known s list₁ one i a h in sym (same i a (here (k .0) (k .1))) ∙ h)
+    (λ h. let k = listed-known s list₂ two i a h in same i a (here (k .0) (k .1)) ∙ h)
+  where
+    here : a < nameCount s → namesOf s .isSession a ≡ true → Readable b s reader a
+    here l n = record { known = l; session = n; low = r }
+
 -- the runs of two calls: they have the same room, since the logs are equally long
 records-agree :
-    (b s : List ℕ) (reader n m : ℕ) (values₁ values₂ : List ℤ) (log₁ log₂ : List ℕ) → n ≤ m →
+    (b s : List ℕ) (reader n m : ℕ) (values₁ values₂ : List ℤ) (list₁ list₂ log₁ log₂ : List ℕ) → n ≤ m →
     length log₁ ≡ length log₂ → Accepted b s → StartsAgree (bookLattice b) (namesOf s) reader values₁ values₂ →
-    RecordsAgree (bookLattice b) (namesOf s) reader n m (runOf b s reader values₁ n log₁)
-    (runOf b s reader values₂ m log₂)
-records-agree b s reader n m values₁ values₂ log₁ log₂ l same-length a same =
+    InputsAgree (bookLattice b) (namesOf s) reader (listed list₁) (listed list₂) →
+    RecordsAgree (bookLattice b) (namesOf s) reader n m (runOf b s reader values₁ n list₁ log₁)
+    (runOf b s reader values₂ m list₂ log₂)
+records-agree b s reader n m values₁ values₂ list₁ list₂ log₁ log₂ l same-length a same inputs =
     let names : Names ℕ = namesOf s in
     let sees : ℕ → Bool = readable (bookLattice b) names reader in
     subst
     (λ k.
-    RecordsAgree (bookLattice b) names reader n m (runOf b s reader values₁ n log₁)
-    (run names sees m (k / 4) (starts (tree s) values₂)))
+    RecordsAgree (bookLattice b) names reader n m (runOf b s reader values₁ n list₁ log₁)
+    (run names (listed list₂) sees m (k / 4) (starts (tree s) values₂)))
     same-length
     (language.noninterference (bookLattice b) (book-laws b (a .book)) names (tree s) (scoped b s (a .script)) (a .flow)
-    reader values₁ values₂ same (length log₁ / 4) n m l)
+    reader values₁ values₂ same (listed list₁) (listed list₂) inputs (length log₁ / 4) n m l)
 
 -- what is proved of two runs, said of what they leave
 nothing-shows :
@@ -256,11 +298,25 @@ nothing-shows b s reader n m r₁ r₂ log₁ log₂ h =
     }
 
 pub demand-three : DemandThree
-demand-three b s reader n m values₁ values₂ log₁ log₂ l same-length zero₁ zero₂ same =
-    let one = run-accepted b s reader values₁ n (left-passes b s reader values₁ n log₁ zero₁) in
-    let two = run-accepted b s reader values₂ m (left-passes b s reader values₂ m log₂ zero₂) in
+demand-three b s reader n m values₁ values₂ list₁ list₂ log₁ log₂ l same-length zero₁ zero₂ same lists =
+    let passes₁ = left-passes b s reader values₁ n list₁ log₁ zero₁ in
+    let passes₂ = left-passes b s reader values₂ m list₂ log₂ zero₂ in
+    let one = run-accepted b s reader values₁ n list₁ passes₁ in
+    let two = run-accepted b s reader values₂ m list₂ passes₂ in
     let start = starts-agree b s reader values₁ values₂ (one .1) (two .1) same in
+    let inputs =
+    inputs-agree b s reader list₁ list₂ (run-listed b s reader values₁ n list₁ passes₁)
+    (run-listed b s reader values₂ m list₂ passes₂) lists in
     rw
-    (left-is b s reader values₁ n log₁ zero₁, left-is b s reader values₂ m log₂ zero₂)
+    (left-is b s reader values₁ n list₁ log₁ zero₁, left-is b s reader values₂ m list₂ log₂ zero₂)
     (nothing-shows b s reader n m _ _ log₁ log₂
-    (records-agree b s reader n m values₁ values₂ log₁ log₂ l same-length (one .0) start))
+    (records-agree b s reader n m values₁ values₂ list₁ list₂ log₁ log₂ l same-length (one .0) start inputs))
+
+pub demand-three-unlisted : DemandThreeUnlisted
+demand-three-unlisted b s reader n m values₁ values₂ log₁ log₂ l same-length zero₁ zero₂ same =
+    demand-three b s reader n m values₁ values₂ [] [] log₁ log₂ l same-length zero₁ zero₂ same (λ i x r. refl)
+
+pub runs-unlisted :
+    (b s : List ℕ) (reader : ℕ) (values : List ℤ) (limit : ℕ) (log : List ℕ) → RunsUnlisted b s reader values limit log
+unfolding listed any first firstFrom
+runs-unlisted b s reader values limit log = refl

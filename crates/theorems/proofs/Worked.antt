@@ -18,10 +18,11 @@ use Rattle.scope.specs.Reach.{isOutOfReach, reachRefusal}
 use Rattle.script.specs.Refusals as scripts
 use Rattle.tree.specs.Tree.{expressionOf, processOf}
 use Rattle.checker.specs.Refusals.{checkRefusal}
-use Rattle.arguments.specs.Refusals.{valuesRefusal, callRefusal, runRefusal}
+use Rattle.inputs.specs.Lists.{listed}
+use Rattle.arguments.specs.Refusals.{valuesRefusal, listRefusal, callRefusal, runRefusal}
 use Rattle.engine.specs.Answers.{verdict, left}
 use Rattle.theorems.specs.Examples.{ExamplesHold}
 
 pub examples-hold : ExamplesHold
-unfolding firstFrom first any all count total course entry table leastUpper top orders.isFaulty orders.firstFaulty orders.refusal pairs.firstLacking books.refusal clamped quotient isNil expLevel writeLevel testLevel need evaluate value suspended move change instantStart step calledFor givenBack noted reach used timesUsed isOutOfReach fieldIsRight faultRefusal useRefusal reachRefusal scripts.entryRefusal scripts.refusal expressionOf processOf words checkRefusal valuesRefusal callRefusal runRefusal verdict left
+unfolding firstFrom first any all count total course entry table leastUpper top orders.isFaulty orders.firstFaulty orders.refusal pairs.firstLacking books.refusal clamped quotient isNil expLevel writeLevel testLevel need evaluate value suspended move change instantStart step calledFor givenBack noted reach used timesUsed isOutOfReach fieldIsRight faultRefusal useRefusal reachRefusal scripts.entryRefusal scripts.refusal expressionOf processOf words checkRefusal listed valuesRefusal listRefusal callRefusal runRefusal verdict left
 examples-hold = refl

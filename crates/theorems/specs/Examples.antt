@@ -51,11 +51,12 @@ pub record Example : Type 0 where
   pub reader : ℕ
   pub values : List ℤ
   pub limit : ℕ
+  pub list : List ℕ
   pub log : List ℕ
   pub checked : Verdict
   pub ran : Left
 
--- A call on a script with these values, for the reader 0 and at most so many steps; what comes out.
+-- A call on a script with these values and no list, for the reader 0 and at most so many steps; what comes out.
 abbrev call : List ℕ → List ℤ → ℕ → Verdict → Left → Example
 call s values limit checked ran =
     record {
@@ -64,6 +65,7 @@ call s values limit checked ran =
       reader = 0;
       values = values;
       limit = limit;
+      list = [];
       log = logWith [];
       checked = checked;
       ran = ran;
@@ -192,7 +194,10 @@ examples =
 
 -- what the two calls answer, and what must come out
 abbrev pub answers : Example → Verdict × Left
-answers p = (verdict (p .book) (p .script), left (p .book) (p .script) (p .reader) (p .values) (p .limit) (p .log))
+answers p = (
+  verdict (p .book) (p .script),
+  left (p .book) (p .script) (p .reader) (p .values) (p .limit) (p .list) (p .log),
+)
 
 abbrev pub comesOut : Example → Verdict × Left
 comesOut p = (p .checked, p .ran)

@@ -3,20 +3,21 @@
 use mathlib.Core.Path.{_≡_}
 use mathlib.Core.Bool.{true, false}
 use mathlib.Core.Logic.{_↔_}
-use mathlib.Core.List.{List}
+use mathlib.Core.List.{List, []}
 use Prim.Native.Nat.{ℕ, _/_, _≤_, _<_}
 use lib.IntN.{ℤ}
 use lib.ListN.{length}
 use Rattle.book.specs.LevelBook.{count}
 use Rattle.lattice.specs.Lattice.{Laws, bookLattice}
 use Rattle.lattice.specs.Refusals as books
-use Rattle.language.specs.Steps.{held}
-use Rattle.language.specs.Calls.{Run, starts, readable}
+use Rattle.language.specs.Steps.{held, noInputs}
+use Rattle.language.specs.Calls.{Run, starts, readable, run}
 use Rattle.language.specs.Typing.{Environment, environment, Typed, Tightest}
 use Rattle.language.specs.Paths.{IsRun}
 use Rattle.language.specs.Results.{stampedUpTo}
 use Rattle.report.specs.Configurations.{Configuration, Begins, begun}
 use Rattle.report.specs.Results.{Reported}
+use Rattle.inputs.specs.Lists.{listed}
 use Rattle.layout.specs.Layout.{nameCount}
 use Rattle.layout.specs.Entries.{isSessionName}
 use Rattle.script.specs.Refusals as scripts
@@ -53,29 +54,36 @@ pub record CheckAgrees (b s : List ℕ) : Type 0 where
 
 -- Demand 2, the runner. A call that is not refused leaves what a path of the report's steps gives that ends where 01
 -- says; there is such a path, and no other.
-pub record RunAgrees (b s : List ℕ) (reader : ℕ) (values : List ℤ) (limit : ℕ) (log : List ℕ) : Type 0 where
+pub record RunAgrees (b s : List ℕ) (reader : ℕ) (values : List ℤ) (limit : ℕ) (list log : List ℕ) : Type 0 where
   pub is :
-      left b s reader values limit log .report .number ≡ 0 →
-      left b s reader values limit log ≡ leftBy (runOf b s reader values limit log) log
+      left b s reader values limit list log .report .number ≡ 0 →
+      left b s reader values limit list log ≡ leftBy (runOf b s reader values limit list log) log
   pub path :
-      IsRun (namesOf s) (readable (bookLattice b) (namesOf s) reader) limit (length log / 4) (starts (tree s) values)
-      (runOf b s reader values limit log)
+      IsRun (namesOf s) (listed list) (readable (bookLattice b) (namesOf s) reader) limit (length log / 4)
+      (starts (tree s) values) (runOf b s reader values limit list log)
   pub only :
       (r : Run) →
-      IsRun (namesOf s) (readable (bookLattice b) (namesOf s) reader) limit (length log / 4) (starts (tree s) values) r →
-      r ≡ runOf b s reader values limit log
+      IsRun (namesOf s) (listed list) (readable (bookLattice b) (namesOf s) reader) limit (length log / 4)
+      (starts (tree s) values) r →
+      r ≡ runOf b s reader values limit list log
+
+-- 'The program's list is empty': a run with an empty list is one without inputs.
+abbrev pub RunsUnlisted : List ℕ → List ℕ → ℕ → List ℤ → ℕ → List ℕ → Type 0
+RunsUnlisted b s reader values limit log =
+    runOf b s reader values limit [] log
+    ≡ run (namesOf s) noInputs (readable (bookLattice b) (namesOf s) reader) limit (length log / 4) (starts (tree s) values)
 
 -- The same in the report's own terms, with fresh names, from any configuration ⟨Γ, S, E, script⟩ in which S and E hold the
 -- call's values: the report has a path of as many steps as the call returns, and every path of as many steps has the
 -- call's instants, values of the session and lines, leaves what the run leaves, up to its names, and ends as it does.
--- That the call leaves what `runOf` gives is `RunAgrees.is`.
-pub record RunReported (b s : List ℕ) (reader : ℕ) (values : List ℤ) (limit : ℕ) (log : List ℕ) : Type 0 where
+-- That the call leaves what `runOf` gives is `RunAgrees.is`. I is what the list names for the instant that is entered.
+pub record RunReported (b s : List ℕ) (reader : ℕ) (values : List ℤ) (limit : ℕ) (list log : List ℕ) : Type 0 where
   pub begins : Begins (sessionEnvironment s) (starts (tree s) values) (begun (sessionEnvironment s) (starts (tree s) values))
   pub reported :
-      left b s reader values limit log .report .number ≡ 0 → (C : Configuration ℕ) →
+      left b s reader values limit list log .report .number ≡ 0 → (C : Configuration ℕ) →
       Begins (sessionEnvironment s) (starts (tree s) values) C →
-      Reported (namesOf s) (sessionEnvironment s) (λ δ. bookLattice b .leq δ reader) limit (starts (tree s) values) C
-      (runOf b s reader values limit log)
+      Reported (namesOf s) (sessionEnvironment s) (listed list) (λ δ. bookLattice b .leq δ reader) limit
+      (starts (tree s) values) C (runOf b s reader values limit list log)
 
 -- a session name at or below the reader's level
 pub record Readable (b s : List ℕ) (reader x : ℕ) : Type 0 where
@@ -86,6 +94,10 @@ pub record Readable (b s : List ℕ) (reader x : ℕ) : Type 0 where
 -- 'they start from values equal for every session register and signal at or below the reader's level'
 abbrev pub StartEqual : List ℕ → List ℕ → ℕ → List ℤ → List ℤ → Type 0
 StartEqual b s reader values₁ values₂ = (x : ℕ) → Readable b s reader x → held values₁ x ≡ held values₂ x
+
+-- 02 (a): 'the two lists agree: in every instant they name the same signals at or below the reader's level'
+abbrev pub ListsAgree : List ℕ → List ℕ → ℕ → List ℕ → List ℕ → Type 0
+ListsAgree b s reader list₁ list₂ = (i x : ℕ) → Readable b s reader x → listed list₁ i x ≡ listed list₂ i x
 
 -- 'the first record is exactly those lines of the second that are stamped n or less, word for word, in the same order.
 -- With n = m the records are equal and the session registers at or below that level end equal.'
@@ -100,7 +112,16 @@ pub record NothingShows (b s : List ℕ) (reader n m : ℕ) (one two : Left) : T
 -- refused, that allow n and m steps, n ≤ m'. What the logs held before is left free.
 abbrev pub DemandThree : Type 0
 DemandThree =
-    (b s : List ℕ) (reader n m : ℕ) (values₁ values₂ : List ℤ) (log₁ log₂ : List ℕ) → n ≤ m → length log₁ ≡ length log₂ →
-    left b s reader values₁ n log₁ .report .number ≡ 0 → left b s reader values₂ m log₂ .report .number ≡ 0 →
-    StartEqual b s reader values₁ values₂ →
-    NothingShows b s reader n m (left b s reader values₁ n log₁) (left b s reader values₂ m log₂)
+    (b s : List ℕ) (reader n m : ℕ) (values₁ values₂ : List ℤ) (list₁ list₂ log₁ log₂ : List ℕ) → n ≤ m →
+    length log₁ ≡ length log₂ → left b s reader values₁ n list₁ log₁ .report .number ≡ 0 →
+    left b s reader values₂ m list₂ log₂ .report .number ≡ 0 → StartEqual b s reader values₁ values₂ →
+    ListsAgree b s reader list₁ list₂ →
+    NothingShows b s reader n m (left b s reader values₁ n list₁ log₁) (left b s reader values₂ m list₂ log₂)
+
+-- the same without lists, as 01 has it
+abbrev pub DemandThreeUnlisted : Type 0
+DemandThreeUnlisted =
+    (b s : List ℕ) (reader n m : ℕ) (values₁ values₂ : List ℤ) (log₁ log₂ : List ℕ) → n ≤ m →
+    length log₁ ≡ length log₂ → left b s reader values₁ n [] log₁ .report .number ≡ 0 →
+    left b s reader values₂ m [] log₂ .report .number ≡ 0 → StartEqual b s reader values₁ values₂ →
+    NothingShows b s reader n m (left b s reader values₁ n [] log₁) (left b s reader values₂ m [] log₂)

@@ -226,6 +226,17 @@ struct Numbers {
 
 /// Writes a script under random numbers for names, expressions and nodes.
 pub fn write(script: &Script, rng: &mut Rng) -> File {
+    let names = rng.permutation(script.names.len());
+    write_under(script, names, rng)
+}
+
+/// Writes a script under random numbers for expressions and nodes; names keep their numbers.
+pub fn write_names_in_order(script: &Script, rng: &mut Rng) -> File {
+    let names = (0..script.names.len()).collect();
+    write_under(script, names, rng)
+}
+
+fn write_under(script: &Script, names: Vec<usize>, rng: &mut Rng) -> File {
     let mut processes = Parts::new();
     processes.add(&script.root, &|process: &Process| process.children());
     let mut expressions = Parts::new();
@@ -236,7 +247,7 @@ pub fn write(script: &Script, rng: &mut Rng) -> File {
     let interleaved = rng.chance(3, 4);
     let roots = own.iter().flatten().copied().collect();
     let numbers = Numbers {
-        names: rng.permutation(script.names.len()),
+        names,
         nodes: processes.numbers(vec![0], interleaved, rng),
         expressions: expressions.numbers(roots, interleaved, rng),
     };

@@ -1,10 +1,11 @@
-//! Seeded random cases for the comparison: level books, script files, values, readers, limits and
-//! logs; right ones, refused ones and damaged ones.
+//! Seeded random cases for the comparison: level books, script files, values, readers, limits, lists
+//! and logs; right ones, refused ones and damaged ones.
 #![forbid(unsafe_code)]
 
 pub mod damage;
 pub mod file;
 pub mod grow;
+pub mod list;
 pub mod order;
 mod rng;
 mod shapes;
@@ -26,6 +27,8 @@ pub struct Case {
     pub reader: u32,
     pub values: Vec<i32>,
     pub limit: u32,
+    /// Two words to a pair: instant, then name.
+    pub list: Vec<u32>,
     /// The log's length in words.
     pub log: usize,
 }
@@ -102,6 +105,8 @@ fn careless(rng: &mut Rng) -> Careless {
 fn draft(rng: &mut Rng) -> Draft {
     let lattice = order::lattice(rng);
     let shape = rng.below(100);
+    // A wait of hundreds of thousands of instants is slow.
+    let long_wait = rng.chance(1, 400);
     let careless = if rng.chance(1, 3) {
         Some(careless(rng))
     } else {
@@ -117,6 +122,7 @@ fn draft(rng: &mut Rng) -> Draft {
         grow::script(rng, &lattice, style)
     };
     let script = match shape {
+        _ if long_wait => shapes::waits(rng, &lattice),
         0..=1 => shapes::one_node(rng, &lattice),
         2..=3 => shapes::deep(rng, &lattice),
         4 => shapes::deep_expression(rng, &lattice),
@@ -125,10 +131,15 @@ fn draft(rng: &mut Rng) -> Draft {
         21..=24 => grown((41, 150), (2, 40)),
         _ => grown((5, 40), (1, 10)),
     };
-    with_inputs(rng, lattice, script)
+    let mut draft = with_inputs(rng, lattice, script);
+    if long_wait || rng.chance(1, 60) {
+        let gap = list::long_gap(rng, long_wait);
+        list::add_gap(rng, &mut draft, gap);
+    }
+    draft
 }
 
-/// Writes the script, and chooses reader, values, limit and log.
+/// Writes the script, and chooses reader, values, limit, list and log.
 fn with_inputs(rng: &mut Rng, lattice: Lattice, script: Script) -> Draft {
     let file = file::write(&script, rng);
     let reader = if rng.chance(1, 2) {
@@ -141,6 +152,7 @@ fn with_inputs(rng: &mut Rng, lattice: Lattice, script: Script) -> Draft {
         reader: reader as u32,
         values: values(rng, &file),
         limit: limit(rng, &file),
+        list: list::list(rng, &file),
         log: log(rng),
         lattice,
         file,
@@ -197,10 +209,16 @@ fn damaged(draft: &mut Draft, rng: &mut Rng, count: usize) -> Vec<&'static Sort>
     chosen
 }
 
-/// Sorts of faults, after the first often of neighbouring refusals, so that their order is tested.
+/// Sorts of faults, after the first often of neighbouring refusals, so that their order is tested. Of several
+/// the first is often of any refusal alike, since some refusals have few sorts.
 fn some_sorts(rng: &mut Rng, count: usize) -> Vec<&'static Sort> {
     let all: Vec<&'static Sort> = damage::sorts().collect();
-    let first = all[rng.below(all.len())];
+    let mut first = all[rng.below(all.len())];
+    if count > 1 && rng.chance(1, 2) {
+        let refusal = rng.between(1, 15) as u32;
+        let of_it = all.iter().copied().filter(|sort| sort.refusal == refusal);
+        first = rng.pick(&of_it.collect::<Vec<_>>()).unwrap_or(first);
+    }
     let near = |sort: &&'static Sort| sort.refusal.abs_diff(first.refusal) == 1;
     let neighbours: Vec<&'static Sort> = all.iter().copied().filter(near).collect();
     let mut chosen = vec![first];

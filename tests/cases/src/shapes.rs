@@ -1,4 +1,4 @@
-//! Scripts of special shapes: one node, deep chains, the largest file.
+//! Scripts of special shapes: one node, waits, deep chains, the largest file.
 
 use crate::file::{MOST_EXPRESSIONS, MOST_NAMES, MOST_NODES};
 use crate::grow::{self, Careless, Style};
@@ -40,6 +40,25 @@ pub fn one_node(rng: &mut Rng, lattice: &Lattice) -> Script {
         0 => Process::Nil,
         1 => Process::Emit(SIGNAL),
         _ => Process::Assign(REGISTER, Expression::Constant(grow::value(rng))),
+    };
+    Script {
+        names: three_names(rng, lattice),
+        root,
+    }
+}
+
+/// A small script without loops that waits for session signals, and does nothing but wait in most instants.
+pub fn waits(rng: &mut Rng, lattice: &Lattice) -> Script {
+    let (first, second) = (leaf(rng), leaf(rng));
+    let other = match rng.chance(1, 2) {
+        true => when(OTHER, second),
+        false => watching(OTHER, when(SIGNAL, second)),
+    };
+    let root = match rng.below(4) {
+        0 => when(SIGNAL, first),
+        1 => sequence(when(SIGNAL, first), other),
+        2 => parallel(when(SIGNAL, first), other),
+        _ => watching(SIGNAL, sequence(first, other)),
     };
     Script {
         names: three_names(rng, lattice),

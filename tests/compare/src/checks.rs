@@ -1,24 +1,31 @@
 //! The checks that the command runs, each with its line in the report.
 
 use crate::coverage::Coverage;
-use crate::demand_three;
-use crate::engine::{Raw, Reference, Wrapper};
+use crate::demand_three::{self, Vary};
+use crate::engine::{Engine, Raw, Reference, Wrapper};
 use crate::report::Report;
 use crate::tally::Tally;
-use crate::{examples, faults, long_runs, sweep};
+use crate::{examples, faults, long_runs, small_lists, sweep};
 use reference::{Fault, Rules};
 
-/// Faults that let a reader see what is sealed; demand 3 must not hold under any of them.
-const LEAKS: [Fault; 9] = [
-    Fault::WhileAgainstConditionOnly,
-    Fault::ParallelOneWay,
-    Fault::LetFlowUnchecked,
-    Fault::IfJoinsWrites,
-    Fault::WatchingFlowUnchecked,
-    Fault::SequenceReversed,
-    Fault::SecondOperandIgnored,
-    Fault::LetWritesLine,
-    Fault::EveryLevelLogged,
+/// Faults that let a reader see what is sealed; demand 3 must not hold under any of them, where the runs
+/// differ in this. Lists alone are enough where a sealed signal is tested, or where it takes a step.
+const LEAKS: [(Fault, Vary); 15] = [
+    (Fault::WhileAgainstConditionOnly, Vary::StartsAndLists),
+    (Fault::ParallelOneWay, Vary::StartsAndLists),
+    (Fault::LetFlowUnchecked, Vary::StartsAndLists),
+    (Fault::IfJoinsWrites, Vary::StartsAndLists),
+    (Fault::WatchingFlowUnchecked, Vary::StartsAndLists),
+    (Fault::SequenceReversed, Vary::StartsAndLists),
+    (Fault::SecondOperandIgnored, Vary::StartsAndLists),
+    (Fault::LetWritesLine, Vary::StartsAndLists),
+    (Fault::EveryLevelLogged, Vary::StartsAndLists),
+    (Fault::WhenFlowUnchecked, Vary::Lists),
+    (Fault::WatchingFlowUnchecked, Vary::Lists),
+    (Fault::SequenceReversed, Vary::Lists),
+    (Fault::ParallelOneWay, Vary::Lists),
+    (Fault::WhileAgainstConditionOnly, Vary::Lists),
+    (Fault::ListedTakesStep, Vary::Lists),
 ];
 
 /// The most pairs that are tried under a leak.
@@ -51,10 +58,21 @@ pub fn long_runs(report: &mut Report) {
     }
 }
 
+pub fn small_lists(report: &mut Report) {
+    let compared = |result: Result<u64, String>| result.map(|runs| format!("in {runs} runs"));
+    let words = compared(small_lists::compare_words());
+    report.line("every list of up to five small words", words);
+    let pairs = compared(small_lists::compare_pairs());
+    report.line("every list of three early pairs", pairs);
+}
+
 /// Demand 3 of the library, by both ways in, and its floors.
 pub fn demand_three(report: &mut Report, count: u64, seed: u64) {
-    let both = demand_three::sweep(&Raw, count, seed)
-        .and_then(|tally| demand_three::sweep(&Wrapper, count / 4, seed + 1).map(|_| tally));
+    let sweep = |engine: &dyn Engine, count, seed| {
+        demand_three::sweep(engine, Vary::StartsAndLists, count, seed)
+    };
+    let both = sweep(&Raw, count, seed)
+        .and_then(|tally| sweep(&Wrapper, count / 4, seed + 1).map(|_| tally));
     match both {
         Ok(tally) => {
             report.table(&tally);
@@ -71,16 +89,25 @@ pub fn demand_three(report: &mut Report, count: u64, seed: u64) {
     }
 }
 
-/// Under a leak some pair must break demand 3, else the test shows nothing.
+/// Under a leak some pair must break demand 3, else the test shows nothing. So must some pair of runs with
+/// lists that disagree, which is no leak: the reader may see the signal that one of them leaves out.
 pub fn leaks(report: &mut Report, seed: u64) {
-    for fault in LEAKS {
-        let engine = Reference(Rules { fault: Some(fault) });
-        let result = match demand_three::sweep(&engine, LEAK_PAIRS, seed) {
+    let mut breaks = |name: &str, engine: &dyn Engine, vary| {
+        let result = match demand_three::sweep(engine, vary, LEAK_PAIRS, seed) {
             Err(violation) => Ok(format!("breaks it, seen at pair {}", violation.pairs)),
             Ok(tally) => Err(format!("not seen in {} pairs", tally.pairs)),
         };
-        report.line(&format!("demand three under '{}'", fault.says()), result);
+        report.line(&format!("demand three {name}"), result);
+    };
+    for (fault, vary) in LEAKS {
+        let by = match vary {
+            Vary::Lists => ", by lists alone",
+            _ => "",
+        };
+        let engine = Reference(Rules { fault: Some(fault) });
+        breaks(&format!("under '{}'{by}", fault.says()), &engine, vary);
     }
+    breaks("with lists that disagree", &Raw, Vary::SeenSignal);
 }
 
 pub fn faults(report: &mut Report, seed: u64) {

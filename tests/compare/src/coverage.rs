@@ -1,6 +1,7 @@
 //! What the compared cases reached. A comparison that reaches too little of something fails.
 
 use crate::floors;
+use crate::lists;
 use crate::outcome::Outcome;
 use cases::damage::{self, Sort};
 use cases::file::File;
@@ -22,16 +23,17 @@ enum Topic {
     FlowAt,
     Ending,
     Run,
+    List,
     Fault,
     Before,
 }
 
 /// The number of cases that the floors are stated for; others in proportion.
-const USUAL: u64 = 60_000;
+pub const USUAL: u64 = 60_000;
 
 /// Every refusal, ending and kind of run in the hundreds, so that a rule that is wrong in one case of
 /// twenty is still met several times.
-const FLOOR: u64 = 200;
+pub const FLOOR: u64 = 200;
 
 /// The largest files are slow, and few.
 const LARGE_FLOOR: u64 = 100;
@@ -78,6 +80,13 @@ impl Coverage {
         *self.counts.entry((topic, what.into())).or_default() += 1;
     }
 
+    /// Counts the notes that were reached.
+    fn count_notes(&mut self, topic: Topic, notes: &[(&str, u64)], reached: &[bool]) {
+        for ((note, _), _) in notes.iter().zip(reached).filter(|(_, reached)| **reached) {
+            self.count(topic, *note);
+        }
+    }
+
     /// Counts an extra comparison that belongs to a case.
     pub fn extra(&mut self, what: &str) {
         self.count(Topic::Cases, what);
@@ -118,6 +127,11 @@ impl Coverage {
         }
     }
 
+    /// Counts what the list of a run brought about.
+    pub fn record_list(&mut self, reached: [bool; lists::NOTES.len()]) {
+        self.count_notes(Topic::List, &lists::NOTES, &reached);
+    }
+
     /// Counts how another run of a recorded case ended.
     pub fn record_again(&mut self, made: &Made, outcome: &Outcome) {
         if outcome.refusal() == 0 {
@@ -151,9 +165,7 @@ impl Coverage {
             file.expressions.len() == 256,
             file.names.len() == 64,
         ];
-        for ((note, _), _) in NOTES.iter().zip(reached).filter(|(_, reached)| *reached) {
-            self.count(Topic::Run, *note);
-        }
+        self.count_notes(Topic::Run, &NOTES, &reached);
     }
 
     /// Everything that has a floor: its topic, its name, and the floor for the usual number of cases.
@@ -169,13 +181,14 @@ impl Coverage {
         ] {
             all.push((Topic::Cases, note.to_string(), FLOOR));
         }
-        all.extend((1..=14).map(|number| (Topic::Refusal, format!("{number:2}"), FLOOR)));
+        all.extend((1..=15).map(|number| (Topic::Refusal, format!("{number:2}"), FLOOR)));
         let needs = [1, 2, 3, 4, 5, 8, 9, 10].map(|kind: usize| KINDS[kind]);
         all.extend(needs.map(|kind| (Topic::FlowAt, kind.to_string(), SORT_FLOOR)));
         all.extend(ENDINGS.map(|ending| (Topic::Ending, ending.to_string(), FLOOR)));
         all.extend(NOTES.map(|(note, floor)| (Topic::Run, note.to_string(), floor)));
+        all.extend(lists::NOTES.map(|(note, floor)| (Topic::List, note.to_string(), floor)));
         all.extend(damage::sorts().map(|sort| (Topic::Fault, sort_name(sort), SORT_FLOOR)));
-        all.extend((1..14).map(|refusal| (Topic::Before, before(refusal), ORDER_FLOOR)));
+        all.extend((1..15).map(|refusal| (Topic::Before, before(refusal), ORDER_FLOOR)));
         all
     }
 
@@ -232,6 +245,7 @@ fn title(topic: Topic) -> &'static str {
         Topic::FlowAt => "refusal 11 at",
         Topic::Ending => "ending",
         Topic::Run => "run",
+        Topic::List => "list",
         Topic::Fault => "fault answered by its refusal",
         Topic::Before => "faults of two refusals at once",
     }

@@ -1,11 +1,14 @@
-//! Demand 3: two runs of an accepted script, from starts that agree on what the reader may see, with step
-//! limits n ≤ m and logs of one length. The first record is exactly those lines of the second that are
-//! stamped n or less; with n = m the session registers at or below the reader's level end equal.
+//! Demand 3: two runs of an accepted script, from starts that agree on what the reader may see, with lists
+//! that agree for the reader, step limits n ≤ m and logs of one length. The first record is exactly those
+//! lines of the second that are stamped n or less; with n = m the session registers at or below the reader's
+//! level end equal.
 
+use crate::book::at_or_below;
 use crate::engine::{Engine, RunArguments};
 use crate::outcome::fresh_log;
 use crate::sweep::case_seed;
 use crate::tally::Tally;
+use crate::two_lists::TwoLists;
 use cases::file::{File, NameEntry, SESSION};
 use cases::{Case, Rng};
 use std::fmt;
@@ -34,8 +37,19 @@ impl fmt::Display for Violation {
     }
 }
 
+/// What the two runs of a pair differ in.
+#[derive(Clone, Copy, Debug, PartialEq, Eq)]
+pub enum Vary {
+    /// Sealed values of the start, and lists that agree for the reader: what demand 3 allows.
+    StartsAndLists,
+    /// Lists that agree for the reader, and nothing else.
+    Lists,
+    /// A signal that the reader may see, which one of the lists leaves out: what demand 3 does not allow.
+    SeenSignal,
+}
+
 /// Tries `count` pairs of runs: accepted scripts, all readers.
-pub fn sweep(engine: &dyn Engine, count: u64, seed: u64) -> Result<Tally, Violation> {
+pub fn sweep(engine: &dyn Engine, vary: Vary, count: u64, seed: u64) -> Result<Tally, Violation> {
     let mut tally = Tally::new(count);
     // Not every case is accepted; the bound ends the loop for an engine that accepts none.
     for number in 0..count {
@@ -48,7 +62,7 @@ pub fn sweep(engine: &dyn Engine, count: u64, seed: u64) -> Result<Tally, Violat
             0
         };
         for reader in 0..u32::from(readers) {
-            let result = pair(engine, &case, reader, &mut rng, &mut tally);
+            let result = pair(engine, vary, &case, reader, &mut rng, &mut tally);
             let pairs = tally.pairs;
             result.map_err(|says| Violation {
                 seed,
@@ -70,6 +84,13 @@ fn accepted(engine: &dyn Engine, case: &Case) -> bool {
     out[0] == 0
 }
 
+/// What a run begins with, beside what both runs have in common.
+pub struct Start {
+    pub values: Vec<i32>,
+    pub list: Vec<u32>,
+    pub limit: u32,
+}
+
 /// One run and what it leaves.
 pub struct Ran {
     /// Number, place, ending, steps, instants, lines.
@@ -79,16 +100,17 @@ pub struct Ran {
 }
 
 impl Ran {
-    fn new(engine: &dyn Engine, case: &Case, reader: u32, values: &[i32], limit: u32) -> Ran {
+    fn new(engine: &dyn Engine, case: &Case, reader: u32, start: &Start) -> Ran {
         let mut ran = Ran {
             out: [0; 6],
-            values: values.to_vec(),
+            values: start.values.clone(),
             log: fresh_log(case.log),
         };
         let arguments = RunArguments {
             reader,
             values: &mut ran.values,
-            limit,
+            limit: start.limit,
+            list: &start.list,
             log: &mut ran.log,
         };
         engine.run(&case.book, &case.script, arguments, &mut ran.out);
@@ -102,28 +124,57 @@ impl Ran {
     }
 }
 
-/// Whether the reader may see a name: bit `reader` of the row of its level.
-fn low(case: &Case, name: &NameEntry, reader: u32) -> bool {
-    let place = 1 + 2 * usize::from(name.level);
-    u16::from_be_bytes([case.book[place], case.book[place + 1]]) >> reader & 1 == 1
-}
-
-/// Two value lists that agree on what the reader may see.
-fn starts(case: &Case, file: &File, reader: u32, rng: &mut Rng) -> (Vec<i32>, Vec<i32>) {
+/// Two value lists that agree on what the reader may see. Some are equal, so that lists alone differ.
+fn two_values(
+    vary: Vary,
+    file: &File,
+    is_low: &dyn Fn(&NameEntry) -> bool,
+    rng: &mut Rng,
+) -> [Vec<i32>; 2] {
     let first = cases::values(rng, file);
     let other = cases::values(rng, file);
     let mut second = first.clone();
+    let differ = vary == Vary::StartsAndLists && rng.chance(3, 4);
     for (place, name) in file.names.iter().enumerate() {
-        if !low(case, name, reader) && rng.chance(3, 4) {
+        if differ && !is_low(name) && rng.chance(3, 4) {
             second[place] = other[place];
         }
     }
-    (first, second)
+    [first, second]
+}
+
+/// The starts of a pair with limits n ≤ m.
+fn starts(
+    vary: Vary,
+    case: &Case,
+    file: &File,
+    is_low: &dyn Fn(&NameEntry) -> bool,
+    rng: &mut Rng,
+) -> [Start; 2] {
+    let [first, second] = two_values(vary, file, is_low, rng);
+    let mut lists = TwoLists::new(rng, file, is_low);
+    if vary == Vary::SeenSignal {
+        lists.leave_out_seen(rng);
+    }
+    // The test itself is at fault if it tries other lists than it says.
+    assert!(lists.agree() || vary == Vary::SeenSignal);
+    let [one, other] = lists.words();
+    let n = match rng.chance(1, 2) {
+        true => case.limit,
+        false => rng.below(case.limit as usize + 1) as u32,
+    };
+    let start = |values, list, limit| Start {
+        values,
+        list,
+        limit,
+    };
+    [start(first, one, n), start(second, other, case.limit)]
 }
 
 /// Runs a pair; an error says how the reader can tell the runs apart.
 fn pair(
     engine: &dyn Engine,
+    vary: Vary,
     case: &Case,
     reader: u32,
     rng: &mut Rng,
@@ -132,22 +183,18 @@ fn pair(
     let Some(file) = File::read(&case.script) else {
         return Ok(());
     };
-    let (m, starts) = (case.limit, starts(case, &file, reader, rng));
-    let n = match rng.chance(1, 2) {
-        true => m,
-        false => rng.below(m as usize + 1) as u32,
-    };
-    let first = Ran::new(engine, case, reader, &starts.0, n);
-    let second = Ran::new(engine, case, reader, &starts.1, m);
+    let is_low = |name: &NameEntry| at_or_below(&case.book, name.level.into(), reader);
+    let starts = starts(vary, case, &file, &is_low, rng);
+    let (n, m) = (starts[0].limit, starts[1].limit);
+    let [first, second] = [0, 1].map(|run: usize| Ran::new(engine, case, reader, &starts[run]));
     if first.out[0] != 0 || second.out[0] != 0 {
         return Ok(());
     }
-    tally.record(&first, &second, (n, m), starts.0 != starts.1);
+    tally.record([&first, &second], &starts);
     if first.record(u32::MAX) != second.record(n) {
         return Err("the records differ".into());
     }
-    let seen =
-        |name: &NameEntry| name.kind == 0 && name.owner == SESSION && low(case, name, reader);
+    let seen = |name: &NameEntry| name.kind == 0 && name.owner == SESSION && is_low(name);
     let unequal = |place: usize| first.values[place] != second.values[place];
     let differs = (0..file.names.len()).find(|&place| seen(&file.names[place]) && unequal(place));
     match differs {

@@ -10,8 +10,16 @@ use std::fmt;
 #[derive(Debug)]
 pub struct Difference {
     pub seed: u64,
-    pub case: Case,
+    /// In a box, since every result of the sweep has room for a difference.
+    pub case: Box<Case>,
     pub says: String,
+}
+
+impl Difference {
+    pub fn new(seed: u64, case: &Case, says: String) -> Difference {
+        let case = Box::new(case.clone());
+        Difference { seed, case, says }
+    }
 }
 
 /// Compares two engines on one case; gives what both say, or how they differ.
@@ -57,12 +65,13 @@ pub fn show(case: &Case) -> String {
         reader,
         values,
         limit,
+        list,
         log,
     } = case;
     let text = File::read(script).map_or("unreadable".into(), |file| text::show(&file));
     format!(
         "  book       {}\n  script     {}\n  reads      {text}\n  reader {reader}, values {values:?}, \
-         limit {limit}, log of {log} words",
+         limit {limit}, list {list:?}, log of {log} words",
         hex(book),
         hex(script)
     )

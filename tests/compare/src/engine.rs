@@ -2,14 +2,7 @@
 
 use crate::raw;
 use reference::Rules;
-
-/// One call's arguments, beside the level book and the script file.
-pub struct RunArguments<'a> {
-    pub reader: u32,
-    pub values: &'a mut [i32],
-    pub limit: u32,
-    pub log: &'a mut [u32],
-}
+pub use reference::RunArguments;
 
 /// Something that checks and runs scripts. Answers go into `out`, as the C interface has it.
 pub trait Engine {
@@ -47,9 +40,10 @@ impl Engine for Wrapper {
             reader,
             values,
             limit,
+            list,
             log,
         } = arguments;
-        let answer = match station::run(book, script, reader, values, limit, log) {
+        let answer = match station::run(book, script, reader, values, limit, list, log) {
             Ok(run) => {
                 let lines = run.lines.try_into().unwrap_or(u32::MAX);
                 [0, 0, run.ending.number(), run.steps, run.instants, lines]
@@ -73,13 +67,7 @@ impl Engine for Reference {
     }
 
     fn run(&self, book: &[u8], script: &[u8], arguments: RunArguments, out: &mut [u32]) {
-        let RunArguments {
-            reader,
-            values,
-            limit,
-            log,
-        } = arguments;
-        let answer = reference::run(self.0, book, script, reader, values, limit, log);
+        let answer = reference::run(self.0, book, script, arguments);
         let (ending, steps) = (answer.ending, answer.steps);
         put(
             out,

@@ -41,6 +41,7 @@ fn runs(engine: &dyn Engine, example: &Example, run: &ExampleRun) -> Result<(), 
         reader: run.reader,
         values: run.values.clone(),
         limit: run.limit,
+        list: run.list.clone(),
         log: run.log,
     };
     let seen = outcome(engine, &case)?;

@@ -30,6 +30,11 @@ impl<T: Copy + PartialEq> Guarded<T> {
         &mut self.whole[GUARDS..end]
     }
 
+    /// Whether neither a guard has changed nor the content, for a buffer that is read only.
+    pub fn holds(&self, content: &[T]) -> bool {
+        self.intact() && self.slice() == content
+    }
+
     /// Whether no guard has changed.
     pub fn intact(&self) -> bool {
         let guards = self.whole[..GUARDS].iter().chain(&self.whole[self.end()..]);
@@ -45,8 +50,9 @@ mod tests {
     fn a_write_outside_is_seen() {
         let mut buffer = Guarded::new(&[1, 2], 7);
         assert_eq!(buffer.slice(), [1, 2]);
+        assert!(buffer.holds(&[1, 2]));
         buffer.slice_mut()[1] = 7;
-        assert!(buffer.intact());
+        assert!(buffer.intact() && !buffer.holds(&[1, 2]));
         buffer.whole[GUARDS - 1] = 0;
         assert!(!buffer.intact());
     }

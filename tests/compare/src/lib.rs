@@ -2,6 +2,7 @@
 //! (demand 3), and against the second interpreter with planted faults, each of which must show.
 #![deny(unsafe_code)]
 
+mod book;
 pub mod checks;
 pub mod coverage;
 pub mod demand_three;
@@ -11,11 +12,15 @@ pub mod examples;
 pub mod faults;
 mod floors;
 pub mod guarded;
+pub mod lists;
 pub mod long_runs;
 pub mod outcome;
 mod raw;
 pub mod report;
 pub mod shrink;
+pub mod small_lists;
+mod smaller_lists;
 pub mod sweep;
 pub mod tally;
 pub mod tightest;
+mod two_lists;

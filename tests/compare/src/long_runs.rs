@@ -12,8 +12,17 @@ const REGISTER: usize = 0;
 const SIGNAL: usize = 1;
 const ABSENT: usize = 2;
 
-/// A run by name: script, step limit, words of the log.
-type LongRun = (&'static str, Process, u32, usize);
+const LINE_WORDS: usize = 4;
+
+/// A run by its title.
+struct LongRun {
+    title: &'static str,
+    root: Process,
+    limit: u32,
+    list: Vec<u32>,
+    /// The log's length in words.
+    log: usize,
+}
 
 fn one() -> Expression {
     Expression::Constant(1)
@@ -35,60 +44,129 @@ fn next_instant() -> Process {
     )
 }
 
-fn runs() -> [LongRun; 6] {
+fn long_run(title: &'static str, root: Process, limit: u32, log: usize) -> LongRun {
+    LongRun {
+        title,
+        root,
+        limit,
+        list: vec![],
+        log,
+    }
+}
+
+impl LongRun {
+    /// Lists the signal in these instants.
+    fn listed(mut self, instants: impl IntoIterator<Item = u32>) -> LongRun {
+        let words = |instant| [instant, SIGNAL as u32];
+        self.list = instants.into_iter().flat_map(words).collect();
+        self
+    }
+}
+
+/// Runs with empty lists.
+fn runs() -> Vec<LongRun> {
     let threads = parallel(next_instant(), sequence(count(), Process::Emit(SIGNAL)));
-    [
-        (
+    let words = 100_000 * LINE_WORDS;
+    vec![
+        long_run(
             "a loop that does nothing",
             forever(Process::Nil),
             MOST_STEPS,
             8,
         ),
-        (
+        long_run(
             "a wait that never ends",
             when(ABSENT, Process::Nil),
             MOST_STEPS,
             8,
         ),
-        ("a counter", forever(count()), MOST_STEPS - 1, 4 * 400_000),
-        (
+        long_run("a counter", forever(count()), MOST_STEPS - 1, 4 * words),
+        long_run(
             "a counter that fills the log",
             forever(count()),
             MOST_STEPS,
-            4 * 50_000 + 3,
+            words / 2 + 3,
         ),
-        (
+        long_run(
             "an instant in each round",
             forever(next_instant()),
             200_000,
-            4 * 100_000,
+            words,
         ),
-        (
+        long_run(
             "two threads in each round",
             forever(threads),
             200_000,
-            4 * 100_000,
+            words,
         ),
     ]
 }
 
-/// Compares each run; gives its name, and how library and reference differ.
+/// Counts once in each instant in which the signal is present.
+fn count_instants() -> Process {
+    let wait = when(ABSENT, Process::Nil);
+    forever(sequence(
+        when(SIGNAL, Process::Nil),
+        watching(SIGNAL, sequence(count(), wait)),
+    ))
+}
+
+/// Runs with long waits, and with long lists.
+fn listed_runs() -> Vec<LongRun> {
+    let once = || when(SIGNAL, count());
+    let (never, words) = (u32::MAX, 200_000 * LINE_WORDS);
+    vec![
+        long_run("a wait of 900,000 instants", once(), MOST_STEPS, 8).listed([900_000]),
+        long_run("a wait for the last instant", once(), MOST_STEPS, 8).listed([MOST_STEPS]),
+        long_run("a wait for the last but one", once(), MOST_STEPS, 8).listed([MOST_STEPS - 1]),
+        long_run("a wait for one too late", once(), MOST_STEPS, 8).listed([MOST_STEPS + 1, never]),
+        long_run(
+            "waits one after the other",
+            count_instants(),
+            MOST_STEPS,
+            words,
+        )
+        .listed([1, 300_000, 300_001, 650_000, 999_990, 999_999, MOST_STEPS]),
+        long_run(
+            "a signal in each instant",
+            count_instants(),
+            MOST_STEPS,
+            words,
+        )
+        .listed(1..=300_000),
+        long_run(
+            "a signal in every third",
+            count_instants(),
+            MOST_STEPS,
+            words,
+        )
+        .listed((1..=200_000).map(|third| 3 * third)),
+        long_run("a pair that repeats", once(), 9, 8).listed(vec![5; 300_000]),
+        long_run("a list that falls late", once(), 9, 8).listed((5..300_000).chain([9])),
+    ]
+}
+
+/// Compares each run; gives its title, and how library and reference differ.
 pub fn compare_all() -> Vec<(&'static str, Result<(), String>)> {
+    let all = runs().into_iter().chain(listed_runs());
+    all.map(|run| (run.title, compare_run(run))).collect()
+}
+
+fn compare_run(run: LongRun) -> Result<(), String> {
     let name = |signal| Name { signal, level: 0 };
-    let compared = |(title, root, limit, log): LongRun| {
-        let names = vec![name(false), name(true), name(true)];
-        let file = file::write(&Script { names, root }, &mut Rng::new(1));
-        let case = Case {
-            book: vec![1, 0, 1],
-            script: file.bytes(),
-            reader: 0,
-            values: vec![0; 3],
-            limit,
-            log,
-        };
-        let reference = Reference(Rules::default());
-        let result = compare(&Raw, &reference, &case).and_then(|_| compare(&Raw, &Wrapper, &case));
-        (title, result.map(|_| ()))
+    let names = vec![name(false), name(true), name(true)];
+    let root = run.root;
+    let file = file::write_names_in_order(&Script { names, root }, &mut Rng::new(1));
+    let case = Case {
+        book: vec![1, 0, 1],
+        script: file.bytes(),
+        reader: 0,
+        values: vec![0; 3],
+        limit: run.limit,
+        list: run.list,
+        log: run.log,
     };
-    runs().into_iter().map(compared).collect()
+    let reference = Reference(Rules::default());
+    compare(&Raw, &reference, &case)?;
+    compare(&Raw, &Wrapper, &case).map(|_| ())
 }

@@ -8,7 +8,7 @@ use std::process::ExitCode;
 
 const USAGE: &str = "\
 compare [cases] [seed]                 the comparison, with a table of what it reached
-compare demand-three [pairs] [seed]    two runs from starts that agree below a reader
+compare demand-three [pairs] [seed]    two runs from starts and with lists that agree for a reader
 compare faults [seed]                  every planted fault must be found
 compare examples                       the papers' examples
 compare case SEED                      one case again, by the seed that a difference names
@@ -95,6 +95,7 @@ fn all() -> bool {
         checks::examples(report);
         checks::comparison(report, CASES, SEED);
         checks::long_runs(report);
+        checks::small_lists(report);
         checks::demand_three(report, PAIRS, SEED);
         checks::leaks(report, SEED);
         checks::faults(report, SEED);

@@ -58,6 +58,7 @@ struct Buffers {
     book: Guarded<u8>,
     script: Guarded<u8>,
     values: Guarded<i32>,
+    list: Guarded<u32>,
     log: Guarded<u32>,
 }
 
@@ -67,6 +68,7 @@ impl Buffers {
             book: Guarded::new(&case.book, BYTE_GUARD),
             script: Guarded::new(&case.script, BYTE_GUARD),
             values: Guarded::new(&case.values, VALUE_GUARD),
+            list: Guarded::new(&case.list, WORD_GUARD),
             log: Guarded::new(&fresh_log(case.log), WORD_GUARD),
         }
     }
@@ -86,6 +88,7 @@ impl Buffers {
             reader: case.reader,
             values: self.values.slice_mut(),
             limit: case.limit,
+            list: self.list.slice(),
             log: self.log.slice_mut(),
         };
         engine.run(
@@ -98,18 +101,16 @@ impl Buffers {
         Ok(out.slice().to_vec())
     }
 
-    /// Book and script are read only; no call writes outside a buffer.
+    /// Book, script and list are read only; no call writes outside a buffer.
     fn hold(&self, case: &Case, call: &str) -> Result<(), String> {
-        let book = self.book.intact() && self.book.slice() == case.book;
-        let script = self.script.intact() && self.script.slice() == case.script;
-        let (values, log) = (self.values.intact(), self.log.intact());
         guards_hold(
             call,
             &[
-                ("book", book),
-                ("script", script),
-                ("values", values),
-                ("log", log),
+                ("book", self.book.holds(&case.book)),
+                ("script", self.script.holds(&case.script)),
+                ("values", self.values.intact()),
+                ("list", self.list.holds(&case.list)),
+                ("log", self.log.intact()),
             ],
         )
     }
@@ -189,12 +190,10 @@ mod tests {
         }
 
         fn run(&self, book: &[u8], script: &[u8], mut arguments: RunArguments, out: &mut [u32]) {
-            let RunArguments { reader, limit, .. } = arguments;
             let again = RunArguments {
-                reader,
-                limit,
                 values: &mut *arguments.values,
                 log: &mut *arguments.log,
+                ..arguments
             };
             Reference(Rules::default()).run(book, script, again, out);
             (self.0)(&mut arguments, out);
@@ -218,6 +217,7 @@ mod tests {
             reader: 0,
             values: vec![0],
             limit: 1000,
+            list: vec![],
             log: 10,
         }
     }
@@ -247,6 +247,17 @@ mod tests {
         assert!(outcome(&Altered(|_, _| ()), &refused).is_ok());
         assert!(outcome(&Altered(|arguments, _| arguments.values[0] = 1), &refused).is_err());
         assert!(outcome(&Altered(|arguments, _| arguments.log[9] = 1), &refused).is_err());
+    }
+
+    #[test]
+    fn a_wrong_list_is_refused() {
+        let refused = Case {
+            list: vec![1, 0, 2],
+            ..example()
+        };
+        let seen = outcome(&Raw, &refused).unwrap();
+        assert_eq!(seen.run, [15, 0, 0, 0, 0, 0]);
+        assert_eq!(outcome(&Altered(|_, _| ()), &refused), Ok(seen));
     }
 
     #[test]

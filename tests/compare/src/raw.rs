@@ -24,6 +24,7 @@ pub fn run(book: &[u8], script: &[u8], arguments: RunArguments, out: &mut [u32])
         reader,
         values,
         limit,
+        list,
         log,
     } = arguments;
     // SAFETY: each pointer and length is that of a live slice; `values`, `log` and `out` are borrowed
@@ -38,6 +39,8 @@ pub fn run(book: &[u8], script: &[u8], arguments: RunArguments, out: &mut [u32])
             values.as_mut_ptr(),
             values.len(),
             limit,
+            list.as_ptr(),
+            list.len(),
             log.as_mut_ptr(),
             log.len(),
             out.as_mut_ptr(),

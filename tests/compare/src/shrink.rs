@@ -1,5 +1,6 @@
 //! Smaller cases with the same difference.
 
+use crate::smaller_lists;
 use cases::file::{Entry, File, SESSION};
 use cases::Case;
 
@@ -22,6 +23,10 @@ fn simpler(case: &Case) -> Vec<Case> {
         }));
     }
     all.extend((0..case.values.len()).filter_map(|name| without_name(case, name)));
+    all.extend(smaller_lists::all(&case.list).into_iter().map(|list| Case {
+        list,
+        ..case.clone()
+    }));
     for limit in [case.limit / 2, case.limit.saturating_sub(1)] {
         if limit < case.limit {
             all.push(Case {
@@ -49,6 +54,7 @@ fn simpler(case: &Case) -> Vec<Case> {
 
 /// The case without a name that nothing uses, and without its value.
 fn without_name(case: &Case, name: usize) -> Option<Case> {
+    let list = smaller_lists::without_name(&case.list, name)?;
     let mut file = File::read(&case.script)?;
     let names_one = |node: &Entry| matches!(node.kind, 1 | 2 | 6..=9);
     let nodes = file.nodes.iter_mut().filter(|node| names_one(node));
@@ -59,7 +65,10 @@ fn without_name(case: &Case, name: usize) -> Option<Case> {
             other => entry.a -= u16::from(other > name),
         }
     }
-    let mut smaller = case.clone();
+    let mut smaller = Case {
+        list,
+        ..case.clone()
+    };
     smaller.values.remove(name);
     if name < file.names.len() {
         file.names.remove(name);
@@ -186,6 +195,8 @@ mod tests {
             Fault::NoTradeWithNil,
             Fault::SequenceChangesBoth,
             Fault::LocalNotReset,
+            Fault::ListedStays,
+            Fault::ListPlaceLast,
         ] {
             let wrong = Reference(Rules { fault: Some(fault) });
             let differs = |case: &Case| compare(&right, &wrong, case).is_err();
@@ -196,6 +207,7 @@ mod tests {
             assert!(differs(&small));
             let file = File::read(&small.script).expect("a right tail");
             assert!(file.nodes.len() <= 14, "{}", cases::text::show(&file));
+            assert!(small.list.len() <= 4, "{:?}", small.list);
         }
     }
 }

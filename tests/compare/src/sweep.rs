@@ -3,10 +3,12 @@
 use crate::coverage::{self, declares_in_a_loop, Coverage};
 use crate::difference::{compare, show, Difference};
 use crate::engine::{Engine, Raw, Reference, Wrapper};
+use crate::lists;
 use crate::outcome::{outcome, wrong_out, Outcome};
 use crate::shrink::shrink;
 use crate::tightest;
 use cases::file::File;
+use cases::list::{in_order, pairs, session_signals};
 use cases::{Case, Made, Rng};
 use reference::{Fault, Rules};
 
@@ -37,11 +39,7 @@ pub fn one(seed: u64, coverage: &mut Coverage) -> Result<(), Difference> {
     let mut rng = Rng::new(seed);
     let made = cases::made(&mut rng);
     let outcome = agree(seed, &made.case)?;
-    let difference = |says: String| Difference {
-        seed,
-        case: made.case.clone(),
-        says,
-    };
+    let difference = |says: String| Difference::new(seed, &made.case, says);
     if rng.chance(1, 3) {
         if let Some(result) = tightest::compare(&made.case, &outcome) {
             result.map_err(difference)?;
@@ -57,7 +55,20 @@ pub fn one(seed: u64, coverage: &mut Coverage) -> Result<(), Difference> {
         coverage.extra(coverage::ENTERED_AGAIN);
     }
     coverage.record(&made, &outcome);
+    record_list(seed, &made.case, &outcome, coverage).map_err(difference)?;
     near(seed, &made, &outcome, &mut rng, coverage)
+}
+
+fn record_list(
+    seed: u64,
+    case: &Case,
+    outcome: &Outcome,
+    coverage: &mut Coverage,
+) -> Result<(), String> {
+    if outcome.refusal() == 0 && !case.list.is_empty() {
+        coverage.record_list(lists::reached(library(seed), case, outcome)?);
+    }
+    Ok(())
 }
 
 /// Whether a local is entered again while its signal is present: the outcome is another if the signal stays.
@@ -88,11 +99,11 @@ fn agree(seed: u64, case: &Case) -> Result<Outcome, Difference> {
         let says = compare(library(seed), &reference, &case)
             .err()
             .unwrap_or_default();
-        Difference { seed, case, says }
+        Difference::new(seed, &case, says)
     })
 }
 
-/// Limits near the number of steps, and logs near the number of lines.
+/// Limits near the number of steps, logs near the number of lines, and a pair near the last instant.
 fn near(
     seed: u64,
     made: &Made,
@@ -110,10 +121,25 @@ fn near(
     if rng.chance(2, 3) {
         close.case.log = (4 * outcome.lines() as usize + 4).saturating_sub(rng.below(9));
     }
+    if rng.chance(1, 2) {
+        let instant = (outcome.instants() + 1).saturating_sub(rng.below(3) as u32);
+        add_pair(&mut close.case, instant.max(1), rng);
+    }
     let outcome = agree(seed, &close.case)?;
     coverage.extra(coverage::NEAR_ENDING);
     coverage.record_again(&close, &outcome);
-    Ok(())
+    record_list(seed, &close.case, &outcome, coverage)
+        .map_err(|says| Difference::new(seed, &close.case, says))
+}
+
+/// Lists some session signal, if there is one, in an instant.
+fn add_pair(case: &mut Case, instant: u32, rng: &mut Rng) {
+    let file = File::read(&case.script).unwrap_or_default();
+    if let Some(name) = rng.pick(&session_signals(&file)) {
+        let mut pairs = pairs(&case.list);
+        pairs.push([instant, name]);
+        case.list = in_order(pairs);
+    }
 }
 
 #[cfg(test)]

@@ -1,6 +1,6 @@
 //! How much the pairs of runs that were tried for demand 3 were able to show.
 
-use crate::demand_three::Ran;
+use crate::demand_three::{Ran, Start};
 use crate::floors;
 use std::fmt;
 
@@ -11,7 +11,9 @@ pub struct Tally {
     pub pairs: u64,
     with_lines: u64,
     starts_differ: u64,
+    lists_differ: u64,
     paths_differ: u64,
+    paths_differ_by_lists: u64,
     values_differ: u64,
     limits_differ: u64,
     log_full: u64,
@@ -23,7 +25,7 @@ const USUAL: u64 = 20_000;
 
 impl Tally {
     /// How many counts have a floor.
-    pub const FLOORS: usize = 8;
+    pub const FLOORS: usize = 10;
 
     pub fn new(wanted: u64) -> Tally {
         Tally {
@@ -32,15 +34,19 @@ impl Tally {
         }
     }
 
-    /// Counts a pair of runs with their limits n and m.
-    pub fn record(&mut self, first: &Ran, second: &Ran, (n, m): (u32, u32), starts_differ: bool) {
+    /// Counts a pair of runs with their starts.
+    pub fn record(&mut self, [first, second]: [&Ran; 2], [one, other]: &[Start; 2]) {
         let [_, _, ending, _, instants, lines] = first.out;
+        let paths_differ = one.limit == other.limit && first.out[2..5] != second.out[2..5];
+        let starts_differ = one.values != other.values;
         self.pairs += 1;
         self.with_lines += u64::from(lines > 0);
         self.starts_differ += u64::from(starts_differ);
-        self.paths_differ += u64::from(n == m && first.out[2..5] != second.out[2..5]);
+        self.lists_differ += u64::from(one.list != other.list);
+        self.paths_differ += u64::from(paths_differ);
+        self.paths_differ_by_lists += u64::from(paths_differ && !starts_differ);
         self.values_differ += u64::from(first.values != second.values);
-        self.limits_differ += u64::from(n < m);
+        self.limits_differ += u64::from(one.limit < other.limit);
         self.log_full += u64::from(ending == 2);
         self.several_instants += u64::from(instants > 1);
     }
@@ -56,10 +62,16 @@ impl Tally {
                 self.starts_differ,
                 USUAL / 3,
             ),
+            ("pairs with different lists", self.lists_differ, USUAL / 3),
             (
                 "pairs that differ in ending, steps or instants",
                 self.paths_differ,
                 USUAL / 80,
+            ),
+            (
+                "pairs that differ so by their lists alone",
+                self.paths_differ_by_lists,
+                USUAL / 200,
             ),
             (
                 "pairs that end with different values",

@@ -1,6 +1,7 @@
 //! Figure 5 by brute force against the library's check: accepted exactly when a pair can be derived,
 //! and W and T are the tightest.
 
+use crate::book::at_or_below;
 use crate::outcome::Outcome;
 use cases::Case;
 use reference::Rules;
@@ -34,22 +35,13 @@ fn is_tightest(case: &Case, (write, test): (u32, u32), pairs: &[(u32, u32)]) -> 
     if !pairs.contains(&(write, test)) {
         return Err(format!("Figure 5 does not derive ({write}, {test})"));
     }
-    let looser =
-        |&&(w, t): &&(u32, u32)| at_most(&case.book, w, write) && at_most(&case.book, test, t);
+    let at_most = |lower, upper| at_or_below(&case.book, lower, upper);
+    let looser = |&&(w, t): &&(u32, u32)| at_most(w, write) && at_most(test, t);
     match pairs.iter().find(|pair| !looser(pair)) {
         Some(pair) => Err(format!(
             "Figure 5 derives {pair:?}, which ({write}, {test}) does not cover"
         )),
         None => Ok(()),
-    }
-}
-
-/// The book's order: bit `upper` of row `lower`.
-fn at_most(book: &[u8], lower: u32, upper: u32) -> bool {
-    let place = 1 + 2 * lower as usize;
-    match book.get(place..place + 2) {
-        Some(&[high, low]) => u16::from_be_bytes([high, low]) >> upper & 1 == 1,
-        _ => false,
     }
 }
 

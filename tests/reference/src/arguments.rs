@@ -1,24 +1,41 @@
-//! Run's own arguments (01, 'Calls'): refusals 12 to 14.
+//! Run's own arguments (01, 'Calls'; 02, request (a)): refusals 12 to 15.
 
 use crate::book::Book;
 use crate::check::Accepted;
 use crate::fault::{Fault, Rules};
 use crate::file::{File, NameEntry};
+use crate::inputs::refusal_15;
 use crate::refusal::{row, Refusal};
+use crate::RunArguments;
 
 const MOST_STEPS: u32 = 1_000_000;
 
-/// Rows 12 to 14.
+/// Rows 12 to 15; 'after 14' says where 15 stands.
 pub fn refusals(
     rules: Rules,
     accepted: &Accepted,
-    reader: u32,
-    values: &[i32],
-    limit: u32,
+    arguments: &RunArguments,
 ) -> Result<(), Refusal> {
-    row(12, refusal_12(rules, &accepted.book, reader))?;
-    row(13, refusal_13(rules, &accepted.file, values))?;
-    row(14, refusal_14(rules, limit))
+    let Accepted { book, file, .. } = accepted;
+    let limit = || row(14, refusal_14(rules, arguments.limit));
+    let list = || row(15, refusal_15(rules, file, judged_list(rules, arguments)));
+    row(12, refusal_12(rules, book, arguments.reader))?;
+    row(13, refusal_13(rules, file, arguments.values))?;
+    match rules.has(Fault::ListBeforeLimit) {
+        true => list().and_then(|()| limit()),
+        false => limit().and_then(|()| list()),
+    }
+}
+
+/// What row 15 looks at: the whole list, also pairs of instants that no run of so
+/// many steps enters.
+fn judged_list<'a>(rules: Rules, arguments: &RunArguments<'a>) -> &'a [u32] {
+    let list = arguments.list;
+    if !rules.has(Fault::ListPastLimitPasses) {
+        return list;
+    }
+    let past = list.chunks(2).position(|pair| pair[0] > arguments.limit);
+    &list[..past.map_or(list.len(), |past| 2 * past)]
 }
 
 /// Row 12: 'level not in book', place 0.

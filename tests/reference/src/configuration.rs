@@ -6,6 +6,7 @@ use std::rc::Rc;
 use crate::book::Level;
 use crate::fault::{Fault, Rules};
 use crate::file::File;
+use crate::inputs::Inputs;
 use crate::instant::instant_change;
 use crate::moves::moves;
 use crate::suspension::suspended;
@@ -40,10 +41,12 @@ pub struct Configuration {
     pub store: Vec<i32>,
     pub signals: SignalEnvironment,
     pub process: Rc<Process>,
+    /// The instant changes so far: the number of the instant.
+    pub instant: u32,
 }
 
 /// How a step changes Γ, S and E.
-#[derive(Clone, Copy, Debug)]
+#[derive(Clone, Debug)]
 pub enum Effect {
     Nothing,
     /// {x ↦ S(e)} S
@@ -54,8 +57,8 @@ pub enum Effect {
     Emits(Name),
     /// {a' : δ sig} Γ
     DeclaresSignal(Name, Declaration),
-    /// ∅ for E: the step is an instant change.
-    ChangesInstant,
+    /// I for E: the step is an instant change.
+    ChangesInstant(SignalEnvironment),
 }
 
 /// A step C ↦ C': what it does to Γ, S and E, and the process that it leaves.
@@ -65,11 +68,12 @@ pub struct Step {
 }
 
 /// The step of a configuration; none if it is terminated, that is if its process
-/// is nil (Propositions 2.4 and 2.5).
-pub fn step(rules: Rules, configuration: &Configuration) -> Option<Step> {
+/// is nil (Propositions 2.4 and 2.5). The i-th instant change enters instant i.
+pub fn step(rules: Rules, configuration: &Configuration, inputs: &Inputs) -> Option<Step> {
     let process = &configuration.process;
     if suspended(rules, &configuration.signals, process) {
-        return Some(instant_change(rules, configuration));
+        let i = inputs.on_entering(rules, configuration.instant + 1);
+        return Some(instant_change(rules, configuration, i));
     }
     moves(rules, configuration, process)
 }
@@ -89,6 +93,7 @@ impl Configuration {
             store: names().map(|(x, _)| value(x)).collect(),
             signals: present.map(|(a, _)| a).collect(),
             process: Process::of(file, file.script()),
+            instant: 0,
         }
     }
 
@@ -136,9 +141,20 @@ impl Configuration {
                 self.signals.insert(a);
             }
             Effect::DeclaresSignal(a, declaration) => self.declare(a, declaration),
-            Effect::ChangesInstant if rules.has(Fault::InstantKeepsSignals) => {}
-            Effect::ChangesInstant => self.signals.clear(),
+            Effect::ChangesInstant(i) => self.enter(rules, i),
         }
+    }
+
+    /// The next instant: every signal is absent but those of I.
+    fn enter(&mut self, rules: Rules, mut i: SignalEnvironment) {
+        self.instant += 1;
+        if rules.has(Fault::ListedRegisterIsOne) {
+            i.iter().for_each(|&x| self.set(x, 1));
+        }
+        if rules.has(Fault::InstantKeepsSignals) {
+            i.append(&mut self.signals);
+        }
+        self.signals = i;
     }
 
     fn declare(&mut self, name: Name, declaration: Declaration) {

@@ -6,11 +6,16 @@ use crate::configuration::{Configuration, Effect, SignalEnvironment, Step};
 use crate::fault::{Fault, Rules};
 use crate::tree::Process;
 
-/// (INSTANT-OP), for a suspended configuration.
-pub fn instant_change(rules: Rules, c: &Configuration) -> Step {
+/// (INSTANT-OP), for a suspended configuration: ⟨Γ, S, I, ⌊P⌋E⟩. The report has ∅
+/// for I; here I is what the list names for the instant that is entered.
+pub fn instant_change(rules: Rules, c: &Configuration, i: SignalEnvironment) -> Step {
+    let process = match rules.has(Fault::ListedBeforeChange) {
+        true => residual(rules, &(&c.signals | &i), &c.process),
+        false => residual(rules, &c.signals, &c.process),
+    };
     Step {
-        effect: Effect::ChangesInstant,
-        process: residual(rules, &c.signals, &c.process),
+        effect: Effect::ChangesInstant(i),
+        process,
     }
 }
 

@@ -137,7 +137,10 @@ impl Context<'_> {
     fn guarded(&self, node: &NodeEntry, body: Levels) -> (Levels, bool) {
         let tested = self.tested(node);
         let need = self.book.at_or_below(tested, body.write);
-        let unchecked = node.kind == 8 && self.rules.has(Fault::WatchingFlowUnchecked);
+        let unchecked = match node.kind {
+            8 => self.rules.has(Fault::WatchingFlowUnchecked),
+            _ => self.rules.has(Fault::WhenFlowUnchecked),
+        };
         (self.tests(body, tested), need || unchecked)
     }
 

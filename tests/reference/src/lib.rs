@@ -1,9 +1,10 @@
 //! A second interpreter of station scripts, written from the papers and not from
-//! the code: the scope paper (called 01 in the comments) and report RR-5594
-//! (called the report). Where 01 leaves refusals 4 to 10 and 13 open it takes the
-//! readings of docs/DECISIONS.md. It checks a script file against a level book, runs it by rewriting
-//! trees by the report's Figures 1 to 4, and derives the types of Figure 5 by
-//! brute force. A flag of the tests plants one fault in one of its rules.
+//! the code: the scope paper (called 01 in the comments), the change requests that
+//! have landed (called 02: request (a)) and report RR-5594 (called the report).
+//! Where 01 leaves refusals 4 to 10 and 13 open it takes the readings of
+//! docs/DECISIONS.md. It checks a script file against a level book, runs it by
+//! rewriting trees by the report's Figures 1 to 4, and derives the types of Figure
+//! 5 by brute force. A flag of the tests plants one fault in one of its rules.
 
 #![forbid(unsafe_code)]
 
@@ -14,6 +15,7 @@ mod configuration;
 pub mod examples;
 mod fault;
 mod file;
+mod inputs;
 mod instant;
 mod levels;
 mod log;
@@ -40,6 +42,17 @@ pub struct CheckAnswer {
     pub place: u32,
     pub write: u32,
     pub test: u32,
+}
+
+/// What `run` takes beside the level book and the script file: 'a reader's level,
+/// values, a step limit and a log' (01, 'Calls'), and 'a list of pairs of 32-bit
+/// words' (02, request (a)).
+pub struct RunArguments<'a> {
+    pub reader: u32,
+    pub values: &'a mut [i32],
+    pub limit: u32,
+    pub list: &'a [u32],
+    pub log: &'a mut [u32],
 }
 
 /// What `run` returns (01, 'Calls').
@@ -92,20 +105,12 @@ pub fn check(rules: Rules, book: &[u8], script: &[u8]) -> CheckAnswer {
     }
 }
 
-/// Runs a script: refusals 1 to 14, or the steps, with the lines in `log` and
+/// Runs a script: refusals 1 to 15, or the steps, with the lines in `log` and
 /// the state at the end in `values`. A refusal leaves both untouched.
-pub fn run(
-    rules: Rules,
-    book: &[u8],
-    script: &[u8],
-    reader: u32,
-    values: &mut [i32],
-    limit: u32,
-    log: &mut [u32],
-) -> RunAnswer {
+pub fn run(rules: Rules, book: &[u8], script: &[u8], arguments: RunArguments) -> RunAnswer {
     let answer = check::accepted(rules, book, script).and_then(|accepted| {
-        arguments::refusals(rules, &accepted, reader, values, limit)?;
-        Ok(runner::run(rules, &accepted, reader, values, limit, log))
+        arguments::refusals(rules, &accepted, &arguments)?;
+        Ok(runner::run(rules, &accepted, arguments))
     });
     answer.unwrap_or_else(RunAnswer::refused)
 }

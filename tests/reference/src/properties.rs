@@ -3,6 +3,7 @@
 use crate::check::{accepted, Accepted};
 use crate::configuration::{step, Configuration, Step};
 use crate::examples::all;
+use crate::inputs::Inputs;
 use crate::moves::moves;
 use crate::suspension::suspended;
 use crate::typing::types_of;
@@ -20,8 +21,9 @@ fn for_each_step(mut test: impl FnMut(&Accepted, usize, &Configuration, Option<&
         };
         for run in &example.runs {
             let mut configuration = Configuration::initial(&accepted.file, &run.values);
+            let inputs = Inputs::new(rules, &accepted, run.reader, &run.list);
             for taken in 0..STEPS {
-                let next = step(rules, &configuration);
+                let next = step(rules, &configuration, &inputs);
                 test(&accepted, taken, &configuration, next.as_ref());
                 let Some(next) = next else { break };
                 configuration.take(rules, next);

@@ -1,7 +1,7 @@
 //! No bytes and no fault make the interpreter panic or run on for ever.
 
 use reference::examples::{all, Example};
-use reference::{check, pairs, run, Fault, Rules};
+use reference::{check, pairs, run, Fault, Rules, RunArguments};
 
 /// A small generator (splitmix64).
 struct Random(u64);
@@ -32,11 +32,29 @@ fn damage(random: &mut Random, bytes: &mut [u8]) {
     };
 }
 
-fn call(rules: Rules, book: &[u8], script: &[u8], values: &[i32]) {
+fn call(rules: Rules, book: &[u8], script: &[u8], values: &[i32], list: &[u32]) {
     check(rules, book, script);
     pairs(rules, book, script);
     let (mut values, mut log) = (values.to_vec(), [0; 20]);
-    run(rules, book, script, 1, &mut values, 40, &mut log);
+    let arguments = RunArguments {
+        reader: 1,
+        values: &mut values,
+        limit: 40,
+        list,
+        log: &mut log,
+    };
+    run(rules, book, script, arguments);
+}
+
+/// Up to four pairs or halves of pairs, mostly of small numbers.
+fn some_list(random: &mut Random) -> Vec<u32> {
+    let mut word = |_| match random.below(8) {
+        0 => random.next() as u32,
+        1 => u32::MAX,
+        _ => random.below(5) as u32,
+    };
+    let words: Vec<u32> = (0..8).map(&mut word).collect();
+    words[..random.below(9)].to_vec()
 }
 
 fn damaged_call(random: &mut Random, rules: Rules, example: &Example) {
@@ -47,7 +65,9 @@ fn damaged_call(random: &mut Random, rules: Rules, example: &Example) {
         _ => damage(random, &mut script),
     }
     let values = example.runs.last().map_or(&[][..], |run| &run.values);
-    call(rules, &book, &script, values);
+    let list = some_list(random);
+    call(rules, &book, &script, values, &list);
+    call(rules, &example.book, &example.script, values, &list);
 }
 
 #[test]
@@ -68,7 +88,8 @@ fn random_bytes_are_answered() {
     for length in (0..80).cycle().take(4000) {
         let bytes: Vec<u8> = (0..length).map(|_| random.below(9) as u8).collect();
         let book = &bytes[..random.below(length + 1)];
-        call(Rules::default(), book, &bytes, &[]);
-        call(Rules::default(), &[2, 0, 3, 0, 2], &bytes, &[]);
+        let list = some_list(&mut random);
+        call(Rules::default(), book, &bytes, &[], &list);
+        call(Rules::default(), &[2, 0, 3, 0, 2], &bytes, &[], &list);
     }
 }

@@ -2,7 +2,7 @@
 //! long runs. Tests have 2 MiB by default; these have a quarter of it.
 
 use reference::examples::script::*;
-use reference::{check, pairs, run, Rules, RunAnswer};
+use reference::{check, pairs, run, Rules, RunAnswer, RunArguments};
 
 const STACK: usize = 512 * 1024;
 const BOOK: [u8; 5] = [2, 0, 3, 0, 2];
@@ -27,7 +27,16 @@ fn run_to_limit(script: &[u8], present: i32) -> RunAnswer {
     assert_eq!(check(rules, &BOOK, script).number, 0);
     assert!(pairs(rules, &BOOK, script).is_some());
     let (mut values, mut log) = ([present, 0], [0; 64]);
-    run(rules, &BOOK, script, 0, &mut values, LIMIT, &mut log)
+    // Signal 0 comes again after each third of the steps.
+    let list = [LIMIT / 3, 0, LIMIT / 3 * 2, 0];
+    let arguments = RunArguments {
+        reader: 0,
+        values: &mut values,
+        limit: LIMIT,
+        list: &list,
+        log: &mut log,
+    };
+    run(rules, &BOOK, script, arguments)
 }
 
 fn with_little_stack(test: impl FnOnce() + Send + 'static) {
@@ -74,8 +83,31 @@ fn many_fresh_names_are_made() {
     let body = let_in(u, add(read(1), constant(1)), local(a, assign(1, read(u))));
     let script = file(n, &while_do(constant(1), body));
     let mut values = [0; 4];
-    let rules = Rules::default();
-    let answer = run(rules, &BOOK, &script, 0, &mut values, 100_000, &mut []);
+    let arguments = RunArguments {
+        reader: 0,
+        values: &mut values,
+        limit: 100_000,
+        list: &[],
+        log: &mut [],
+    };
+    let answer = run(Rules::default(), &BOOK, &script, arguments);
     assert_eq!((answer.ending, answer.steps), (1, 100_000));
     assert_eq!(values, [0, 20_000, 0, 0]);
+}
+
+/// Changes to the last instant but one that the limit allows, then one move.
+#[test]
+fn a_late_signal_ends_a_long_wait() {
+    let script = file(names(), &when(0, nil()));
+    let mut values = [0; 2];
+    let arguments = RunArguments {
+        reader: 0,
+        values: &mut values,
+        limit: 1_000_000,
+        list: &[999_999, 0, 1_000_000, 0],
+        log: &mut [],
+    };
+    let answer = run(Rules::default(), &BOOK, &script, arguments);
+    assert_eq!((answer.ending, answer.steps), (0, 1_000_000));
+    assert_eq!((answer.instants, values), (999_999, [1, 0]));
 }

@@ -1,7 +1,7 @@
 //! The interpreter against the examples of the papers.
 
 use reference::examples::{all, Example, ExampleRun};
-use reference::{check, pairs, run, Rules};
+use reference::{check, pairs, run, Rules, RunArguments};
 
 /// What the log holds before a run; words after the last line keep it.
 const UNTOUCHED: u32 = 0xDEAD_BEEF;
@@ -9,15 +9,14 @@ const UNTOUCHED: u32 = 0xDEAD_BEEF;
 fn assert_run(example: &Example, expected: &ExampleRun) {
     let mut values = expected.values.clone();
     let mut log = vec![UNTOUCHED; expected.log];
-    let answer = run(
-        Rules::default(),
-        &example.book,
-        &example.script,
-        expected.reader,
-        &mut values,
-        expected.limit,
-        &mut log,
-    );
+    let arguments = RunArguments {
+        reader: expected.reader,
+        values: &mut values,
+        limit: expected.limit,
+        list: &expected.list,
+        log: &mut log,
+    };
+    let answer = run(Rules::default(), &example.book, &example.script, arguments);
     let mut words = expected.lines.concat();
     words.resize(expected.log, UNTOUCHED);
     assert_eq!(answer, expected.answer, "{}", example.name);

@@ -1,20 +1,19 @@
 //! The planted faults: each changes an answer on some example of the papers.
 
 use reference::examples::{all, Example, ExampleRun};
-use reference::{check, run, Fault, Rules};
+use reference::{check, run, Fault, Rules, RunArguments};
 
 fn run_changes(rules: Rules, example: &Example, expected: &ExampleRun) -> bool {
     let mut values = expected.values.clone();
     let mut log = vec![0; expected.log];
-    let answer = run(
-        rules,
-        &example.book,
-        &example.script,
-        expected.reader,
-        &mut values,
-        expected.limit,
-        &mut log,
-    );
+    let arguments = RunArguments {
+        reader: expected.reader,
+        values: &mut values,
+        limit: expected.limit,
+        list: &expected.list,
+        log: &mut log,
+    };
+    let answer = run(rules, &example.book, &example.script, arguments);
     let mut words = expected.lines.concat();
     words.resize(expected.log, 0);
     answer != expected.answer || values != expected.values_after || log != words

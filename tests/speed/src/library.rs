@@ -20,9 +20,10 @@ pub fn run(
     reader: u32,
     values: &mut [i32],
     limit: u32,
+    list: &[u32],
     log: &mut [u32],
 ) -> [u32; 6] {
-    match station::run(book, script, reader, values, limit, log) {
+    match station::run(book, script, reader, values, limit, list, log) {
         Ok(run) => {
             let ending = run.ending.number();
             [0, 0, ending, run.steps, run.instants, run.lines as u32]

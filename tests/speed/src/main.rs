@@ -33,6 +33,13 @@ fn tables() {
     for Workload { name, call } in workloads::runs() {
         row(&name, measure::run(&name, &call).map(|time| time * 1e9));
     }
+    heading("Waits", "microseconds per run");
+    for Workload { name, call } in workloads::waits() {
+        row(
+            &name,
+            measure::whole_run(&name, &call).map(|time| time * 1e6),
+        );
+    }
     heading("Calls", "microseconds per call");
     for Check { name, book, script } in workloads::checks() {
         row(
@@ -67,6 +74,7 @@ fn row<const SIDES: usize>(name: &str, times: [f64; SIDES]) {
 fn names() {
     workloads::runs()
         .iter()
+        .chain(&workloads::waits())
         .for_each(|run| println!("{}", run.name));
     workloads::checks()
         .iter()
@@ -76,7 +84,10 @@ fn names() {
 fn once(side: &str, name: &str, count: &str) {
     let side = side.parse().expect("side: 0, 1 or 2");
     let count = count.parse().expect("count: a number");
-    let mut runs = workloads::runs().into_iter().chain(workloads::growth());
+    let mut runs = workloads::runs()
+        .into_iter()
+        .chain(workloads::waits())
+        .chain(workloads::growth());
     if let Some(Workload { call, .. }) = runs.find(|run| run.name == name) {
         let (mut values, mut log) = (call.values.clone(), vec![0; call.log]);
         println!(

@@ -2,7 +2,7 @@
 
 use std::hint::black_box;
 
-use crate::plain::Variant;
+use crate::plain::{Arguments, Variant};
 use crate::timing::in_turn;
 use crate::workloads::Call;
 use crate::{library, plain};
@@ -30,13 +30,22 @@ pub fn run_on(
         book,
         script,
         reader,
+        list,
         ..
     } = call;
-    match side {
-        0 => library::run(book, script, *reader, values, limit, log),
-        1 => plain::run(Variant::Walking, book, script, *reader, values, limit, log),
-        _ => plain::run(Variant::Resting, book, script, *reader, values, limit, log),
-    }
+    let variant = match side {
+        0 => return library::run(book, script, *reader, values, limit, list, log),
+        1 => Variant::Walking,
+        _ => Variant::Resting,
+    };
+    let arguments = Arguments {
+        reader: *reader,
+        values,
+        limit,
+        list,
+        log,
+    };
+    plain::run(variant, book, script, arguments)
 }
 
 pub fn check_on(side: usize, book: &[u8], script: &[u8]) -> [u32; 4] {
@@ -69,12 +78,23 @@ pub fn agreed_check(name: &str, book: &[u8], script: &[u8]) -> [u32; 4] {
     out
 }
 
-/// Seconds for a step of a whole run. The log is not cleared between runs; values are set anew.
-pub fn run(name: &str, call: &Call) -> [f64; RUN_SIDES] {
+fn accepted_run(name: &str, call: &Call) -> [u32; 6] {
     let out = agreed_run(name, call, call.limit);
     assert_eq!(out[..2], [0, 0], "{name}: refused");
+    out
+}
+
+/// Seconds for a step of a whole run. The log is not cleared between runs; values are set anew.
+pub fn run(name: &str, call: &Call) -> [f64; RUN_SIDES] {
+    let steps = accepted_run(name, call)[3];
     let times = timed_run(call, call.limit, 1);
-    times.map(|time| time / out[3].max(1) as f64)
+    times.map(|time| time / steps.max(1) as f64)
+}
+
+/// Seconds for a whole run.
+pub fn whole_run(name: &str, call: &Call) -> [f64; RUN_SIDES] {
+    accepted_run(name, call);
+    timed_run(call, call.limit, 1)
 }
 
 /// Seconds for a call of run with step limit 0: all checks, and the preparation.

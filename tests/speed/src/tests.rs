@@ -1,7 +1,7 @@
 //! The plain interpreter answers as the library does, on the workloads and on damaged files.
 
 use crate::measure::{agreed_check, agreed_run};
-use crate::workloads::{checks, growth, runs, starts, Call, Check, Workload};
+use crate::workloads::{checks, growth, runs, starts, waits, Call, Check, Workload};
 
 /// Pseudo-random numbers (splitmix64).
 struct Rng(u64);
@@ -24,17 +24,47 @@ impl Rng {
             self.below(12) as u8
         };
     }
+
+    /// A list of a few pairs of these signals, mostly right.
+    fn list(&mut self, signals: &[u32]) -> Vec<u32> {
+        let mut words = Vec::new();
+        let mut instant = 1;
+        for _ in 0..self.below(8) {
+            instant += self.below(6) as u32;
+            let falls = self.below(30) == 0;
+            let name = match self.below(30) {
+                0 => self.below(65) as u32,
+                _ => signals[self.below(signals.len())],
+            };
+            words.extend([instant - falls as u32, name]);
+        }
+        if self.below(10) == 0 {
+            words.pop();
+        }
+        words
+    }
 }
 
 fn workloads() -> Vec<Workload> {
-    runs().into_iter().chain(growth()).chain(starts()).collect()
+    let all = runs().into_iter().chain(waits()).chain(growth());
+    all.chain(starts()).collect()
+}
+
+/// The session signals of a script file: kind 1, owner 65535.
+fn session_signals(call: &Call) -> Vec<u32> {
+    let (names, _rest) = call.script.as_chunks::<4>();
+    let numbered = (0..).zip(names).take(call.values.len());
+    numbered
+        .filter(|(_, name)| matches!(name, [1, _, 0xFF, 0xFF]))
+        .map(|(x, _)| x)
+        .collect()
 }
 
 #[test]
 fn workloads_agree_at_each_limit() {
     for Workload { name, mut call } in workloads() {
         call.log = call.log.min(100);
-        for limit in (0..200).chain([1000, 1234]) {
+        for limit in (0..200).chain([1000, 1234, call.limit]) {
             agreed_run(&name, &call, limit);
         }
     }
@@ -95,10 +125,28 @@ fn damaged_calls_agree() {
             let damaged = Call {
                 book: call.book.clone(),
                 script: call.script.clone(),
+                list: call.list.clone(),
                 values,
                 ..call
             };
             agreed_run(&name, &damaged, [0, 7, 300, 1_000_001][rng.below(4)]);
         }
     }
+}
+
+#[test]
+fn other_lists_agree() {
+    let mut rng = Rng(4);
+    let mut numbers = std::collections::BTreeSet::new();
+    let with_signals = |made: &Workload| !session_signals(&made.call).is_empty();
+    for Workload { name, mut call } in workloads().into_iter().filter(with_signals) {
+        let signals = session_signals(&call);
+        call.log = 40;
+        for _ in 0..300 {
+            call.list = rng.list(&signals);
+            call.reader = rng.below(2) as u32;
+            numbers.insert(agreed_run(&name, &call, 300)[0]);
+        }
+    }
+    assert_eq!(Vec::from_iter(numbers), [0, 15]);
 }

@@ -18,6 +18,7 @@ pub struct Call {
     pub values: Vec<i32>,
     pub reader: u32,
     pub limit: u32,
+    pub list: Vec<u32>,
     /// Words.
     pub log: usize,
 }
@@ -37,6 +38,13 @@ pub struct Check {
 impl Workload {
     fn with_limit(mut self, limit: u32) -> Workload {
         self.call.limit = limit;
+        self
+    }
+
+    /// With a list by which the signal arrives in these instants.
+    fn with_arrivals(mut self, signal: u16, instants: impl IntoIterator<Item = u32>) -> Workload {
+        let pairs = instants.into_iter().map(|i| [i, signal as u32]);
+        self.call.list = pairs.flatten().collect();
         self
     }
 }
@@ -59,6 +67,15 @@ pub fn runs() -> Vec<Workload> {
         exchange(),
         arithmetic(),
         logging(),
+        arriving(),
+    ]
+}
+
+/// Runs that are measured as a whole: all or nearly all of their steps are instant changes, with no signal present.
+pub fn waits() -> Vec<Workload> {
+    vec![
+        lock("wait of 1,000,000 instants for no pair", None),
+        lock("wait of 900,000 instants for one pair", Some(900_000)),
     ]
 }
 
@@ -152,6 +169,7 @@ fn workload(name: impl Into<String>, draft: Draft, log: usize) -> Workload {
             script: draft.file(),
             reader: LOW as u32,
             limit: MOST_STEPS,
+            list: vec![],
             log,
         },
     }
@@ -311,6 +329,34 @@ fn logging() -> Workload {
     }
     draft.while_do(always, body);
     workload("log of every write", draft, 4 * MOST_STEPS as usize)
+}
+
+/// `while x < i32::MAX do ((do (when never do nil) watching tilt); x := x + 1)`: counts the instants in which tilt
+/// arrives, which are all but the first. Five steps an instant.
+fn arriving() -> Workload {
+    const INSTANTS: u32 = 10_000;
+    const STEPS: u32 = 5;
+    let mut draft = Draft::default();
+    let (x, tilt, never) = (draft.register(HIGH), draft.signal(HIGH), draft.signal(HIGH));
+    let nil = draft.nil();
+    let wait = draft.when(never, nil);
+    let until_tilt = draft.watching(tilt, wait);
+    let count = draft.increment(x);
+    let body = draft.sequence(until_tilt, count);
+    draft.forever(x, body);
+    workload("a pair in each of 10,000 instants", draft, 0)
+        .with_limit(STEPS * INSTANTS)
+        .with_arrivals(tilt, 1..=INSTANTS)
+}
+
+/// `when lock do x := 1`, with lock arriving in this instant, if in any.
+fn lock(name: &str, instant: Option<u32>) -> Workload {
+    let mut draft = Draft::default();
+    let (x, lock) = (draft.register(HIGH), draft.signal(HIGH));
+    let one = draft.constant(1);
+    let set = draft.assign(x, one);
+    draft.when(lock, set);
+    workload(name, draft, 0).with_arrivals(lock, instant)
 }
 
 /// A file of 64 names, 256 expressions and 256 nodes, with every kind of entry, accepted under `subsets`.

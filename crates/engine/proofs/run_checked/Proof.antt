@@ -8,7 +8,7 @@ use lib.ListN.{take, length, replicate, length-replicate}
 use Rattle.layout.proofs.Layouts.{few-bounds, nodes-are}
 use Rattle.program.specs.Program.{nodeCount}
 use Rattle.residual.proofs.Residuals.{take-zeros}
-use Rattle.engine.proofs.Starting.{returns-run}
+use Rattle.engine.proofs.Starting.{listed-in, returns-run}
 use borrow.Author.Needs.{needs}
 use Rattle.engine.proofs.run_checked.Statement.{statement}
 use Rattle.engine.proofs.run_checked.Tie as tie
@@ -19,9 +19,9 @@ zeros-taken n m h e = rw sub-zero (take-zeros n 256 h ∙ ap (λ k. replicate k 
 
 cleared :
     (c : tie.After-find-plan) →
-    take {A = ℕ} (c .before .before .before .args .c .nodes - 0) (replicate 256 0) ≡ replicate (nodeCount (c .find-plan .result)) 0
+    take {A = ℕ} (c .before .before .before .before .args .c .nodes - 0) (replicate 256 0) ≡ replicate (nodeCount (c .find-plan .result)) 0
 cleared c =
-    let start = c .before .before .before in
+    let start = c .before .before .before .before in
     let laid = start .pre .plan .laid in
     zeros-taken (start .args .c .nodes) _ (few-bounds (start .args .c) (laid .few) .1 .1 .1)
     (nodes-are laid ∙ sym (c .find-plan .ensures .nodes))
@@ -37,23 +37,26 @@ part-state-start c = search needs
 
 part-state-end : tie.Need-part-state-end
 part-state-end c =
-    let start = c .before .before .before .before .before in omega (arith, few-bounds (start .args .c) (start .pre .plan .laid .few))
+    let start = c .before .before .before .before .before .before in omega (arith, few-bounds (start .args .c) (start .pre .plan .laid .few))
 
 run-requires : tie.Need-run-requires
 run-requires c κs =
-    let pre = c .before .before .before .before .before .before .before .pre in
+    let pre = c .before .before .before .before .before .before .before .before .pre in
     let p = c .before .before .before .before .find-plan .ensures in
     record {
-      valued = record { runnable = p .runnable; named = pre .named ∙ sym (p .names) };
-      node =
-          record {
-            known = omega (arith, p .runnable .some);
-            whole =
-                ap length (cleared (c .before .before .before .before))
-                ∙ length-replicate (nodeCount (c .before .before .before .before .find-plan .result)) 0
-                ∙ sym (p .runnable .whole);
-          };
-      counted = record { time = omega arith; most = pre .most; instants = omega arith; space = omega arith };
+      can = record {
+        valued = record { runnable = p .runnable; named = pre .named ∙ sym (p .names) };
+        node =
+            record {
+              known = omega (arith, p .runnable .some);
+              whole =
+                  ap length (cleared (c .before .before .before .before))
+                  ∙ length-replicate (nodeCount (c .before .before .before .before .find-plan .result)) 0
+                  ∙ sym (p .runnable .whole);
+            };
+        counted = record { time = omega arith; most = pre .most; instants = omega arith; space = omega arith };
+      };
+      right = listed-in p (pre .right);
     }
 
 clear-owned-requires : tie.Need-clear-owned-requires
@@ -67,8 +70,8 @@ same-length-2 c = search needs
 
 returns : tie.Need-returns
 returns c =
-    let start = c .before .before .before .before .before .before .before .before .before .before .before .before .before .before .before .before in
-    returns-run (now (start .args .s)) (start .pre .plan .checked) (c .before .before .before .before .before .before .before .before .before .before .before .before .before .find-plan .ensures) _ _ _ _ (cleared (c .before .before .before .before .before .before .before .before .before .before .before .before .before)) (start .pre .named)
+    let start = c .before .before .before .before .before .before .before .before .before .before .before .before .before .before .before .before .before in
+    returns-run (now (start .args .s)) (start .pre .plan .checked) (c .before .before .before .before .before .before .before .before .before .before .before .before .before .find-plan .ensures) _ _ _ _ _ (cleared (c .before .before .before .before .before .before .before .before .before .before .before .before .before)) (start .pre .named)
     (c .before .before .before .before .before .before .before .before .run .ensures) (c .before .clear-owned .ensures)
 
 pub run-checked-spec : {M : Type 1} → statement M

@@ -1,4 +1,4 @@
-//! Refusals 12 to 14: what belongs to run.
+//! Refusals 12 to 14: reader, values and limit of run.
 
 use super::{Draft, Sort};
 use crate::file::SESSION;

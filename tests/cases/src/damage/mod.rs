@@ -4,6 +4,7 @@ mod book;
 mod call;
 mod expression;
 mod layout;
+mod list;
 mod name;
 mod node;
 mod scope;
@@ -27,6 +28,7 @@ pub struct Draft {
     pub reader: u32,
     pub values: Vec<i32>,
     pub limit: u32,
+    pub list: Vec<u32>,
     pub log: usize,
 }
 
@@ -43,6 +45,7 @@ impl Draft {
             reader: self.reader,
             values: self.values,
             limit: self.limit,
+            list: self.list,
             log: self.log,
         }
     }
@@ -75,7 +78,7 @@ impl Sort {
 
 /// Every sort of fault, by refusal.
 pub fn sorts() -> impl Iterator<Item = &'static Sort> {
-    let lists: [&[Sort]; 7] = [
+    let lists: [&[Sort]; 8] = [
         book::SORTS,
         layout::SORTS,
         name::SORTS,
@@ -83,6 +86,7 @@ pub fn sorts() -> impl Iterator<Item = &'static Sort> {
         node::SORTS,
         scope::SORTS,
         call::SORTS,
+        list::SORTS,
     ];
     lists.into_iter().flatten()
 }

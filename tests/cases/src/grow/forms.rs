@@ -20,10 +20,11 @@ enum Form {
     Handshake,
     CutOff,
     HeldBack,
+    Awaiting,
 }
 
 /// Each form with its least size and its weight.
-const FORMS: [(Form, usize, usize); 13] = [
+const FORMS: [(Form, usize, usize); 14] = [
     (Form::Sequence, 3, 20),
     (Form::Parallel, 3, 14),
     (Form::Conditional, 3, 11),
@@ -37,6 +38,7 @@ const FORMS: [(Form, usize, usize); 13] = [
     (Form::Handshake, 7, 8),
     (Form::CutOff, 7, 8),
     (Form::HeldBack, 20, 8),
+    (Form::Awaiting, 5, 9),
 ];
 
 /// A form of at most `size` nodes, by weight.
@@ -81,6 +83,7 @@ impl Grower<'_> {
             Form::Handshake => self.handshake(bounds, size),
             Form::CutOff => self.cut_off(bounds, size),
             Form::HeldBack => self.held_back(bounds, size),
+            Form::Awaiting => self.awaiting(bounds, size),
         }
     }
 

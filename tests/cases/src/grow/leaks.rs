@@ -5,8 +5,8 @@ use super::patterns::COUNT_DOWN;
 use super::{Bounds, Grower, Rule};
 use crate::tree::*;
 
-/// The nodes of a leak by a rule.
-fn leak_nodes(rule: Rule) -> usize {
+/// The nodes of a leak by a rule, of a signal or of a register.
+fn leak_nodes(rule: Rule, sealed_signal: bool) -> usize {
     match rule {
         Rule::Name | Rule::If => 3,
         Rule::When => 2,
@@ -14,6 +14,7 @@ fn leak_nodes(rule: Rule) -> usize {
         Rule::Watching => 10,
         Rule::While => 11,
         Rule::Sequence => 7,
+        Rule::Parallel if sealed_signal => 20,
         Rule::Parallel => 15,
     }
 }
@@ -22,7 +23,12 @@ impl Grower<'_> {
     /// In a careless script, now and then, a leak by its rule.
     pub fn leak(&mut self, bounds: Bounds, size: usize) -> Option<Process> {
         let careless = self.careless?;
-        if size < leak_nodes(careless.rule) || self.rng.chance(2, 3) {
+        let sealed_signal = match careless.rule {
+            Rule::When | Rule::Watching => true,
+            Rule::While | Rule::Sequence | Rule::Parallel => self.rng.chance(1, 2),
+            _ => false,
+        };
+        if size < leak_nodes(careless.rule, sealed_signal) || self.rng.chance(2, 3) {
             return None;
         }
         let signal = self.rng.chance(1, 2);
@@ -30,7 +36,6 @@ impl Grower<'_> {
             lattice.at_most(bounds.write, level)
         })?;
         let low_level = self.names[low].level;
-        let sealed_signal = matches!(careless.rule, Rule::When | Rule::Watching);
         let sealed = self.name(sealed_signal, |lattice, level| {
             lattice.at_most(level, bounds.test) && !lattice.at_most(level, low_level)
         })?;
@@ -44,7 +49,9 @@ impl Grower<'_> {
         let secret = Expression::Register(sealed);
         Some(match rule {
             Rule::Name if self.names[low].signal => if_else(secret, write, Process::Nil),
-            Rule::Name => Process::Assign(low, secret),
+            Rule::Name if self.rng.chance(1, 2) => Process::Assign(low, secret),
+            // A rule of its own says that the second operand counts.
+            Rule::Name => Process::Assign(low, binary(ADD, Expression::Constant(1), secret)),
             Rule::Let => {
                 let register = self.declare(false, low_level)?;
                 self.scope.pop();
@@ -57,10 +64,18 @@ impl Grower<'_> {
             Rule::While => {
                 let counter = self.declare(false, low_level)?;
                 self.scope.pop();
-                self.count_down(counter, 2, true, sequence(write, delay(sealed)))
+                let delay = self.delay(sealed);
+                self.count_down(counter, 2, true, sequence(write, delay))
             }
-            Rule::Sequence => sequence(delay(sealed), write),
-            Rule::Parallel => parallel(sequence(self.pause_at(low_level)?, write), delay(sealed)),
+            Rule::Sequence => sequence(self.delay(sealed), write),
+            Rule::Parallel => {
+                let mut later = sequence(self.pause_at(low_level)?, write);
+                // A list makes a signal present in instant 1 at the earliest.
+                if self.names[sealed].signal {
+                    later = sequence(self.pause_at(low_level)?, later);
+                }
+                parallel(later, self.delay(sealed))
+            }
         })
     }
 
@@ -70,10 +85,13 @@ impl Grower<'_> {
             false => Process::Assign(name, self.expression(self.names[name].level)),
         }
     }
-}
 
-/// Takes one step more or less, by the value of a register.
-fn delay(register: usize) -> Process {
-    let longer = sequence(Process::Nil, Process::Nil);
-    if_else(Expression::Register(register), longer, Process::Nil)
+    /// Takes one step more or less by the value of a register, or waits for a signal.
+    fn delay(&self, name: usize) -> Process {
+        if self.names[name].signal {
+            return when(name, Process::Nil);
+        }
+        let longer = sequence(Process::Nil, Process::Nil);
+        if_else(Expression::Register(name), longer, Process::Nil)
+    }
 }

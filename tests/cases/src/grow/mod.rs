@@ -38,6 +38,8 @@ struct Grower<'r> {
     /// The levels that names get: few, so that names of one level meet.
     levels: Vec<usize>,
     names: Vec<Name>,
+    /// How many of the names, the first, are session names.
+    session_names: usize,
     /// The names in reach.
     scope: Vec<usize>,
     /// How many expressions the file may still take.
@@ -53,19 +55,22 @@ pub fn script(rng: &mut Rng, lattice: &Lattice, style: Style) -> Script {
         careless: style.careless,
         levels,
         names: vec![],
+        session_names: 0,
         scope: vec![],
         expressions: MOST_EXPRESSIONS,
     };
     for _ in 0..style.session_names.min(MOST_NAMES) {
         grower.session_name();
     }
+    grower.session_names = grower.names.len();
     let free = Bounds {
         write: lattice.bottom,
         test: lattice.top,
     };
-    let root = match grower.rng.below(6) {
+    let root = match grower.rng.below(8) {
         0 | 1 => grower.with_clock(free, style.nodes),
         2 => grower.in_two_phases(free, style.nodes),
+        3 | 4 => grower.in_stages(free, style.nodes),
         _ => grower.process(free, style.nodes),
     };
     Script {
@@ -136,6 +141,15 @@ impl Grower<'_> {
             true => all.last().copied(),
             false => self.rng.pick(&all),
         }
+    }
+
+    /// A session signal that may be tested, which a list may name.
+    fn session_signal(&mut self, bounds: Bounds) -> Option<usize> {
+        let (names, lattice) = (&self.names[..self.session_names], self.lattice);
+        let tested =
+            |&name: &usize| names[name].signal && lattice.at_most(names[name].level, bounds.test);
+        let all: Vec<usize> = (0..names.len()).filter(tested).collect();
+        self.rng.pick(&all)
     }
 
     /// Splits the nodes below a node of two children.

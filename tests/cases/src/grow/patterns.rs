@@ -183,6 +183,41 @@ impl Grower<'_> {
         local(a, local(b, threads))
     }
 
+    /// `(when s do nil); P` or `(do (when r do nil) watching s); P`, with session signals: P goes on when
+    /// the list or another thread makes s present. Five nodes or more.
+    pub fn awaiting(&mut self, bounds: Bounds, size: usize) -> Process {
+        let signals = (self.session_signal(bounds), self.session_signal(bounds));
+        let (Some(s), Some(r)) = signals else {
+            return self.in_sequence(bounds, size);
+        };
+        let after = self.writes_at_least(bounds, self.names[s].level);
+        if self.rng.chance(2, 3) {
+            let rest = self.process(after, size - 3);
+            return sequence(when(s, Process::Nil), rest);
+        }
+        let after = self.writes_at_least(after, self.names[r].level);
+        let rest = self.process(after, size - 4);
+        sequence(watching(s, when(r, Process::Nil)), rest)
+    }
+
+    /// Processes one after the other, each of which waits for a session signal first.
+    pub fn in_stages(&mut self, bounds: Bounds, size: usize) -> Process {
+        let (first, second) = (size / 2, size - size / 2 - 1);
+        if first < 5 || self.rng.chance(1, 3) {
+            return self.process_in_stage(bounds, size);
+        }
+        let (before, after) = self.before_and_after(bounds);
+        let stage = self.process_in_stage(before, first);
+        sequence(stage, self.in_stages(after, second))
+    }
+
+    fn process_in_stage(&mut self, bounds: Bounds, size: usize) -> Process {
+        match size < 5 {
+            true => self.process(bounds, size),
+            false => self.awaiting(bounds, size),
+        }
+    }
+
     /// First a process that tests nothing sealed, then one that writes nothing below some level and may test
     /// anything.
     pub fn in_two_phases(&mut self, bounds: Bounds, size: usize) -> Process {

@@ -1,11 +1,13 @@
-//! The examples of the papers as data: 01's peg list, the report's programs, and
-//! one small file for each row of 01's table. Expected answers were typed from
-//! the papers, not computed. Where a paper gives a program and its behaviour in
-//! words, the steps were counted by hand by the rules of Figures 1 to 4.
+//! The examples of the papers as data: 01's peg list, the report's programs, one
+//! small file for each row of 01's table, and runs with lists for the sentences of
+//! 02's request (a). Expected answers were typed from the papers, not computed.
+//! Where a paper gives a program and its behaviour in words, the steps were counted
+//! by hand by the rules of Figures 1 to 4.
 //!
 //! A program that the report shows to be insecure is refused with its levels;
 //! where its behaviour is stated, a second example runs it with all levels low.
 
+mod inputs;
 mod listed;
 mod report;
 mod rules;
@@ -34,6 +36,7 @@ pub struct ExampleRun {
     pub reader: u32,
     pub values: Vec<i32>,
     pub limit: u32,
+    pub list: Vec<u32>,
     /// The length of the log in words.
     pub log: usize,
     pub answer: RunAnswer,
@@ -48,6 +51,7 @@ pub fn all() -> Vec<Example> {
     all.extend(security::all());
     all.extend(rules::all());
     all.extend(table::all());
+    all.extend(inputs::all());
     all
 }
 
@@ -135,6 +139,7 @@ impl Example {
             reader,
             values: values.to_vec(),
             limit,
+            list: Vec::new(),
             log: LOG_WORDS,
             answer: run_answer((number, place), (0, 0, 0), 0),
             lines: Vec::new(),
@@ -163,11 +168,20 @@ impl Example {
             reader,
             values: values.to_vec(),
             limit,
+            list: Vec::new(),
             log,
             answer: run_answer((0, 0), counts, lines.len() as u32),
             lines: lines.to_vec(),
             values_after: after.to_vec(),
         });
+        self
+    }
+
+    /// Gives the run before it a list, which is empty otherwise.
+    fn list(mut self, list: &[u32]) -> Example {
+        if let Some(run) = self.runs.last_mut() {
+            run.list = list.to_vec();
+        }
         self
     }
 }

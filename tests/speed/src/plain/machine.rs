@@ -3,7 +3,7 @@
 use super::book::Book;
 use super::expression::{value, Expression};
 use super::script::{Node, Script};
-use super::Variant;
+use super::{Arguments, Pair, Variant};
 
 /// What is left of a node.
 #[derive(Clone, Copy, PartialEq)]
@@ -37,6 +37,8 @@ pub struct Machine<'a> {
     seen: Vec<bool>,
     pub state: Vec<State>,
     values: &'a mut [i32],
+    /// The pairs of instants that are not yet entered.
+    arrivals: &'a [Pair],
     log: &'a mut [u32],
     pub steps: u32,
     instants: u32,
@@ -47,9 +49,8 @@ impl<'a> Machine<'a> {
     pub fn new(
         book: &Book,
         script: &'a Script,
-        reader: usize,
-        values: &'a mut [i32],
-        log: &'a mut [u32],
+        arrivals: &'a [Pair],
+        arguments: Arguments<'a>,
     ) -> Machine<'a> {
         let names = &script.names;
         Machine {
@@ -61,11 +62,12 @@ impl<'a> Machine<'a> {
                 .collect(),
             seen: names
                 .iter()
-                .map(|name| book.at_or_below(name.level, reader as u8))
+                .map(|name| book.at_or_below(name.level, arguments.reader as u8))
                 .collect(),
             state: vec![State::Whole; script.nodes.len()],
-            values,
-            log,
+            values: arguments.values,
+            arrivals,
+            log: arguments.log,
             steps: 0,
             instants: 0,
             lines: 0,
@@ -103,6 +105,18 @@ impl<'a> Machine<'a> {
         self.change(root);
         self.signals.iter().for_each(|&x| self.values[x] = 0);
         self.instants += 1;
+        self.let_arrive();
+    }
+
+    /// Makes present what the list names for the instant just entered.
+    fn let_arrive(&mut self) {
+        while let [[instant, signal], later @ ..] = self.arrivals {
+            if *instant != self.instants {
+                return;
+            }
+            self.values[*signal as usize] = 1;
+            self.arrivals = later;
+        }
     }
 
     /// Moves node k once, or says why it can't move.

@@ -45,7 +45,9 @@ impl Machine<'_> {
                 Next::OwnMove => self.step(k),
                 Next::Part(child, after) => match self.advance(child, limit) {
                     Rest::Suspended if self.rear_waits(k) => return Rest::Suspended,
-                    Rest::Suspended | Rest::Terminated if self.steps == limit => return Rest::Spent,
+                    Rest::Suspended | Rest::Terminated if self.steps == limit => {
+                        return Rest::Spent
+                    }
                     Rest::Suspended => self.trade(k),
                     Rest::Terminated => self.drop_part(k, after),
                     rest => return rest,

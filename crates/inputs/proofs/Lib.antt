@@ -1,0 +1,2 @@
+-- Laws of lists and their cursors.
+pub mod Lists
