@@ -1,4 +1,5 @@
 // What comes next at a node.
+use language::process_kinds;
 use moves::counts::Reason;
 use program::WORDS;
 use program::forms;
@@ -28,7 +29,7 @@ fn writes_next(program: &[usize; WORDS], k: usize, tag: u8) -> bool
     if tag != forms::WRITTEN {
         return false;
     }
-    moves::is_writer(program::kind_at(program, k))
+    process_kinds::is_writer(program::kind_at(program, k))
 }
 
 // At node k, which has so many bytes and no part in front.

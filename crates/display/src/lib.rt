@@ -1,32 +1,10 @@
-// What the programs have in common: they run a script and print what the calls answer, in the form that 01 gives, and read
-// bytes that are written down in hexadecimal.
-pub mod hex; // hex.rt: lines of hexadecimal digits
-
-use libc::STDOUT_FILENO;
+// What the calls answer of a script, printed in the form that 01 gives.
 use results::RunResult;
 use results::Verdict;
-
-pub fn say(text: &[u8]) {
-    io::write_all(STDOUT_FILENO, text);
-}
-
-pub fn say_byte(byte: u8) {
-    let text = [byte];
-    say(&text);
-}
-
-// A number, and the byte that ends it.
-fn say_number(n: u64, end: u8) {
-    io::print_decimal(STDOUT_FILENO, n);
-    say_byte(end);
-}
-
-// A line of a word and two numbers.
-fn say_pair(word: &[u8], a: u32, b: u32) {
-    say(word);
-    say_number(a as u64, b' ');
-    say_number(b as u64, b'\n');
-}
+use text::say_byte;
+use text::say_number;
+use text::say_pair;
+use text::say_refusal;
 
 // The word at index i of a log: of a line's four words the last is a signed value, in two's complement.
 fn say_word(i: usize, w: u32) {
@@ -61,10 +39,6 @@ fn say_ending(ending: u32, steps: u32, instants: u32) {
     } else {
         say_pair(b"log full ", steps, instants);
     }
-}
-
-pub fn say_refusal(number: u32, place: u32) {
-    say_pair(b"refused ", number, place);
 }
 
 // What the two calls answered of a script. A refusal is all that is printed of a refused call of run; else W and T,

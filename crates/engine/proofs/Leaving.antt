@@ -34,7 +34,7 @@ use Rattle.checker.specs.Refusals.{checkRefusal}
 use Rattle.arguments.specs.Refusals.{callRefusal, runRefusal}
 use Rattle.arguments.proofs.Passing.{run-accepted, run-bounds, run-listed}
 use Rattle.arguments.proofs.Writes.{tree-writes}
-use Rattle.results.specs.Reports.{reportBy}
+use Rattle.results.specs.Results.{resultBy}
 use Rattle.engine.specs.Answers.{runOf, Left, leftBy, refusedLeft, left}
 use Rattle.engine.specs.Contracts.{CanStart, runFor, Returns}
 
@@ -45,8 +45,8 @@ pub record Leaves
   pub steps : r .at .steps ≤ mostSteps
   pub instants : r .at .instants ≤ mostSteps
   pub lines : r .at .lines ≤ mostSteps
-  pub report :
-      reportBy (r .ending) (r .at .steps) (r .at .instants) (r .at .lines) ≡ left b s reader values limit list log .report
+  pub result :
+      resultBy (r .ending) (r .at .steps) (r .at .instants) (r .at .lines) ≡ left b s reader values limit list log .result
   pub final : values′ ≡ left b s reader values limit list log .values
   pub logged : log′ ≡ left b s reader values limit list log .log
 
@@ -135,7 +135,7 @@ module _ (b s : List ℕ) (reader : ℕ) (values : List ℤ) (limit : ℕ) (list
                     run-few (namesOf s) (listed list) sees limit (length log / 4) (starts (tree s) values),
                     bounds .1,
                   );
-              report =
+              result =
                   (λ i.
                   record {
                     number = 0;
@@ -145,7 +145,7 @@ module _ (b s : List ℕ) (reader : ℕ) (values : List ℤ) (limit : ℕ) (list
                     instants = given .instants i;
                     lines = given .lines i;
                   })
-                  ∙ ap (λ (l : Left). l .report) is;
+                  ∙ ap (λ (l : Left). l .result) is;
               final = given .final ∙ ap (λ (l : Left). l .values) is;
               logged =
                   given .logged

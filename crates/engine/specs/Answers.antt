@@ -13,7 +13,7 @@ use Rattle.inputs.specs.Lists.{listed}
 use Rattle.tree.specs.Tree.{namesOf, tree}
 use Rattle.results.specs.declared.Verdict.{Verdict}
 use Rattle.results.specs.declared.RunResult.{RunResult}
-use Rattle.results.specs.Reports.{verdictBy, refusedReport, reportBy}
+use Rattle.results.specs.Results.{verdictBy, refusedResult, resultBy}
 use Rattle.checker.specs.Refusals.{checkRefusal}
 use Rattle.arguments.specs.Refusals.{runRefusal}
 
@@ -37,7 +37,7 @@ runOf b s reader values limit list log =
 
 -- what a call of run leaves
 pub record Left : Type 0 where
-  pub report : RunResult
+  pub result : RunResult
   pub values : List ℤ
   pub log : List ℕ
 
@@ -46,14 +46,14 @@ pub record Left : Type 0 where
 abbrev pub leftBy : Run → List ℕ → Left
 leftBy r log =
     record {
-      report = reportBy (endingNumber (r .ending)) (r .steps) (r .instants) (length (r .lines));
+      result = resultBy (endingNumber (r .ending)) (r .steps) (r .instants) (length (r .lines));
       values = r .values;
       log = words (r .lines) ++ drop (4 * length (r .lines)) log;
     }
 
 -- a refused call leaves values and log as they were
 abbrev pub refusedLeft : Refusal → List ℤ → List ℕ → Left
-refusedLeft r values log = record { report = refusedReport r; values = values; log = log }
+refusedLeft r values log = record { result = refusedResult r; values = values; log = log }
 
 unfoldable pub left : List ℕ → List ℕ → ℕ → List ℤ → ℕ → List ℕ → List ℕ → Left
 left b s reader values limit list log =

@@ -1,10 +1,10 @@
 // The two calls for C. A slice is a pointer and then a length in elements. An `out` of another length than 4 or 6 is left
 // untouched, and nothing else happens.
-use results::words::put_report;
+use results::words::put_result;
 use results::words::put_verdict;
 ghost use mathlib.Core.Path.{_≡_};
 ghost use Rattle.engine.specs.Answers.{verdict, left};
-ghost use Rattle.results.specs.Words.{verdictWords, reportWords};
+ghost use Rattle.results.specs.Words.{verdictWords, resultWords};
 ghost use Rattle.engine.specs.Interface.{whereAsked};
 
 // `out` becomes number, place, W, T.
@@ -31,7 +31,7 @@ pub extern "C" fn station_run(
     log: &mut [u32],
     out: &mut [u32],
 )
-    ensures { λ _. ⌜ now (out .exit) ≡ whereAsked 6 (now (out .entry)) (reportWords (left (now (book .entry)) (now (script .entry)) reader (now (values .entry)) limit (now (list .entry)) (now (log .entry)) .report)) (now (out .entry)) ⌝ }
+    ensures { λ _. ⌜ now (out .exit) ≡ whereAsked 6 (now (out .entry)) (resultWords (left (now (book .entry)) (now (script .entry)) reader (now (values .entry)) limit (now (list .entry)) (now (log .entry)) .result)) (now (out .entry)) ⌝ }
     ensures { λ _. ⌜ now (values .exit) ≡ whereAsked 6 (now (out .entry)) (left (now (book .entry)) (now (script .entry)) reader (now (values .entry)) limit (now (list .entry)) (now (log .entry)) .values) (now (values .entry)) ⌝ }
     ensures { λ _. ⌜ now (log .exit) ≡ whereAsked 6 (now (out .entry)) (left (now (book .entry)) (now (script .entry)) reader (now (values .entry)) limit (now (list .entry)) (now (log .entry)) .log) (now (log .entry)) ⌝ }
 {
@@ -39,5 +39,5 @@ pub extern "C" fn station_run(
         return;
     }
     let r = crate::run(book, script, reader, values, limit, list, log);
-    put_report(r, out);
+    put_result(r, out);
 }

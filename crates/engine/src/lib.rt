@@ -7,7 +7,7 @@ use moves::counts::Counts;
 use results::RunResult;
 use results::Verdict;
 use results::refused_result;
-use results::report_of;
+use results::result_of;
 use runner::Ran;
 ghost use mathlib.Core.Path.{_≡_};
 ghost use Rattle.engine.specs.Answers.{verdict, left};
@@ -66,7 +66,7 @@ pub fn run(
     list: &[u32],
     log: &mut [u32],
 ) -> RunResult
-    ensures { λ r. ⌜ r ≡ left (now (book .entry)) (now (script .entry)) reader (now (values .entry)) limit (now (list .entry)) (now (log .entry)) .report ⌝ }
+    ensures { λ r. ⌜ r ≡ left (now (book .entry)) (now (script .entry)) reader (now (values .entry)) limit (now (list .entry)) (now (log .entry)) .result ⌝ }
     ensures { λ _. ⌜ now (values .exit) ≡ left (now (book .entry)) (now (script .entry)) reader (now (values .entry)) limit (now (list .entry)) (now (log .entry)) .values ⌝ }
     ensures { λ _. ⌜ now (log .exit) ≡ left (now (book .entry)) (now (script .entry)) reader (now (values .entry)) limit (now (list .entry)) (now (log .entry)) .log ⌝ }
 {
@@ -97,5 +97,5 @@ pub fn run(
         log,
     );
     let at = r.at;
-    report_of(r.ending, at.steps as u32, at.instants as u32, at.lines)
+    result_of(r.ending, at.steps as u32, at.instants as u32, at.lines)
 }

@@ -14,13 +14,13 @@ fn say_row(t: &PairTable, n: usize, i: usize)
         say(b" ", pairs::table::level_at(t, i, j));
         j += 1;
     }
-    display::say_byte(b'\n');
+    text::say_byte(b'\n');
 }
 
 fn say_table(title: &[u8], t: &PairTable, n: usize)
     requires { ⌜ n ≤ mostLevels ⌝ }
 {
-    display::say(title);
+    text::say(title);
     let mut i: usize = 0;
     while i < n {
         say_row(t, n, i);
@@ -41,14 +41,14 @@ fn say_book(b: Book, join: PairTable, meet: PairTable)
 pub fn show(file: &[u8]) {
     let read = order::load(file);
     if 0 < read.refusal.number {
-        display::say_refusal(read.refusal.number, read.refusal.place);
+        text::say_refusal(read.refusal.number, read.refusal.place);
         return;
     }
     let mut join = [[0u8; Book::MAX_LEVELS]; Book::MAX_LEVELS];
     let mut meet = [[0u8; Book::MAX_LEVELS]; Book::MAX_LEVELS];
     let lack = pairs::lack_refusal(pairs::first_lacking(read.book, &mut join, &mut meet));
     if 0 < lack.number {
-        display::say_refusal(lack.number, lack.place);
+        text::say_refusal(lack.number, lack.place);
         return;
     }
     say_book(read.book, join, meet);

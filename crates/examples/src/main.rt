@@ -3,15 +3,15 @@
 mod books; // books.rt: level books
 mod scripts; // scripts.rt: script files
 
-use display::hex;
 use libc::STDIN_FILENO;
 use libc::STDOUT_FILENO;
+use text::hex;
 ghost use Prim.Native.Nat.{_<_};
 ghost use lib.ListN.{length};
 
 // A word and a number.
 fn say(word: &[u8], n: usize) {
-    display::say(word);
+    text::say(word);
     io::print_decimal(STDOUT_FILENO, n as u64);
 }
 

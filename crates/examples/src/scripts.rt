@@ -13,13 +13,13 @@ fn say_script(file: &[u8], c: Script)
     say(b" expressions ", c.expressions);
     say(b" nodes ", n);
     say(b" size ", sizes[n - 1] as usize);
-    display::say_byte(b'\n');
+    text::say_byte(b'\n');
 }
 
 pub fn show(file: &[u8]) {
     let loaded = script::load(file, 2);
     if 0 < loaded.refusal.number {
-        display::say_refusal(loaded.refusal.number, loaded.refusal.place);
+        text::say_refusal(loaded.refusal.number, loaded.refusal.place);
     } else {
         say_script(file, loaded.script);
     }

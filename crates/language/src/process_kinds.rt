@@ -1,4 +1,7 @@
 // The kinds of processes, by their numbers in files and programs.
+ghost use mathlib.Core.Path.{_≡_};
+ghost use Rattle.language.specs.Kinds.{hasWrite};
+
 pub const NIL: usize = 0;
 
 pub const ASSIGN: usize = 1;
@@ -20,3 +23,10 @@ pub const WATCHING: usize = 8;
 pub const WHEN: usize = 9;
 
 pub const PARALLEL: usize = 10;
+
+// An assignment or an emission: its move calls for a line.
+pub fn is_writer(kind: usize) -> bool
+    ensures { λ r. ⌜ r ≡ hasWrite kind ⌝ }
+{
+    kind == ASSIGN || kind == EMIT
+}

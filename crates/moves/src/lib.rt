@@ -10,7 +10,7 @@ use program::WORDS;
 use program::forms;
 ghost use mathlib.Core.Path.{_≡_};
 ghost use lib.ListN.{length, replicate};
-ghost use Rattle.language.specs.Kinds.{letIn, ifThenElse, while, local, hasWrite};
+ghost use Rattle.language.specs.Kinds.{letIn, ifThenElse, while, local};
 ghost use Rattle.moves.specs.Contracts.{Unmoved, MovesSilently, IsSilent, WriterAt, Written, CanMoveItself, Makes};
 
 fn clear(state: &mut [u8])
@@ -103,13 +103,6 @@ fn move_silently(
     }
 }
 
-// An assignment or an emission: its move calls for a line.
-pub fn is_writer(kind: usize) -> bool
-    ensures { λ r. ⌜ r ≡ hasWrite kind ⌝ }
-{
-    kind == process_kinds::ASSIGN || kind == process_kinds::EMIT
-}
-
 // What node k, an assignment or an emission, gives its name.
 fn written(program: &[usize; WORDS], values: &[i32], k: usize, kind: usize) -> i32
     requires { ⌜ WriterAt (now program) k (now values) kind ⌝ }
@@ -138,7 +131,7 @@ pub fn move_own(
         return Moved::Rests(Reason::Spent, at);
     }
     let kind = program::kind_at(program, k);
-    if is_writer(kind) {
+    if process_kinds::is_writer(kind) {
         let x = program::a_at(program, k);
         let v = written(program, values, k, kind);
         let noted = log::note(program, log, at, x, v);

@@ -7,5 +7,5 @@ use Rattle.results.specs.declared.RunResult.{RunResult}
 abbrev pub verdictWords : Verdict → List ℕ
 verdictWords v = v .number ∷ v .place ∷ v .write ∷ v .test ∷ []
 
-abbrev pub reportWords : RunResult → List ℕ
-reportWords r = r .number ∷ r .place ∷ r .ending ∷ r .steps ∷ r .instants ∷ r .lines ∷ []
+abbrev pub resultWords : RunResult → List ℕ
+resultWords r = r .number ∷ r .place ∷ r .ending ∷ r .steps ∷ r .instants ∷ r .lines ∷ []

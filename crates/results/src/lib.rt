@@ -4,7 +4,7 @@ pub mod words; // words.rt: the answers' words for C
 use prelude::Refusal;
 ghost use mathlib.Core.Path.{_≡_};
 ghost use Prim.Native.Nat.{_^_, _<_};
-ghost use Rattle.results.specs.Reports.{refusedReport, reportBy};
+ghost use Rattle.results.specs.Results.{refusedResult, resultBy};
 
 // What check answers: number and place of the refusal, W and T.
 pub struct Verdict {
@@ -25,7 +25,7 @@ pub struct RunResult {
 }
 
 pub fn refused_result(r: Refusal) -> RunResult
-    ensures { λ a. ⌜ a ≡ refusedReport r ⌝ }
+    ensures { λ a. ⌜ a ≡ refusedResult r ⌝ }
 {
     RunResult {
         number: r.number,
@@ -37,9 +37,9 @@ pub fn refused_result(r: Refusal) -> RunResult
     }
 }
 
-pub fn report_of(ending: u32, steps: u32, instants: u32, lines: usize) -> RunResult
+pub fn result_of(ending: u32, steps: u32, instants: u32, lines: usize) -> RunResult
     requires { ⌜ lines < 2 ^ 32 ⌝ }
-    ensures { λ a. ⌜ a ≡ reportBy ending steps instants lines ⌝ }
+    ensures { λ a. ⌜ a ≡ resultBy ending steps instants lines ⌝ }
 {
     RunResult {
         number: 0,

@@ -3,7 +3,7 @@ use crate::RunResult;
 use crate::Verdict;
 ghost use mathlib.Core.Path.{_≡_};
 ghost use lib.ListN.{length};
-ghost use Rattle.results.specs.Words.{verdictWords, reportWords};
+ghost use Rattle.results.specs.Words.{verdictWords, resultWords};
 
 pub fn put_verdict(v: Verdict, out: &mut [u32])
     requires { ⌜ length (now out) ≡ 4 ⌝ }
@@ -15,9 +15,9 @@ pub fn put_verdict(v: Verdict, out: &mut [u32])
     out[3] = v.test;
 }
 
-pub fn put_report(r: RunResult, out: &mut [u32])
+pub fn put_result(r: RunResult, out: &mut [u32])
     requires { ⌜ length (now out) ≡ 6 ⌝ }
-    ensures { λ _. ⌜ now (out .exit) ≡ reportWords r ⌝ }
+    ensures { λ _. ⌜ now (out .exit) ≡ resultWords r ⌝ }
 {
     out[0] = r.number;
     out[1] = r.place;

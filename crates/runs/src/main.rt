@@ -1,8 +1,8 @@
 // Runs the examples of 01 that are not proved, those of the report and some with lists, as the file stdin has them. For each it
 // prints a title and what comes of the script, for the reader 0. What it prints is held to the file stdout, which was worked
 // out from the papers alone.
-use display::hex;
 use libc::STDIN_FILENO;
+use text::hex;
 ghost use Prim.Native.Nat.{_≤_, _<_};
 ghost use lib.ListN.{length};
 
@@ -67,7 +67,7 @@ fn run(line: &[u8], script: &[u8]) {
     if 7 <= n {
         call(script, &bytes[0..n], 7, n);
     }
-    display::say_byte(b'\n');
+    text::say_byte(b'\n');
 }
 
 fn run_listed(line: &[u8], script: &[u8]) {
@@ -79,7 +79,7 @@ fn run_listed(line: &[u8], script: &[u8]) {
             call(script, &bytes[0..n], 8, 8 + count);
         }
     }
-    display::say_byte(b'\n');
+    text::say_byte(b'\n');
 }
 
 // A line's first byte says what it is: a title, the start of a script, a part of it, a run, or a run with a list. Answers how
@@ -89,7 +89,7 @@ fn take_line(line: &[u8], script: &mut [u8], end: usize) -> usize
     ensures { λ r. ⌜ r ≤ length (now (script .entry)) ⌝ }
 {
     match line[0] {
-        b'>' => display::say(&line[1..]),
+        b'>' => text::say(&line[1..]),
         b'n' => return 0,
         b's' => return hex::read(line, script, end),
         b'r' => run(line, &script[0..end]),

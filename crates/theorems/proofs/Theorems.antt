@@ -43,7 +43,7 @@ use Rattle.results.specs.declared.Verdict.{Verdict}
 use Rattle.checker.specs.Refusals.{checkRefusal}
 use Rattle.arguments.specs.Refusals.{runRefusal}
 use Rattle.arguments.specs.Contracts.{ListRight}
-use Rattle.results.specs.Reports.{verdictBy}
+use Rattle.results.specs.Results.{verdictBy}
 use Rattle.engine.specs.Answers.{verdict, runOf, Left, leftBy, left}
 use Rattle.theorems.specs.Records.{stamp}
 use Rattle.theorems.specs.Results.{sessionEnvironment, CheckAgrees, RunAgrees, RunsUnlisted, RunReported, Readable, StartEqual, ListsAgree, NothingShows, DemandThree, DemandThreeUnlisted}
@@ -178,17 +178,17 @@ module _ (s list : List ℕ) (right : ListRight s list) where
 module _ (b s : List ℕ) (reader : ℕ) (values : List ℤ) (limit : ℕ) (list log : List ℕ) where
   -- as above, of run
   left-passes :
-      left b s reader values limit list log .report .number ≡ 0 → passes (runRefusal b s reader values limit list) ≡ true
+      left b s reader values limit list log .result .number ≡ 0 → passes (runRefusal b s reader values limit list) ≡ true
   unfolding left
   left-passes =
       by-cases
-      (λ (l : Left). l .report .number ≡ 0 → passes (runRefusal b s reader values limit list) ≡ true)
+      (λ (l : Left). l .result .number ≡ 0 → passes (runRefusal b s reader values limit list) ≡ true)
       (passes (runRefusal b s reader values limit list))
       (λ t z. t)
       (λ f z. eq-eqb _ _ z)
 
   left-is :
-      left b s reader values limit list log .report .number ≡ 0 →
+      left b s reader values limit list log .result .number ≡ 0 →
       left b s reader values limit list log ≡ leftBy (runOf b s reader values limit list log) log
   unfolding left
   left-is z = let h = left-passes z in rw h

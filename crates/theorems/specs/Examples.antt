@@ -9,7 +9,7 @@ use Rattle.layout.specs.Entries.{session}
 use Rattle.layout.specs.Files.{name, part, all, file}
 use Rattle.language.specs.Kinds.{nil, assign, ifThenElse, while, sequence, emit, watching, when, parallel}
 use Rattle.results.specs.declared.Verdict.{Verdict}
-use Rattle.results.specs.declared.RunResult.{RunResult}
+use Rattle.results.specs.Results.{resultBy}
 use Rattle.engine.specs.Answers.{Left, verdict, left}
 
 -- 'Book 02 0003 0002 (hexadecimal): level 0 is L, 1 is H; the letter shows a name's level.'
@@ -77,15 +77,10 @@ refusedAt place s values =
     call s values 1000
     (record { number = 11; place = place; write = 0; test = 0 })
     (record {
-      report = record { number = 11; place = place; ending = 0; steps = 0; instants = 0; lines = 0 };
+      result = record { number = 11; place = place; ending = 0; steps = 0; instants = 0; lines = 0 };
       values = values;
       log = logWith [];
     })
-
--- a report by its ending, steps, instants and lines
-abbrev reported : ℕ → ℕ → ℕ → ℕ → RunResult
-reported ending steps instants lines =
-    record { number = 0; place = 0; ending = ending; steps = steps; instants = instants; lines = lines }
 
 abbrev finished : ℕ
 finished = 0
@@ -99,7 +94,7 @@ abbrev runs :
 runs s values limit write test ending steps instants lines after =
     call s values limit
     (record { number = 0; place = 0; write = write; test = test })
-    (record { report = reported ending steps instants (length lines); values = after; log = logWith lines })
+    (record { result = resultBy ending steps instants (length lines); values = after; log = logWith lines })
 
 -- x := e, for the register x at L and an operator of two constants: the value that x gets, and its word in the log
 abbrev assigns : ℕ → ℕ → List ℕ → ℤ → ℕ → Example

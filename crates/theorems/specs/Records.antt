@@ -11,7 +11,7 @@ linesIn zero log = []
 linesIn (suc n) log = take 4 log ∷ linesIn n (drop 4 log)
 
 abbrev pub recordOf : Left → List (List ℕ)
-recordOf l = linesIn (l .report .lines) (l .log)
+recordOf l = linesIn (l .result .lines) (l .log)
 
 -- a line's first word
 abbrev pub stamp : List ℕ → ℕ

@@ -56,7 +56,7 @@ pub record CheckAgrees (b s : List ℕ) : Type 0 where
 -- says; there is such a path, and no other.
 pub record RunAgrees (b s : List ℕ) (reader : ℕ) (values : List ℤ) (limit : ℕ) (list log : List ℕ) : Type 0 where
   pub is :
-      left b s reader values limit list log .report .number ≡ 0 →
+      left b s reader values limit list log .result .number ≡ 0 →
       left b s reader values limit list log ≡ leftBy (runOf b s reader values limit list log) log
   pub path :
       IsRun (namesOf s) (listed list) (readable (bookLattice b) (namesOf s) reader) limit (length log / 4)
@@ -80,7 +80,7 @@ RunsUnlisted b s reader values limit log =
 pub record RunReported (b s : List ℕ) (reader : ℕ) (values : List ℤ) (limit : ℕ) (list log : List ℕ) : Type 0 where
   pub begins : Begins (sessionEnvironment s) (starts (tree s) values) (begun (sessionEnvironment s) (starts (tree s) values))
   pub reported :
-      left b s reader values limit list log .report .number ≡ 0 → (C : Configuration ℕ) →
+      left b s reader values limit list log .result .number ≡ 0 → (C : Configuration ℕ) →
       Begins (sessionEnvironment s) (starts (tree s) values) C →
       Reported (namesOf s) (sessionEnvironment s) (listed list) (λ δ. bookLattice b .leq δ reader) limit
       (starts (tree s) values) C (runOf b s reader values limit list log)
@@ -113,8 +113,8 @@ pub record NothingShows (b s : List ℕ) (reader n m : ℕ) (one two : Left) : T
 abbrev pub DemandThree : Type 0
 DemandThree =
     (b s : List ℕ) (reader n m : ℕ) (values₁ values₂ : List ℤ) (list₁ list₂ log₁ log₂ : List ℕ) → n ≤ m →
-    length log₁ ≡ length log₂ → left b s reader values₁ n list₁ log₁ .report .number ≡ 0 →
-    left b s reader values₂ m list₂ log₂ .report .number ≡ 0 → StartEqual b s reader values₁ values₂ →
+    length log₁ ≡ length log₂ → left b s reader values₁ n list₁ log₁ .result .number ≡ 0 →
+    left b s reader values₂ m list₂ log₂ .result .number ≡ 0 → StartEqual b s reader values₁ values₂ →
     ListsAgree b s reader list₁ list₂ →
     NothingShows b s reader n m (left b s reader values₁ n list₁ log₁) (left b s reader values₂ m list₂ log₂)
 
@@ -122,6 +122,6 @@ DemandThree =
 abbrev pub DemandThreeUnlisted : Type 0
 DemandThreeUnlisted =
     (b s : List ℕ) (reader n m : ℕ) (values₁ values₂ : List ℤ) (log₁ log₂ : List ℕ) → n ≤ m →
-    length log₁ ≡ length log₂ → left b s reader values₁ n [] log₁ .report .number ≡ 0 →
-    left b s reader values₂ m [] log₂ .report .number ≡ 0 → StartEqual b s reader values₁ values₂ →
+    length log₁ ≡ length log₂ → left b s reader values₁ n [] log₁ .result .number ≡ 0 →
+    left b s reader values₂ m [] log₂ .result .number ≡ 0 → StartEqual b s reader values₁ values₂ →
     NothingShows b s reader n m (left b s reader values₁ n [] log₁) (left b s reader values₂ m [] log₂)

@@ -8,7 +8,7 @@ use crate::sources::{cited, read};
 const STARTS: [&str; 6] = [
     "engine/specs/Answers.antt",
     "engine/specs/Interface.antt",
-    "results/specs/Reports.antt",
+    "results/specs/Results.antt",
     "results/specs/Words.antt",
     "theorems/specs/Results.antt",
     "theorems/specs/Records.antt",

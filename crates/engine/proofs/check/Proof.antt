@@ -10,7 +10,7 @@ use Rattle.book.specs.Load.{bookOf}
 use Rattle.checker.specs.declared.Prepared.{Prepared}
 use Rattle.checker.specs.Refusals.{checkRefusal}
 use Rattle.checker.specs.Contracts.{Prepares}
-use Rattle.results.specs.Reports.{verdictBy}
+use Rattle.results.specs.Results.{verdictBy}
 use Rattle.engine.specs.Answers.{verdict}
 use borrow.Author.Needs.{fits-under}
 use Rattle.engine.proofs.check.Statement.{statement}

@@ -74,7 +74,7 @@ returns c =
     let e =
     refused-left b s (a .reader) (now (a .values)) (a .limit) (now (a .list)) (now (a .log))
     (by-check b s (a .reader) (now (a .values)) (a .limit) (now (a .list)) (found-refusal (c .before .before .before .prepare .ensures)) f) f in
-    (c .refused-result .ensures ∙ ap (λ (l : Left). l .report) e, (ap (λ (l : Left). l .values) e, ap (λ (l : Left). l .log) e))
+    (c .refused-result .ensures ∙ ap (λ (l : Left). l .result) e, (ap (λ (l : Left). l .values) e, ap (λ (l : Left). l .log) e))
 
 call-refusal-requires : tie.Need-call-refusal-requires
 call-refusal-requires c κs =
@@ -93,22 +93,22 @@ returns-2 c =
     let e =
     refused-left (now (a .book)) (now (a .script)) (a .reader) (now (a .values)) (a .limit) (now (a .list)) (now (a .log)) (call-is (c .before .before .before))
     (ne-eqb _ 0 (c .before .if2 .taken)) in
-    (c .refused-result2 .ensures ∙ ap (λ (l : Left). l .report) e, (ap (λ (l : Left). l .values) e, ap (λ (l : Left). l .log) e))
+    (c .refused-result2 .ensures ∙ ap (λ (l : Left). l .result) e, (ap (λ (l : Left). l .values) e, ap (λ (l : Left). l .log) e))
 
 run-checked-requires : tie.Need-run-checked-requires
 run-checked-requires c κs =
     let d = c .before .before .before .before .before .before in
     can-start _ _ _ _ _ _ (passed (c .before .before)) (book-is d) (laid d)
 
-cast-report-of : tie.Need-cast-report-of
-cast-report-of c = fits-under _ _ 4000000 (omega (arith, left-so (c .before .before .before .before .before) .steps)) tt
+cast-result-of : tie.Need-cast-result-of
+cast-result-of c = fits-under _ _ 4000000 (omega (arith, left-so (c .before .before .before .before .before) .steps)) tt
 
-cast-report-of-2 : tie.Need-cast-report-of-2
-cast-report-of-2 c =
+cast-result-of-2 : tie.Need-cast-result-of-2
+cast-result-of-2 c =
     fits-under _ _ 4000000 (omega (arith, left-so (c .before .before .before .before .before .before) .instants)) tt
 
-report-of-requires : tie.Need-report-of-requires
-report-of-requires c κs = omega (arith, left-so (c .before .before .before .before .before .before) .lines)
+result-of-requires : tie.Need-result-of-requires
+result-of-requires c κs = omega (arith, left-so (c .before .before .before .before .before .before) .lines)
 
 same-length-2 : tie.Need-same-length-2
 same-length-2 c = search needs
@@ -119,7 +119,7 @@ same-length-3 c = search needs
 returns-3 : tie.Need-returns-3
 returns-3 c =
     let l = left-so (c .before .before .before .before .before .before .before) in
-    (c .report-of .ensures ∙ l .report, (l .final, l .logged))
+    (c .result-of .ensures ∙ l .result, (l .final, l .logged))
 
 pub run-spec : {M : Type 1} → statement M
 run-spec =
@@ -133,9 +133,9 @@ run-spec =
     same-length
     returns-2
     run-checked-requires
-    cast-report-of
-    cast-report-of-2
-    report-of-requires
+    cast-result-of
+    cast-result-of-2
+    result-of-requires
     same-length-2
     same-length-3
     returns-3)

@@ -12,7 +12,7 @@ use lib.Seq.{sets, set-out, drop-cons}
 use borrow.Author.Tests.{eq-eqb, ne-eqb, le-leb, lt-leb, leb-true}
 use Rattle.prelude.specs.Search.{lesser}
 use Rattle.prelude.proofs.Bools.{and-intro, and-right, by-cases}
-use Rattle.display.specs.Hex.{isFrom, digit, digits, bytesOf, NextDigit, BytesRead}
+use Rattle.text.specs.Hex.{isFrom, digit, digits, bytesOf, NextDigit, BytesRead}
 
 module _ (a b c : ℕ) where
   inside : a ≤ c → c ≤ b → isFrom a b c ≡ true

@@ -1,10 +1,10 @@
--- `put_report`: the words are stored one after the other.
+-- `put_result`: the words are stored one after the other.
 use native.Mathlib.Omega.{arith}
 use denote.Ref.{now}
 use lib.ListN.{length-set}
 use Rattle.results.proofs.Outs.{six-stored}
-use Rattle.results.proofs.words.put_report.Statement.{statement}
-use Rattle.results.proofs.words.put_report.Tie as tie
+use Rattle.results.proofs.words.put_result.Statement.{statement}
+use Rattle.results.proofs.words.put_result.Tie as tie
 
 slice-write-out : tie.Need-slice-write-out
 slice-write-out c = omega (arith, c .pre)
@@ -30,8 +30,8 @@ same-length c = simp length-set
 returns : tie.Need-returns
 returns c = six-stored (now (c .args .out)) (c .pre) _ _ _ _ _ _
 
-pub put-report-spec : {M : Type 1} → statement M
-put-report-spec =
+pub put-result-spec : {M : Type 1} → statement M
+put-result-spec =
     tie.close
     (tie.spec
     slice-write-out

@@ -7,9 +7,9 @@ use native.Mathlib.Numerals.{add-one}
 use lib.ListN.{length}
 use borrow.Author.Needs.{needs}
 use borrow.Author.Tests.{not-true, not-false}
-use Rattle.display.proofs.Lines.{breakFrom, break-later, break-here, break-last}
-use Rattle.display.proofs.hex.line_end.Statement.{statement}
-use Rattle.display.proofs.hex.line_end.Tie as tie
+use Rattle.text.proofs.Lines.{breakFrom, break-later, break-here, break-last}
+use Rattle.text.proofs.hex.line_end.Statement.{statement}
+use Rattle.text.proofs.hex.line_end.Tie as tie
 
 abbrev Inv-loop : tie.InvT-loop
 Inv-loop text at last i₀ i =

@@ -1,8 +1,8 @@
 -- `is_writer`: by the kind.
 use mathlib.Core.Path.{sym}
 use borrow.Author.Tests.{eq-eqb, ne-eqb}
-use Rattle.moves.proofs.is_writer.Statement.{statement}
-use Rattle.moves.proofs.is_writer.Tie as tie
+use Rattle.language.proofs.process_kinds.is_writer.Statement.{statement}
+use Rattle.language.proofs.process_kinds.is_writer.Tie as tie
 
 returns : tie.Need-returns
 returns c = sym (rw (eq-eqb _ 1 (c .if1 .taken)))

@@ -3,7 +3,7 @@
 ghost use mathlib.Core.Path.{_≡_};
 ghost use Prim.Native.Nat.{_≤_, _<_};
 ghost use lib.ListN.{length};
-ghost use Rattle.display.specs.Hex.{digit, LineEnds, NextDigit, BytesRead};
+ghost use Rattle.text.specs.Hex.{digit, LineEnds, NextDigit, BytesRead};
 
 // The index behind the line that begins at `at`, with its line break.
 pub fn line_end(text: &[u8], at: usize) -> usize

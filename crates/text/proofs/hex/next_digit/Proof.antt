@@ -6,10 +6,10 @@ use native.Mathlib.Omega.{arith}
 use lib.ListN.{drop, length}
 use borrow.Author.Needs.{needs}
 use borrow.Author.Tests.{eqb-true, eqb-false}
-use Rattle.display.specs.Hex.{digits, NextDigit}
-use Rattle.display.proofs.Digits.{digits-none, digits-remark, digits-other, none-found, found}
-use Rattle.display.proofs.hex.next_digit.Statement.{statement}
-use Rattle.display.proofs.hex.next_digit.Tie as tie
+use Rattle.text.specs.Hex.{digits, NextDigit}
+use Rattle.text.proofs.Digits.{digits-none, digits-remark, digits-other, none-found, found}
+use Rattle.text.proofs.hex.next_digit.Statement.{statement}
+use Rattle.text.proofs.hex.next_digit.Tie as tie
 
 abbrev Inv-loop : tie.InvT-loop
 Inv-loop line from i₀ i = ((from ≤ i) × (i ≤ length line)) × (digits (drop from line) ≡ digits (drop i line))

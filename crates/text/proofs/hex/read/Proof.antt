@@ -3,9 +3,9 @@ use Prim.Native.Nat.{_-_}
 use native.Mathlib.Omega.{arith}
 use lib.ListN.{length, length-set}
 use borrow.Author.Needs.{needs}
-use Rattle.display.proofs.Digits.{below-16, Reading, nothing-read, full, no-digit, one-digit, one-more}
-use Rattle.display.proofs.hex.read.Statement.{statement}
-use Rattle.display.proofs.hex.read.Tie as tie
+use Rattle.text.proofs.Digits.{below-16, Reading, nothing-read, full, no-digit, one-digit, one-more}
+use Rattle.text.proofs.hex.read.Statement.{statement}
+use Rattle.text.proofs.hex.read.Tie as tie
 
 abbrev Inv-loop : tie.InvT-loop
 Inv-loop line out₀ at end₀ i₀ out end i = Reading line out₀ at out end i

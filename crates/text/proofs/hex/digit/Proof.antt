@@ -1,9 +1,9 @@
 -- `digit`: a return for each range of characters.
 use native.Mathlib.Omega.{arith}
 use borrow.Author.Needs.{needs}
-use Rattle.display.proofs.Digits.{digit-figure, digit-letter, digit-before, digit-between, digit-behind}
-use Rattle.display.proofs.hex.digit.Statement.{statement}
-use Rattle.display.proofs.hex.digit.Tie as tie
+use Rattle.text.proofs.Digits.{digit-figure, digit-letter, digit-before, digit-between, digit-behind}
+use Rattle.text.proofs.hex.digit.Statement.{statement}
+use Rattle.text.proofs.hex.digit.Tie as tie
 
 sub-result : tie.Need-sub-result
 sub-result c = search needs

@@ -8,10 +8,10 @@ use Rattle.results.specs.declared.RunResult.{RunResult}
 abbrev pub verdictBy : Refusal → ℕ → ℕ → Verdict
 verdictBy r w t = record { number = r .number; place = r .place; write = w; test = t }
 
-abbrev pub refusedReport : Refusal → RunResult
-refusedReport r =
+abbrev pub refusedResult : Refusal → RunResult
+refusedResult r =
     record { number = r .number; place = r .place; ending = 0; steps = 0; instants = 0; lines = 0 }
 
-abbrev pub reportBy : ℕ → ℕ → ℕ → ℕ → RunResult
-reportBy ending steps instants lines =
+abbrev pub resultBy : ℕ → ℕ → ℕ → ℕ → RunResult
+resultBy ending steps instants lines =
     record { number = 0; place = 0; ending = ending; steps = steps; instants = instants; lines = lines }

@@ -6,7 +6,7 @@ use Prim.Native.Nat.{ℕ, suc, _+_, _-_, _≤_, _<_}
 use native.Mathlib.Numerals.{add-one}
 use native.Mathlib.Omega.{arith}
 use Rattle.prelude.specs.Search.{firstFrom}
-use Rattle.display.specs.Hex.{isBreak}
+use Rattle.text.specs.Hex.{isBreak}
 
 module _ (text : List ℕ) (last : ℕ) where
   -- the first line break from index i on, or the last index
