@@ -3,8 +3,8 @@
 # 'N passed, M failed'.
 set -u
 cd "$(dirname "$0")/.."
-# Twice as many checks at a time as there are cores: they are started in batches, and a batch waits for its slowest.
-export RT_JOBS="${RT_JOBS:-$((2 * $(nproc)))}"
+# Three times as many checks at a time as there are cores: they are started in batches, and a batch waits for its slowest.
+export RT_JOBS="${RT_JOBS:-$((3 * $(nproc)))}"
 passed=0
 failed=0
 
