@@ -82,7 +82,7 @@ static void put_refusal(struct buffers *b, uint32_t number, uint32_t place) {
     memcpy(b->out + AT, words, sizeof words);
 }
 
-static void put_report(struct buffers *b, uint32_t ending, uint32_t steps, uint32_t instants, uint32_t lines) {
+static void put_result(struct buffers *b, uint32_t ending, uint32_t steps, uint32_t instants, uint32_t lines) {
     const uint32_t words[STATION_RUN_WORDS] = {0, 0, ending, steps, instants, lines};
     memcpy(b->out + AT, words, sizeof words);
 }
@@ -143,12 +143,12 @@ static void log_lengths(void) {
     for (size_t n = 0; n <= 2 * STATION_LINE_WORDS; n++) {
         struct buffers b = fresh(0), expected = b;
         if (n < STATION_LINE_WORDS) {
-            put_report(&expected, STATION_LOG_FULL, 0, 0, 0);
+            put_result(&expected, STATION_LOG_FULL, 0, 0, 0);
         } else {
             const uint32_t line[STATION_LINE_WORDS] = {1, 0, 0, 7};
             memcpy(expected.log + AT, line, sizeof line);
             expected.values[AT] = 7;
-            put_report(&expected, STATION_FINISHED, 1, 0, 1);
+            put_result(&expected, STATION_FINISHED, 1, 0, 1);
         }
         run(&b, 0, 1000, n, STATION_RUN_WORDS);
         holds = holds && same(&b, &expected);
@@ -158,7 +158,7 @@ static void log_lengths(void) {
 
 static void log_null(void) {
     struct buffers b = fresh(3), expected = b;
-    put_report(&expected, STATION_LOG_FULL, 0, 0, 0);
+    put_result(&expected, STATION_LOG_FULL, 0, 0, 0);
     station_run(book, sizeof book, script, sizeof script, 0, b.values + AT, 1, 1000, NULL, 0, NULL, 0, b.out + AT,
                 STATION_RUN_WORDS);
     report("run of x := 7: log NULL is full before the first step", same(&b, &expected));
@@ -175,10 +175,10 @@ static void list_lengths(void) {
         if (n % STATION_PAIR_WORDS != 0) {
             put_refusal(&expected, STATION_REFUSED_LIST, (uint32_t)(n / STATION_PAIR_WORDS));
         } else if (n == 0) {
-            put_report(&expected, STATION_SPENT, 1000, 1000, 0);
+            put_result(&expected, STATION_SPENT, 1000, 1000, 0);
         } else {
             expected.values[AT] = 1;
-            put_report(&expected, STATION_FINISHED, 3, 2, 0);
+            put_result(&expected, STATION_FINISHED, 3, 2, 0);
         }
         run_wait(&b, 1000, n);
         holds = holds && same(&b, &expected);
@@ -188,7 +188,7 @@ static void list_lengths(void) {
 
 static void list_null(void) {
     struct buffers b = fresh(0), expected = b;
-    put_report(&expected, STATION_SPENT, 1000, 1000, 0);
+    put_result(&expected, STATION_SPENT, 1000, 1000, 0);
     station_run(book, sizeof book, wait_script, sizeof wait_script, 0, b.values + AT, 1, 1000, NULL, 0, b.log + AT,
                 STATION_LINE_WORDS, b.out + AT, STATION_RUN_WORDS);
     report("run of when a do nil: with list NULL no signal arrives", same(&b, &expected));

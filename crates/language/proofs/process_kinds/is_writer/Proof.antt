@@ -1,11 +1,11 @@
 -- `is_writer`: by the kind.
 use mathlib.Core.Path.{sym}
-use borrow.Author.Tests.{eq-eqb, ne-eqb}
+use borrow.Author.Tests.{ne-eqb}
 use Rattle.language.proofs.process_kinds.is_writer.Statement.{statement}
 use Rattle.language.proofs.process_kinds.is_writer.Tie as tie
 
 returns : tie.Need-returns
-returns c = sym (rw (eq-eqb _ 1 (c .if1 .taken)))
+returns c = rw (c .if1 .taken)
 
 returns-2 : tie.Need-returns-2
 returns-2 c = sym (rw (ne-eqb _ 1 (c .if1 .left)))
