@@ -7,7 +7,7 @@ use Rattle.order.specs.Order.{leastUpper, top}
 use Rattle.order.specs.Refusals as orders
 use Rattle.pairs.specs.Refusals as pairs
 use Rattle.lattice.specs.Refusals as books
-use Rattle.values.specs.Values.{clamped, quotient}
+use Rattle.values.specs.Values.{clamped, rounded, quotient}
 use Rattle.language.specs.Syntax.{isNil}
 use Rattle.language.specs.Levels.{expLevel, writeLevel, testLevel, need}
 use Rattle.language.specs.Steps.{evaluate, value, suspended, move, change, instantStart, step}
@@ -24,5 +24,5 @@ use Rattle.engine.specs.Answers.{verdict, left}
 use Rattle.theorems.specs.Examples.{ExamplesHold}
 
 pub examples-hold : ExamplesHold
-unfolding firstFrom first any all count total course entry table leastUpper top orders.isFaulty orders.firstFaulty orders.refusal pairs.firstLacking books.refusal clamped quotient isNil expLevel writeLevel testLevel need evaluate value suspended move change instantStart step calledFor givenBack noted reach used timesUsed isOutOfReach fieldIsRight faultRefusal useRefusal reachRefusal scripts.entryRefusal scripts.refusal expressionOf processOf words checkRefusal listed valuesRefusal listRefusal callRefusal runRefusal verdict left
+unfolding firstFrom first any all count total course entry table leastUpper top orders.isFaulty orders.firstFaulty orders.refusal pairs.firstLacking books.refusal clamped rounded quotient isNil expLevel writeLevel testLevel need evaluate value suspended move change instantStart step calledFor givenBack noted reach used timesUsed isOutOfReach fieldIsRight faultRefusal useRefusal reachRefusal scripts.entryRefusal scripts.refusal expressionOf processOf words checkRefusal listed valuesRefusal listRefusal callRefusal runRefusal verdict left
 examples-hold = refl

@@ -1,5 +1,5 @@
--- 01, 'Peg list': the starred examples and the program's own, in one table: the bytes and numbers of a call, what check
--- answers, and what run leaves.
+-- 01, 'Peg list': the starred examples and the program's own, and quotients by 02 (b), in one table: the bytes and numbers
+-- of a call, what check answers, and what run leaves.
 use mathlib.Core.Path.{_≡_}
 use mathlib.Core.List.{List, [], _∷_, _++_, map}
 use Prim.Native.Nat.{ℕ, _-_, _/_, _%_}
@@ -170,11 +170,19 @@ examples =
     (part assign 0 0 0 ∷ part when 1 0 0 ∷ part emit 1 0 0 ∷ part parallel 1 2 0 ∷ []))
     (pos 0 ∷ pos 0 ∷ []) 1000 L L
     finished 5 0 ((2 ∷ 0 ∷ 1 ∷ 1 ∷ []) ∷ (4 ∷ 0 ∷ 0 ∷ 1 ∷ []) ∷ []) (pos 1 ∷ pos 1 ∷ [])
-    -- 2147483647 + 1 is 2147483647; −2147483648 / −1 is 2147483647; −7 / 2 is −3; 5 / 0 is 0
+    -- 2147483647 + 1 is 2147483647; −2147483648 / −1 is 2147483647; −7 / 2 is −4; 5 / 0 is 0
     ∷ assigns 2147483647 1 (add 0 1) (pos 2147483647) 2147483647
     ∷ assigns 2147483648 4294967295 (divide 0 1) (pos 2147483647) 2147483647
-    ∷ assigns 4294967289 2 (divide 0 1) (negsuc 2) 4294967293
+    ∷ assigns 4294967289 2 (divide 0 1) (negsuc 3) 4294967292
     ∷ assigns 5 0 (divide 0 1) (pos 0) 0
+    -- 5 / 2 is 2; 7 / 2 is 4; −5 / 2 is −2; 1 / 2 is 0; −1 / 2 is 0; 3 / 2 is 2; −2147483648 / 2147483647 is −1
+    ∷ assigns 5 2 (divide 0 1) (pos 2) 2
+    ∷ assigns 7 2 (divide 0 1) (pos 4) 4
+    ∷ assigns 4294967291 2 (divide 0 1) (negsuc 1) 4294967294
+    ∷ assigns 1 2 (divide 0 1) (pos 0) 0
+    ∷ assigns 4294967295 2 (divide 0 1) (pos 0) 0
+    ∷ assigns 3 2 (divide 0 1) (pos 2) 2
+    ∷ assigns 2147483648 2147483647 (divide 0 1) (negsuc 0) 4294967295
     -- values 00000000 and script 0000FFFF 0000000000000007 0100000000000000 0004000C00145354: 'accepted 0 0', '1 0 0 7',
     -- 'finished 1 0'
     ∷ runs

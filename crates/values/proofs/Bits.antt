@@ -5,18 +5,36 @@ use Prim.Native.Nat.{ℕ, suc, _^_, _≤_, _<_}
 use native.Mathlib.Decide.{ℕ-discrete}
 use native.Mathlib.Omega.{arith}
 use lib.Dec.{T, eqb}
-use lib.IntN.{ℤ, pos, negsuc, natAbs, _+ℤ_, _-ℤ_}
+use lib.IntN.{ℤ, pos, negsuc, natAbs, +ℤ-idl, _+ℤ_, _-ℤ_}
 use lib.Signed.{mag, ltZ, nonNeg}
 use mir.Syntax.{w32, w64}
 use mir.Val.{Fits, SFits, hbits, toZ, ofZ}
 use mir.Facts.{sfits-toZ, sfits-widen, fits-ofZ, toZ-ofZ, toZ-pos}
 use borrow.Author.Tests.{ltb-true, lt-ltb, le-ltb, eq-eqb, ne-eqb}
 use Rattle.values.specs.Values.{isZero, holds}
-use Rattle.values.proofs.Signed.{readBack, widened, widens, zero-by-bits, nonzero-by-bits}
+use Rattle.values.proofs.Signed.{readBack, widened, widened-is, value-size, zero-by-bits, nonzero-by-bits}
 
 -- what a cast to an unsigned word asks
 abbrev IsWord : ℤ → Type 0
 IsWord z = T (nonNeg z) × Fits w32 (natAbs z)
+
+-- a result in 64 bits that is a word
+module _ {z : ℤ} {w : ℕ} (is : z ≡ pos w) (f : Fits w32 w) where
+  pub word-fits : SFits w64 z
+  word-fits = subst (SFits w64) (sym is) (record { sfits = omega (arith, f .fits) })
+
+  word-back : readBack w64 z ≡ pos w
+  word-back = toZ-ofZ word-fits ∙ is
+
+  pub word-casts : IsWord (readBack w64 z)
+  word-casts = subst IsWord (sym word-back) (tt, f)
+
+  pub word-given : natAbs (readBack w64 z) ≡ w
+  word-given = ap natAbs word-back
+
+negated : (v : ℤ) → ltZ v (pos 0) ≡ true → pos 0 -ℤ v ≡ pos (natAbs v)
+negated (pos n) t = absurd (omega (arith, ltb-true n 0 t))
+negated (negsuc n) t = +ℤ-idl (pos (suc n))
 
 -- a negative value, raised, is its word; any other is its own
 raised : (v : ℤ) → SFits w32 v → ltZ v (pos 0) ≡ true → v +ℤ pos (2 ^ 32) ≡ pos (ofZ w32 v)
@@ -31,33 +49,27 @@ module _ {v : ℤ} (f : SFits w32 v) where
   sign : {t : Bool} → ltZ (readBack w32 v) (pos 0) ≡ t → ltZ v (pos 0) ≡ t
   sign t = ap (λ (z : ℤ). ltZ z (pos 0)) (sym (toZ-ofZ f)) ∙ t
 
-  -- as the machine raises it
-  abbrev high : ℤ
-  high = widened v +ℤ pos (2 ^ 32)
-
   module _ (t : ltZ (readBack w32 v) (pos 0) ≡ true) where
-    raised-is : high ≡ pos (ofZ w32 v)
-    raised-is =
-        ap (λ (z : ℤ). z +ℤ pos (2 ^ 32)) (toZ-ofZ (widens f) ∙ toZ-ofZ f) ∙ raised v f (sign t)
+    -- as the machine raises it
+    pub raised-is : widened v +ℤ pos (2 ^ 32) ≡ pos (ofZ w32 v)
+    raised-is = ap (λ (z : ℤ). z +ℤ pos (2 ^ 32)) (widened-is f) ∙ raised v f (sign t)
 
-    pub raised-fits : SFits w64 high
-    raised-fits = subst (SFits w64) (sym raised-is) (record { sfits = omega (arith, fits-ofZ f .fits) })
+    -- as the machine takes it from 0
+    pub negated-is : pos 0 -ℤ widened v ≡ pos (natAbs v)
+    negated-is = ap (λ (z : ℤ). pos 0 -ℤ z) (widened-is f) ∙ negated v (sign t)
 
-    raised-back : readBack w64 high ≡ pos (ofZ w32 v)
-    raised-back = toZ-ofZ raised-fits ∙ raised-is
+  pub plain-size : natAbs (readBack w32 v) ≡ natAbs v
+  plain-size = ap natAbs (toZ-ofZ f)
 
-    pub raised-casts : IsWord (readBack w64 high)
-    raised-casts = subst IsWord (sym raised-back) (tt, fits-ofZ f)
-
-    pub raised-word : natAbs (readBack w64 high) ≡ ofZ w32 v
-    raised-word = ap natAbs raised-back
+  pub size-fits : Fits w32 (natAbs v)
+  size-fits = record { fits = omega (arith, value-size f) }
 
   module _ (t : ltZ (readBack w32 v) (pos 0) ≡ false) where
     pub plain-casts : IsWord (readBack w32 v)
     plain-casts = subst IsWord (sym (toZ-ofZ f)) (same-word v f (sign t) .0)
 
     pub plain-word : natAbs (readBack w32 v) ≡ ofZ w32 v
-    plain-word = ap natAbs (toZ-ofZ f) ∙ same-word v f (sign t) .1
+    plain-word = plain-size ∙ same-word v f (sign t) .1
 
 -- a word that stands for a negative value
 module _ {x : ℕ} (h : 2 ^ 31 ≤ x) (f : Fits w32 x) where

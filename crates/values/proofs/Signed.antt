@@ -1,18 +1,18 @@
 -- Values of 32 bits, worked in 64: every exact result fits 64 bits, and what the machine reads back is the number.
 use mathlib.Core.Path.{_≡_, refl, sym, ap, _∙_, subst}
 use mathlib.Core.Bool.{Bool, true, false, false≢true}
-use Prim.Native.Nat.{ℕ, zero, suc, _+_, _*_, _/_, _^_, _≤_, _<_}
-use native.Mathlib.Nat.{le-refl, le-suc, le-trans, lt-of-le-of-lt, mul-le-mul, div-le-self}
+use Prim.Native.Nat.{ℕ, zero, suc, _+_, _*_, _^_, _≤_, _<_}
+use native.Mathlib.Nat.{le-refl, le-suc, le-trans, lt-of-le-of-lt, mul-le-mul}
 use native.Mathlib.Omega.{arith}
 use lib.Dec.{T, ltb, lit<}
 use lib.IntN.{ℤ, pos, negsuc, negℤ, natAbs, subℕ, _+ℤ_, _-ℤ_, _*ℤ_}
-use lib.Signed.{mag, ltZ, quotZ, natAbs-le}
+use lib.Signed.{mag, ltZ, natAbs-le}
 use mir.Syntax.{Width, w32, w64}
 use mir.Val.{SFits, hbits, toZ, ofZ}
 use mir.Facts.{sfits-lit, sfits-widen, toZ-ofZ}
 use borrow.Author.Tests.{ltb-true, ltb-false, eqb-true, eq-eqb}
 use Rattle.prelude.proofs.Bools.{fails, by-cases}
-use Rattle.values.specs.Values.{leastValue, greatestValue, clamped, isZero, quotient, sameValue}
+use Rattle.values.specs.Values.{leastValue, greatestValue, clamped, isZero, sameValue}
 
 -- a signed local holds bits: what is read back from them
 abbrev pub readBack : Width → ℤ → ℤ
@@ -26,7 +26,7 @@ module _ {z : ℤ} (f : SFits w32 z) where
   pub widens : SFits w64 (readBack w32 z)
   widens = subst (SFits w64) (sym (toZ-ofZ f)) (sfits-widen tt f)
 
-  widened-is : widened z ≡ z
+  pub widened-is : widened z ≡ z
   widened-is = toZ-ofZ widens ∙ toZ-ofZ f
 
   pub widened-fits : SFits w32 (widened z)
@@ -43,7 +43,7 @@ sum-size (pos a) (negsuc b) h i = natural-difference-size a (suc b) (omega arith
 sum-size (negsuc a) (pos b) h i = natural-difference-size b (suc a) (omega arith) (omega arith)
 sum-size (negsuc a) (negsuc b) h i = omega arith
 
-negated-size : (b : ℤ) {k : ℕ} → natAbs b ≤ k → natAbs (negℤ b) ≤ k
+pub negated-size : (b : ℤ) {k : ℕ} → natAbs b ≤ k → natAbs (negℤ b) ≤ k
 negated-size (pos zero) h = h
 negated-size (pos (suc n)) h = h
 negated-size (negsuc n) h = h
@@ -54,20 +54,14 @@ product-size (pos a) (negsuc b) h i = negated-size (pos (a * suc b)) (mul-le-mul
 product-size (negsuc a) (pos b) h i = negated-size (pos (suc a * b)) (mul-le-mul h i)
 product-size (negsuc a) (negsuc b) h i = mul-le-mul h i
 
-quotient-size : (a b : ℤ) {k : ℕ} → natAbs a ≤ k → natAbs (quotZ a b) ≤ k
-quotient-size (pos a) (pos b) h = le-trans (div-le-self a b) h
-quotient-size (pos a) (negsuc b) h = negated-size (pos (a / suc b)) (le-trans (div-le-self a (suc b)) h)
-quotient-size (negsuc a) (pos b) h = negated-size (pos (suc a / b)) (le-trans (div-le-self (suc a) b) h)
-quotient-size (negsuc a) (negsuc b) h = le-trans (div-le-self (suc a) (suc b)) h
-
 mag-size : (z : ℤ) → mag z ≤ natAbs z
 mag-size (pos n) = le-refl n
 mag-size (negsuc n) = le-suc n
 
-fits-64 : {z : ℤ} {k : ℕ} → natAbs z ≤ k → T (ltb k (2 ^ hbits w64)) → SFits w64 z
+pub fits-64 : {z : ℤ} {k : ℕ} → natAbs z ≤ k → T (ltb k (2 ^ hbits w64)) → SFits w64 z
 fits-64 {z} h t = record { sfits = lt-of-le-of-lt (le-trans (mag-size z) h) (lit< t) }
 
-value-size : {z : ℤ} → SFits w32 z → natAbs z ≤ 2 ^ hbits w32
+pub value-size : {z : ℤ} → SFits w32 z → natAbs z ≤ 2 ^ hbits w32
 value-size {z} f = natAbs-le z (f .sfits)
 
 module _ (a b : ℤ) (fa : SFits w32 a) (fb : SFits w32 b) where
@@ -79,9 +73,6 @@ module _ (a b : ℤ) (fa : SFits w32 a) (fb : SFits w32 b) where
 
   pub product-fits : SFits w64 (a *ℤ b)
   product-fits = fits-64 (product-size a b (value-size fa) (value-size fb)) tt
-
-  pub quotient-fits : SFits w64 (quotZ a b)
-  quotient-fits = fits-64 (quotient-size a b (value-size fa)) tt
 
 -- `clamp`, called with an operation's result on two widened values, gives the clamped result on the values
 module _ (op : ℤ → ℤ → ℤ) (exact : (a b : ℤ) → SFits w32 a → SFits w32 b → SFits w64 (op a b)) where
@@ -154,20 +145,3 @@ pub nonzero-by-bits : (a : ℤ) → (ofZ w32 a ≡ 0 → ⊥) → isZero a ≡ f
 nonzero-by-bits (pos zero) h = absurd (h refl)
 nonzero-by-bits (pos (suc n)) h = refl
 nonzero-by-bits (negsuc n) h = refl
-
--- what division asks of a widened divisor
-bits-above : (b : ℤ) → SFits w32 b → (ofZ w32 b ≡ 0 → ⊥) → 0 < ofZ w64 b
-bits-above (pos zero) f h = absurd (h refl)
-bits-above (pos (suc n)) f h = omega arith
-bits-above (negsuc n) f h = omega (arith, f .sfits)
-
-pub divisor-above : {b : ℤ} → SFits w32 b → (ofZ w32 b ≡ 0 → ⊥) → 0 < ofZ w64 (readBack w32 b)
-divisor-above {b} f h = subst (λ (z : ℤ). 0 < ofZ w64 z) (sym (toZ-ofZ f)) (bits-above b f h)
-
-pub quotient-by-zero : (a : ℤ) {b : ℤ} → SFits w32 b → ofZ w32 b ≡ 0 → pos 0 ≡ quotient a b
-unfolding quotient
-quotient-by-zero a f e = rw (zero-by-bits f e)
-
-pub quotient-clamped : (a b : ℤ) → (ofZ w32 b ≡ 0 → ⊥) → clamped (quotZ a b) ≡ quotient a b
-unfolding quotient
-quotient-clamped a b h = rw (nonzero-by-bits b h)

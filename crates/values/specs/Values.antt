@@ -1,9 +1,10 @@
 -- 01, 'Script file', last paragraph: values, and the results of operators.
+use mathlib.Core.Path.{_≡_}
 use mathlib.Core.Bool.{Bool, true, false, cond, not}
-use Prim.Native.Nat.{zero, suc}
-use lib.Dec.{eqb}
-use lib.IntN.{ℤ, pos, negsuc, _+ℤ_, _-ℤ_, _*ℤ_}
-use lib.Signed.{ltZ, quotZ}
+use Prim.Native.Nat.{ℕ, zero, suc, _*_, _/_, _%_, _≤_}
+use lib.Dec.{eqb, ltb}
+use lib.IntN.{ℤ, pos, negsuc, negℤ, natAbs, _+ℤ_, _-ℤ_, _*ℤ_}
+use lib.Signed.{ltZ}
 
 -- 'Values are signed, 32 bits': −2147483648 and 2147483647
 abbrev pub leastValue : ℤ
@@ -30,9 +31,37 @@ isZero (pos zero) = true
 isZero (pos (suc n)) = false
 isZero (negsuc n) = false
 
--- 'Division goes toward zero; by zero it gives 0'
+-- 02 (b), 'the nearest whole number, a tie to the even one': q is off by at most half of b, and even where it is off by half
+-- of b
+pub record IsNearest (a b q : ℤ) : Type 0 where
+  pub near : 2 * natAbs (a -ℤ q *ℤ b) ≤ natAbs b
+  pub even : 2 * natAbs (a -ℤ q *ℤ b) ≡ natAbs b → natAbs q % 2 ≡ 0
+
+-- Of natural numbers it is m / n, cut, or one more: the nearer of the two, and in a tie the even one.
+unfoldable pub rounded : ℕ → ℕ → ℕ
+rounded m n =
+    cond (ltb (2 * (m % n)) n) (m / n)
+    (cond (ltb n (2 * (m % n))) (suc (m / n))
+    (cond (eqb (m / n % 2) 0) (m / n) (suc (m / n))))
+
+-- a natural number with the sign of a / b
+abbrev pub signed : ℤ → ℤ → ℕ → ℤ
+signed (pos m) (pos n) k = pos k
+signed (pos m) (negsuc n) k = negℤ (pos k)
+signed (negsuc m) (pos n) k = negℤ (pos k)
+signed (negsuc m) (negsuc n) k = pos k
+
+abbrev pub nearest : ℤ → ℤ → ℤ
+nearest a b = signed a b (rounded (natAbs a) (natAbs b))
+
+-- If b is not 0, there is one number that is nearest, and it is this one.
+pub record OneIsNearest (a b : ℤ) : Type 0 where
+  pub is : IsNearest a b (nearest a b)
+  pub only : (q : ℤ) → IsNearest a b q → q ≡ nearest a b
+
+-- '5 / 0 remains 0, and clamping comes after'
 unfoldable pub quotient : ℤ → ℤ → ℤ
-quotient a b = cond (isZero b) (pos 0) (clamped (quotZ a b))
+quotient a b = cond (isZero b) (pos 0) (clamped (nearest a b))
 
 -- 'A test holds if nonzero'
 abbrev pub holds : ℤ → Bool

@@ -1,6 +1,8 @@
 // Operators on signed 32-bit values: worked in 64 bits, where every result is exact, then clamped.
 ghost use mathlib.Core.Path.{_≡_};
-ghost use Rattle.values.specs.Values.{clamped, sum, difference, product, quotient};
+ghost use mathlib.Core.Bool.{false};
+ghost use lib.IntN.{natAbs};
+ghost use Rattle.values.specs.Values.{clamped, sum, difference, product, isZero, rounded, quotient};
 
 fn clamp(x: i64) -> i32
     ensures { λ r. ⌜ r ≡ clamped x ⌝ }
@@ -32,12 +34,48 @@ pub fn multiply(a: i32, b: i32) -> i32
     clamp((a as i64) * (b as i64))
 }
 
-// The one place that knows how a quotient is rounded, and what division by zero gives.
+// How far a value is from 0.
+fn magnitude(x: i32) -> u32
+    ensures { λ r. ⌜ r ≡ natAbs x ⌝ }
+{
+    if x < 0 {
+        return (0 - (x as i64)) as u32;
+    }
+    x as u32
+}
+
+// How far a / b is from 0, to the nearest whole number, a tie to the even one: the one place that knows how a quotient is
+// rounded.
+fn round(a: i32, b: i32) -> u64
+    requires { ⌜ isZero b ≡ false ⌝ }
+    ensures { λ r. ⌜ r ≡ rounded (natAbs a) (natAbs b) ⌝ }
+{
+    let m = magnitude(a);
+    let n = magnitude(b);
+    let cut = (m / n) as u64;
+    let twice = 2 * ((m % n) as u64);
+    if twice < (n as u64) {
+        return cut;
+    }
+    if (n as u64) < twice {
+        return cut + 1;
+    }
+    if cut % 2 == 0 {
+        return cut;
+    }
+    cut + 1
+}
+
+// Division by zero gives 0.
 pub fn divide(a: i32, b: i32) -> i32
     ensures { λ r. ⌜ r ≡ quotient a b ⌝ }
 {
     if b == 0 {
         return 0;
     }
-    clamp((a as i64) / (b as i64))
+    let size = round(a, b) as i64;
+    if (a < 0) == (b < 0) {
+        return clamp(size);
+    }
+    clamp(0 - size)
 }

@@ -66,6 +66,7 @@ pub fn runs() -> Vec<Workload> {
         working(64, Nesting::Right).with_limit(FEW_STEPS),
         exchange(),
         arithmetic(),
+        divisions(),
         logging(),
         arriving(),
     ]
@@ -315,6 +316,22 @@ fn arithmetic_test(draft: &mut Draft, x: u16, y: u16, k: i32) -> u16 {
     let difference = draft.subtract(quotient, c);
     let d = draft.read(y);
     draft.less(difference, d)
+}
+
+/// A loop of eight divisions `y := (x - y) / k`, by divisors of both signs, odd and even.
+fn divisions() -> Workload {
+    let mut draft = Draft::default();
+    let (x, y) = (draft.register(HIGH), draft.register(HIGH));
+    let mut body = draft.increment(x);
+    for k in [2, -2, 3, -3, 4, -4, 5, -5] {
+        let (a, b, divisor) = (draft.read(x), draft.read(y), draft.constant(k));
+        let difference = draft.subtract(a, b);
+        let quotient = draft.divide(difference, divisor);
+        let write = draft.assign(y, quotient);
+        body = draft.sequence(write, body);
+    }
+    draft.forever(x, body);
+    workload("divisions by divisors of both signs", draft, 0)
 }
 
 /// A loop of eight writes that the reader sees; the log has room for all lines.

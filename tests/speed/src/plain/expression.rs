@@ -63,11 +63,21 @@ impl Operator {
             Operator::Subtract => a.saturating_sub(b),
             Operator::Multiply => a.saturating_mul(b),
             Operator::Divide if b == 0 => 0,
-            Operator::Divide => a.saturating_div(b),
+            Operator::Divide => quotient(a, b),
             Operator::Less => (a < b) as i32,
             Operator::Equal => (a == b) as i32,
         }
     }
+}
+
+/// To the nearest whole number, a tie to the even one. The divisor is not 0.
+fn quotient(a: i32, b: i32) -> i32 {
+    let (m, n) = (a.unsigned_abs(), b.unsigned_abs());
+    let (cut, twice) = (m / n, 2 * u64::from(m % n));
+    let up = twice + u64::from(cut % 2) > u64::from(n);
+    let size = i64::from(cut) + i64::from(up);
+    let exact = if (a < 0) == (b < 0) { size } else { -size };
+    exact.clamp(i32::MIN.into(), i32::MAX.into()) as i32
 }
 
 pub fn value(expressions: &[Expression], values: &[i32], e: u16) -> i32 {

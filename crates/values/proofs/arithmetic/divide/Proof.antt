@@ -1,34 +1,54 @@
--- `divide`: no division by 0; any other quotient is exact in 64 bits, and `clamp` clamps it.
-use mathlib.Core.Path.{_∙_}
-use lib.Signed.{quotZ}
+-- `divide`: the rounded quotient of the magnitudes gets the sign of the quotient, and `clamp` clamps it.
 use borrow.Author.Needs.{needs}
-use Rattle.values.proofs.Signed.{widens, widened-fits, quotient-fits, divisor-above, clamped-result}
-use Rattle.values.proofs.Signed.{quotient-by-zero, quotient-clamped}
+use Rattle.values.proofs.Quotients.{quotient-by-zero, nonzero-as-read, rounded-fits, negated-fits, kept, negated}
 use Rattle.values.proofs.arithmetic.divide.Statement.{statement}
 use Rattle.values.proofs.arithmetic.divide.Tie as tie
 
 returns : tie.Need-returns
 returns c = quotient-by-zero (c .before .args .a) (c .before .fits .b) (c .if1 .taken)
 
-cast-clamp : tie.Need-cast-clamp
-cast-clamp c = search widens
+round-requires : tie.Need-round-requires
+round-requires c κs = nonzero-as-read (c .before .fits .b) (c .if1 .left)
 
-cast-clamp-2 : tie.Need-cast-clamp-2
-cast-clamp-2 c = search widens
-
-div-clamp : tie.Need-div-clamp
-div-clamp c = (divisor-above (c .before .fits .b) (c .if1 .left), search (quotient-fits, widened-fits))
+cast-size : tie.Need-cast-size
+cast-size c =
+    let f = c .before .before .fits in
+    rounded-fits (f .a) (f .b) (c .round .ensures)
 
 clamp-requires : tie.Need-clamp-requires
 clamp-requires c κs = search needs
 
 returns-2 : tie.Need-returns-2
 returns-2 c =
-    let a = c .before .before .fits .a in
-    let b = c .before .before .fits .b in
-    clamped-result quotZ quotient-fits a b (c .clamp .ok) (c .clamp .ensures)
-    ∙ quotient-clamped (c .before .before .args .a) (c .before .before .args .b) (c .before .if1 .left)
+    let w = c .before .before in
+    let f = w .before .before .fits in
+    kept (f .a) (f .b) (w .round .ensures) (w .before .if1 .left)
+    (c .clamp .ok) (c .before .if2 .taken) (c .clamp .ensures)
+
+sub-clamp : tie.Need-sub-clamp
+sub-clamp c =
+    let f = c .before .before .before .fits in
+    negated-fits (f .a) (f .b) (c .before .round .ensures)
+
+clamp-requires-2 : tie.Need-clamp-requires-2
+clamp-requires-2 c κs = search needs
+
+returns-3 : tie.Need-returns-3
+returns-3 c =
+    let w = c .before .before in
+    let f = w .before .before .fits in
+    negated (f .a) (f .b) (w .round .ensures) (w .before .if1 .left)
+    (c .clamp2 .ok) (c .before .if2 .left) (c .clamp2 .ensures)
 
 pub divide-spec : {M : Type 1} → statement M
 divide-spec =
-    tie.close (tie.spec returns cast-clamp cast-clamp-2 div-clamp clamp-requires returns-2)
+    tie.close
+    (tie.spec
+    returns
+    round-requires
+    cast-size
+    clamp-requires
+    returns-2
+    sub-clamp
+    clamp-requires-2
+    returns-3)

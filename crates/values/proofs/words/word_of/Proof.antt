@@ -1,6 +1,7 @@
 -- `word_of`: a negative value plus 2 to the 32 is its word; any other value is its own.
 use Rattle.values.proofs.Signed.{widens}
-use Rattle.values.proofs.Bits.{raised-fits, raised-casts, raised-word, plain-casts, plain-word}
+use mir.Facts.{fits-ofZ}
+use Rattle.values.proofs.Bits.{word-fits, word-casts, word-given, raised-is, plain-casts, plain-word}
 use Rattle.values.proofs.words.word_of.Statement.{statement}
 use Rattle.values.proofs.words.word_of.Tie as tie
 
@@ -8,13 +9,13 @@ cast-result : tie.Need-cast-result
 cast-result c = widens (c .before .fits .v)
 
 add-result : tie.Need-add-result
-add-result c = raised-fits (c .before .fits .v) (c .if1 .taken)
+add-result c = word-fits (raised-is (c .before .fits .v) (c .if1 .taken)) (fits-ofZ (c .before .fits .v))
 
 cast-result-2 : tie.Need-cast-result-2
-cast-result-2 c = raised-casts (c .before .fits .v) (c .if1 .taken)
+cast-result-2 c = word-casts (raised-is (c .before .fits .v) (c .if1 .taken)) (fits-ofZ (c .before .fits .v))
 
 returns : tie.Need-returns
-returns c = raised-word (c .before .fits .v) (c .if1 .taken)
+returns c = word-given (raised-is (c .before .fits .v) (c .if1 .taken)) (fits-ofZ (c .before .fits .v))
 
 cast-result-3 : tie.Need-cast-result-3
 cast-result-3 c = plain-casts (c .before .fits .v) (c .if1 .left)
