@@ -48,6 +48,11 @@ impl Entry {
         }
     }
 
+    /// The value of a constant.
+    pub fn value(&self) -> i32 {
+        (u32::from(self.b) << 16 | u32::from(self.c)) as i32
+    }
+
     pub fn register(name: usize) -> Entry {
         Entry::new(1, name, 0, 0)
     }

@@ -22,7 +22,7 @@ fn name(file: &File, number: u16) -> String {
 }
 
 fn expression(file: &File, place: usize) -> String {
-    let Some(&Entry { kind, a, b, c, .. }) = file.expressions.get(place) else {
+    let Some(entry @ &Entry { kind, a, b, .. }) = file.expressions.get(place) else {
         return "?".into();
     };
     let operand = |field: u16| match usize::from(field) < place {
@@ -30,7 +30,7 @@ fn expression(file: &File, place: usize) -> String {
         false => "?".into(),
     };
     match kind {
-        0 => ((u32::from(b) << 16 | u32::from(c)) as i32).to_string(),
+        0 => entry.value().to_string(),
         1 => name(file, a),
         2..=7 => {
             let operator = ["+", "-", "*", "/", "<", "="][usize::from(kind) - 2];

@@ -7,10 +7,12 @@ pub struct Name {
     pub level: usize,
 }
 
-/// The operators of two operands, by their kinds in the file.
+/// Kinds of expressions in the file: the constant, and the operators of two operands.
+pub const CONSTANT: u8 = 0;
 pub const OPERATORS: [u8; 6] = [2, 3, 4, 5, 6, 7];
 pub const ADD: u8 = 2;
 pub const SUBTRACT: u8 = 3;
+pub const DIVIDE: u8 = 5;
 pub const LESS: u8 = 6;
 
 #[derive(Clone, Debug)]

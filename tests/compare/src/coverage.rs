@@ -1,5 +1,6 @@
 //! What the compared cases reached. A comparison that reaches too little of something fails.
 
+use crate::divisions;
 use crate::floors;
 use crate::lists;
 use crate::outcome::Outcome;
@@ -24,6 +25,7 @@ enum Topic {
     Ending,
     Run,
     List,
+    Division,
     Fault,
     Before,
 }
@@ -132,6 +134,11 @@ impl Coverage {
         self.count_notes(Topic::List, &lists::NOTES, &reached);
     }
 
+    /// Counts what the divisions of a run brought about.
+    pub fn record_divisions(&mut self, reached: [bool; divisions::NOTES.len()]) {
+        self.count_notes(Topic::Division, &divisions::NOTES, &reached);
+    }
+
     /// Counts how another run of a recorded case ended.
     pub fn record_again(&mut self, made: &Made, outcome: &Outcome) {
         if outcome.refusal() == 0 {
@@ -187,6 +194,9 @@ impl Coverage {
         all.extend(ENDINGS.map(|ending| (Topic::Ending, ending.to_string(), FLOOR)));
         all.extend(NOTES.map(|(note, floor)| (Topic::Run, note.to_string(), floor)));
         all.extend(lists::NOTES.map(|(note, floor)| (Topic::List, note.to_string(), floor)));
+        all.extend(
+            divisions::NOTES.map(|(note, floor)| (Topic::Division, note.to_string(), floor)),
+        );
         all.extend(damage::sorts().map(|sort| (Topic::Fault, sort_name(sort), SORT_FLOOR)));
         all.extend((1..15).map(|refusal| (Topic::Before, before(refusal), ORDER_FLOOR)));
         all
@@ -246,6 +256,7 @@ fn title(topic: Topic) -> &'static str {
         Topic::Ending => "ending",
         Topic::Run => "run",
         Topic::List => "list",
+        Topic::Division => "division",
         Topic::Fault => "fault answered by its refusal",
         Topic::Before => "faults of two refusals at once",
     }

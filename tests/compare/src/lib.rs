@@ -7,6 +7,7 @@ pub mod checks;
 pub mod coverage;
 pub mod demand_three;
 pub mod difference;
+pub mod divisions;
 pub mod engine;
 pub mod examples;
 pub mod faults;

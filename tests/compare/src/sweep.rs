@@ -2,6 +2,7 @@
 
 use crate::coverage::{self, declares_in_a_loop, Coverage};
 use crate::difference::{compare, show, Difference};
+use crate::divisions;
 use crate::engine::{Engine, Raw, Reference, Wrapper};
 use crate::lists;
 use crate::outcome::{outcome, wrong_out, Outcome};
@@ -56,6 +57,7 @@ pub fn one(seed: u64, coverage: &mut Coverage) -> Result<(), Difference> {
     }
     coverage.record(&made, &outcome);
     record_list(seed, &made.case, &outcome, coverage).map_err(difference)?;
+    record_divisions(seed, &made.case, &outcome, coverage).map_err(difference)?;
     near(seed, &made, &outcome, &mut rng, coverage)
 }
 
@@ -67,6 +69,18 @@ fn record_list(
 ) -> Result<(), String> {
     if outcome.refusal() == 0 && !case.list.is_empty() {
         coverage.record_list(lists::reached(library(seed), case, outcome)?);
+    }
+    Ok(())
+}
+
+fn record_divisions(
+    seed: u64,
+    case: &Case,
+    outcome: &Outcome,
+    coverage: &mut Coverage,
+) -> Result<(), String> {
+    if outcome.refusal() == 0 {
+        coverage.record_divisions(divisions::reached(library(seed), case, outcome)?);
     }
     Ok(())
 }

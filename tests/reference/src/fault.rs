@@ -67,7 +67,12 @@ faults! {
     // Expressions
     SumWraps: "a sum wraps around",
     ProductWraps: "a product wraps around",
+    DivisionCutsTowardZero: "division cuts toward zero",
     DivisionRoundsDown: "division rounds down",
+    TieTowardZero: "a tie of a division goes toward zero",
+    TieAwayFromZero: "a tie of a division goes away from zero",
+    TieUp: "a tie of a division goes up",
+    TieToOdd: "a tie of a division goes to the odd number",
     DivisionByZeroIsOne: "division by zero gives 1",
     LessIsAtMost: "less holds for equal operands",
     NotFlipsBits: "not flips the bits of its operand",

@@ -7,6 +7,9 @@ use crate::tree::{binary, not, Expression, LESS, OPERATORS};
 /// Nothing that takes an expression is grown when fewer than these are left.
 const SPARE_EXPRESSIONS: usize = 16;
 
+/// The ends of the 32-bit range and their neighbours.
+pub const ENDS: [i32; 4] = [i32::MIN, i32::MIN + 1, i32::MAX - 1, i32::MAX];
+
 impl Grower<'_> {
     pub fn has_expressions(&self) -> bool {
         self.expressions >= SPARE_EXPRESSIONS
@@ -25,9 +28,10 @@ impl Grower<'_> {
             _ => self.rng.between(2, 9),
         };
         self.take(size);
-        match size == 3 && self.rng.chance(1, 6) {
-            true => edge(self.rng),
-            false => self.expression_of(level, size),
+        match (size, self.rng.below(6)) {
+            (3, 0) => edge(self.rng),
+            (3, 1 | 2) => self.division(level),
+            _ => self.expression_of(level, size),
         }
     }
 
@@ -72,7 +76,7 @@ impl Grower<'_> {
         }
     }
 
-    fn atom(&mut self, level: usize) -> Expression {
+    pub fn atom(&mut self, level: usize) -> Expression {
         if self.rng.chance(1, 3) {
             return Expression::Constant(value(self.rng));
         }
@@ -83,9 +87,9 @@ impl Grower<'_> {
     }
 }
 
-/// An operation at an end of the 32-bit range, or a division that needs its rule.
+/// An operation at an end of the 32-bit range.
 fn edge(rng: &mut Rng) -> Expression {
-    let end = [i32::MIN, i32::MIN + 1, i32::MAX - 1, i32::MAX, -7, 7][rng.below(6)];
+    let end = ENDS[rng.below(ENDS.len())];
     let small = [-2, -1, 0, 1, 2, i32::MIN, i32::MAX][rng.below(7)];
     let operator = OPERATORS[rng.below(OPERATORS.len())];
     binary(

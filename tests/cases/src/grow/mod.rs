@@ -5,6 +5,7 @@
 //! and test levels holds. A careless script breaks one rule now and then, and may be refused.
 
 mod bounds;
+mod division;
 mod expression;
 mod forms;
 mod leaks;

@@ -152,7 +152,8 @@ fn values() -> Vec<Example> {
     vec![
         one("2147483647 + 1", add(constant(max), constant(1)), max),
         one("-2147483648 / -1", divide(constant(min), constant(-1)), max),
-        one("-7 / 2", divide(constant(-7), constant(2)), -3),
+        // 02, request (b): 'the peg −7 / 2 in 01' follows its rule.
+        one("-7 / 2", divide(constant(-7), constant(2)), -4),
         one("5 / 0", divide(constant(5), constant(0)), 0),
     ]
 }

@@ -1,17 +1,25 @@
-//! Small programs for single sentences of 01: values, levels and steps. Answers
-//! and steps were worked out by hand from the sentence that each one names.
+//! Small programs for single sentences of 01 (values, levels and steps) and of 02's
+//! request (b) (division). Answers and steps were worked out by hand from the
+//! sentence that each one names.
 
 use super::script::*;
 use super::{finished, log_full, spent, three_signals, Example, H, L};
 
 const VALUES: &str = "01, 'Script file': values";
+const DIVISION: &str = "02 (b), division";
 const LEVELS: &str = "01, 'Write level and test level'";
 const STEPS: &str = "01, 'Steps'";
 const CALLS: &str = "01, 'Calls'";
 
+const MAX: i32 = 2147483647;
+const MIN: i32 = -2147483648;
+
 pub fn all() -> Vec<Example> {
     let groups = [
         values(),
+        ties(),
+        quotients(),
+        halving(),
         tests(),
         needs(),
         watching_changes(),
@@ -31,27 +39,94 @@ fn assignment(name: &'static str, e: Expression, value: i32) -> Example {
     example.run((&[0], 1), finished(1, 0), &[line], &[value])
 }
 
-/// 'Results are exact, then clamped. Division goes toward zero. Less, equal and
-/// not give 1 or 0.'
+/// 'Results are exact, then clamped. Less, equal and not give 1 or 0.'
 fn values() -> Vec<Example> {
-    let (max, min) = (2147483647, -2147483648);
     let c = constant;
     vec![
-        assignment("65536 * 65536", multiply(c(65536), c(65536)), max),
-        assignment("65536 * -65536", multiply(c(65536), c(-65536)), min),
-        assignment("-2147483648 - 1", subtract(c(min), c(1)), min),
-        assignment("-2147483648 * -1", multiply(c(min), c(-1)), max),
-        assignment("7 / -2", divide(c(7), c(-2)), -3),
-        assignment("-7 / -2", divide(c(-7), c(-2)), 3),
-        assignment("-2147483648 / 0", divide(c(min), c(0)), 0),
+        assignment("65536 * 65536", multiply(c(65536), c(65536)), MAX),
+        assignment("65536 * -65536", multiply(c(65536), c(-65536)), MIN),
+        assignment("-2147483648 - 1", subtract(c(MIN), c(1)), MIN),
+        assignment("-2147483648 * -1", multiply(c(MIN), c(-1)), MAX),
         assignment("-1 < 0", less(c(-1), c(0)), 1),
         assignment("0 < 0", less(c(0), c(0)), 0),
         assignment("0 = 0", equal(c(0), c(0)), 1),
         assignment("not -5", not(c(-5)), 0),
         assignment("not 0", not(c(0)), 1),
         // Clamped before the next operation sees it.
-        assignment("(max + 1) - 1", subtract(add(c(max), c(1)), c(1)), max - 1),
+        assignment("(max + 1) - 1", subtract(add(c(MAX), c(1)), c(1)), MAX - 1),
     ]
+}
+
+/// x := a / b, for a low register x.
+fn division(name: &'static str, a: i32, b: i32, quotient: i32) -> Example {
+    let e = divide(constant(a), constant(b));
+    Example {
+        place: DIVISION,
+        ..assignment(name, e, quotient)
+    }
+}
+
+/// 'A tie to the even one', of both signs, at the ends and by them.
+fn ties() -> Vec<Example> {
+    vec![
+        division("1 / 2", 1, 2, 0),
+        division("-1 / 2", -1, 2, 0),
+        division("3 / 2", 3, 2, 2),
+        division("5 / 2", 5, 2, 2),
+        division("-5 / 2", -5, 2, -2),
+        division("7 / 2", 7, 2, 4),
+        division("7 / -2", 7, -2, -4),
+        division("-7 / -2", -7, -2, 4),
+        division("2147483647 / 2", MAX, 2, 1073741824),
+        division("1073741824 / -2147483648", 1073741824, MIN, 0),
+    ]
+}
+
+/// 'Division now goes to the nearest whole number', also close to a half, and where
+/// it is odd; '5 / 0 remains 0', as does any other number by zero.
+fn quotients() -> Vec<Example> {
+    vec![
+        division("7 / 3", 7, 3, 2),
+        division("-7 / 3", -7, 3, -2),
+        division("8 / 3", 8, 3, 3),
+        division("-8 / 3", -8, 3, -3),
+        division("6 / 2", 6, 2, 3),
+        division("-2147483648 / 3", MIN, 3, -715827883),
+        division("1073741823 / 2147483647", 1073741823, MAX, 0),
+        division("1073741824 / 2147483647", 1073741824, MAX, 1),
+        division("2147483647 / 2147483646", MAX, MAX - 1, 1),
+        division("2147483647 / -2147483648", MAX, MIN, -1),
+        division("-2147483648 / 2147483647", MIN, MAX, -1),
+        division("-2147483648 / 0", MIN, 0, 0),
+    ]
+}
+
+/// 'Steps, records ... follow the new rule': while, assign and drop for each of
+/// 2, 1, 0 and of -4, -2, -1, 0; then the last while.
+fn halving() -> Vec<Example> {
+    let mut n = Names::new();
+    let x = n.register(L);
+    let halves = assign(x, divide(read(x), constant(2)));
+    let line = |step, value: i32| [step, 0, 0, value as u32];
+    vec![Example::script(
+        "while x do x := x / 2",
+        DIVISION,
+        n,
+        while_do(read(x), halves),
+    )
+    .accepted(0, 0)
+    .run(
+        (&[3], 99),
+        finished(10, 0),
+        &[line(2, 2), line(5, 1), line(8, 0)],
+        &[0],
+    )
+    .run(
+        (&[-7], 99),
+        finished(13, 0),
+        &[line(2, -4), line(5, -2), line(8, -1), line(11, 0)],
+        &[0],
+    )]
 }
 
 /// 'A test holds if nonzero.'
