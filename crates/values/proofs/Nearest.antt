@@ -62,7 +62,7 @@ size-above (pos zero) t = absurd (true≢false t)
 size-above (pos (suc n)) t = omega arith
 size-above (negsuc n) t = omega arith
 
-module _ (a b : ℤ) (t : isZero b ≡ false) where
+module _ (a b : ℤ) where
   signed-nearest : {k : ℕ} → Rounds (natAbs a) (natAbs b) k → IsNearest a b (signed a b k)
   signed-nearest {k} r =
       record {
@@ -78,8 +78,8 @@ module _ (a b : ℤ) (t : isZero b ≡ false) where
       }
 
   -- one of the other sign is off by more than b
-  not-opposite : (k : ℕ) → IsNearest a b (negℤ (signed a b (suc k))) → ⊥
-  not-opposite k r = omega (arith, far a b k, r .near, size-above b t, suc-mul k (natAbs b))
+  not-opposite : isZero b ≡ false → (k : ℕ) → IsNearest a b (negℤ (signed a b (suc k))) → ⊥
+  not-opposite t k r = omega (arith, far a b k, r .near, size-above b t, suc-mul k (natAbs b))
 
 has-sign : (a b q : ℤ) → isZero b ≡ false → IsNearest a b q → q ≡ signed a b (natAbs q)
 has-sign (pos m) (pos n) (pos k) t r = refl
@@ -93,13 +93,13 @@ has-sign (negsuc m) (pos n) (negsuc k) t r = refl
 has-sign (negsuc m) (negsuc n) (pos k) t r = refl
 has-sign (negsuc m) (negsuc n) (negsuc k) t r = absurd (not-opposite (negsuc m) (negsuc n) t k r)
 
-pub one-is-nearest : (a b : ℤ) → isZero b ≡ false → OneIsNearest a b
-one-is-nearest a b t =
-    let above = size-above b t in
-    let rounded-is = rounds (natAbs a) above in
+pub one-is-nearest : OneIsNearest
+one-is-nearest =
     record {
-      is = signed-nearest a b t rounded-is;
-      only = λ q r.
+      is = λ a b t. signed-nearest a b (rounds (natAbs a) (size-above b t));
+      only = λ a b q t r.
+          let above = size-above b t in
           let e = has-sign a b q t r in
-          e ∙ ap (signed a b) (rounds-once above (nearest-signed a b t (subst (IsNearest a b) e r)) rounded-is);
+          let round = nearest-signed a b (subst (IsNearest a b) e r) in
+          e ∙ ap (signed a b) (rounds-once above round (rounds (natAbs a) above));
     }

@@ -31,8 +31,8 @@ isZero (pos zero) = true
 isZero (pos (suc n)) = false
 isZero (negsuc n) = false
 
--- 02 (b), 'the nearest whole number, a tie to the even one': q is off by at most half of b, and even where it is off by half
--- of b
+-- 02 (b), 'the nearest whole number, a tie to the even one': q and a / b are at most a half apart, and q is even where they
+-- are a half apart; both sides times 2 b, so that all numbers are whole
 pub record IsNearest (a b q : ℤ) : Type 0 where
   pub near : 2 * natAbs (a -ℤ q *ℤ b) ≤ natAbs b
   pub even : 2 * natAbs (a -ℤ q *ℤ b) ≡ natAbs b → natAbs q % 2 ≡ 0
@@ -55,9 +55,9 @@ abbrev pub nearest : ℤ → ℤ → ℤ
 nearest a b = signed a b (rounded (natAbs a) (natAbs b))
 
 -- If b is not 0, there is one number that is nearest, and it is this one.
-pub record OneIsNearest (a b : ℤ) : Type 0 where
-  pub is : IsNearest a b (nearest a b)
-  pub only : (q : ℤ) → IsNearest a b q → q ≡ nearest a b
+pub record OneIsNearest : Type 0 where
+  pub is : (a b : ℤ) → isZero b ≡ false → IsNearest a b (nearest a b)
+  pub only : (a b q : ℤ) → isZero b ≡ false → IsNearest a b q → q ≡ nearest a b
 
 -- '5 / 0 remains 0, and clamping comes after'
 unfoldable pub quotient : ℤ → ℤ → ℤ
