@@ -50,14 +50,14 @@ fn round(a: i32, b: i32) -> u64
     requires { ⌜ isZero b ≡ false ⌝ }
     ensures { λ r. ⌜ r ≡ rounded (natAbs a) (natAbs b) ⌝ }
 {
-    let m = magnitude(a);
-    let n = magnitude(b);
-    let cut = (m / n) as u64;
-    let twice = 2 * ((m % n) as u64);
-    if twice < (n as u64) {
+    let m = magnitude(a) as u64;
+    let n = magnitude(b) as u64;
+    let cut = m / n;
+    let twice = 2 * (m % n);
+    if twice < n {
         return cut;
     }
-    if (n as u64) < twice {
+    if n < twice {
         return cut + 1;
     }
     if cut % 2 == 0 {

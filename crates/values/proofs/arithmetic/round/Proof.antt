@@ -1,4 +1,4 @@
--- `round`: the magnitudes are divided in 32 bits, where the quotient and the remainder fit; what is left is doubled in 64.
+-- `round`: the quotient and the remainder of the magnitudes are no larger than these, so nothing overflows 64 bits.
 use native.Mathlib.Nat.{div-le-self, mod-le}
 use native.Mathlib.Omega.{arith}
 use borrow.Author.Needs.{needs}
@@ -9,45 +9,35 @@ use Rattle.values.proofs.arithmetic.round.Tie as tie
 magnitude-requires : tie.Need-magnitude-requires
 magnitude-requires c κs = search needs
 
+cast-m : tie.Need-cast-m
+cast-m c = search needs
+
 magnitude-requires-2 : tie.Need-magnitude-requires-2
 magnitude-requires-2 c κs = search needs
+
+cast-n : tie.Need-cast-n
+cast-n c = search needs
 
 div-cut : tie.Need-div-cut
 div-cut c =
     let s = c .before .before in
     divisor-above (s .fits .b) (s .pre) (c .magnitude2 .ensures)
 
-cast-cut : tie.Need-cast-cut
-cast-cut c =
-    let m = c .before .magnitude in
-    record { fits = omega (arith, div-le-self (m .result) (c .magnitude2 .result), m .ok) }
-
 rem-twice : tie.Need-rem-twice
 rem-twice c =
     let s = c .before .before in
     divisor-above (s .fits .b) (s .pre) (c .magnitude2 .ensures)
-
-cast-twice : tie.Need-cast-twice
-cast-twice c =
-    let m = c .before .magnitude in
-    record { fits = omega (arith, mod-le (m .result) (c .magnitude2 .result), m .ok) }
 
 mul-twice : tie.Need-mul-twice
 mul-twice c =
     let m = c .before .magnitude in
     record { fits = omega (arith, mod-le (m .result) (c .magnitude2 .result), m .ok) }
 
-cast-if1 : tie.Need-cast-if1
-cast-if1 c = search needs
-
 returns : tie.Need-returns
 returns c =
     let w = c .before in
     let f = w .before .before .fits in
     omega (arith, below-half (f .a) (f .b) (w .before .magnitude .ensures) (w .magnitude2 .ensures) (omega (arith, c .if1 .taken)))
-
-cast-if2 : tie.Need-cast-if2
-cast-if2 c = search needs
 
 add-result : tie.Need-add-result
 add-result c =
@@ -82,15 +72,13 @@ round-spec =
     tie.close
     (tie.spec
     magnitude-requires
+    cast-m
     magnitude-requires-2
+    cast-n
     div-cut
-    cast-cut
     rem-twice
-    cast-twice
     mul-twice
-    cast-if1
     returns
-    cast-if2
     add-result
     returns-2
     returns-3
