@@ -4,20 +4,12 @@ use mathlib.Core.Bool.{false, true≢false}
 use Prim.Native.Nat.{ℕ, zero, suc, _+_, _*_, _%_, _<_}
 use native.Mathlib.Nat.{zero-mul, suc-mul}
 use native.Mathlib.Omega.{arith}
-use lib.Dec.{ltb}
-use lib.IntN.{ℤ, pos, negsuc, negℤ, natAbs, subℕ, _-ℤ_, _*ℤ_}
-use borrow.Author.Tests.{ltb-true, ltb-false}
-use Rattle.prelude.proofs.Bools.{by-cases}
+use lib.IntN.{ℤ, pos, negsuc, negℤ, natAbs, _-ℤ_, _*ℤ_}
 use Rattle.values.specs.Values.{isZero, IsNearest, signed, OneIsNearest}
-use Rattle.values.proofs.Rounding.{apart, Rounds, rounds, rounds-once}
+use Rattle.values.proofs.Signed.{apart, natural-difference, negated-size}
+use Rattle.values.proofs.Rounding.{Rounds, rounds, rounds-once}
 
 -- how far x of the sign of a is from a
-natural-difference : (m x : ℕ) → natAbs (subℕ m x) ≡ apart m x
-natural-difference m x =
-    by-cases (λ (z : ℤ). natAbs z ≡ apart m x) (ltb m x)
-    (λ t. omega (arith, ltb-true m x t))
-    (λ t. omega (arith, ltb-false m x t))
-
 positive : (m x : ℕ) → natAbs (pos m -ℤ pos x) ≡ apart m x
 positive m zero = omega arith
 positive m (suc x) = natural-difference m (suc x)
@@ -51,10 +43,8 @@ far (negsuc m) (negsuc n) k = below-zero m (suc k * suc n)
 
 signed-size : (a b : ℤ) (k : ℕ) → natAbs (signed a b k) ≡ k
 signed-size (pos m) (pos n) k = refl
-signed-size (pos m) (negsuc n) zero = refl
-signed-size (pos m) (negsuc n) (suc k) = refl
-signed-size (negsuc m) (pos n) zero = refl
-signed-size (negsuc m) (pos n) (suc k) = refl
+signed-size (pos m) (negsuc n) k = negated-size (pos k)
+signed-size (negsuc m) (pos n) k = negated-size (pos k)
 signed-size (negsuc m) (negsuc n) k = refl
 
 pub size-above : (b : ℤ) → isZero b ≡ false → 0 < natAbs b

@@ -2,11 +2,12 @@
 use mathlib.Core.Path.{_≡_, refl, sym, ap, _∙_, subst}
 use mathlib.Core.Bool.{Bool, true, false, Bool·beq, true≢false, false≢true}
 use Prim.Native.Nat.{ℕ, suc, _+_, _*_, _/_, _%_, _^_, _≤_, _<_}
+use native.Mathlib.Nat.{div-le-self}
 use native.Mathlib.Omega.{arith}
 use lib.IntN.{ℤ, pos, negsuc, negℤ, natAbs, +ℤ-idl, _-ℤ_}
 use lib.Signed.{mag, ltZ}
 use mir.Syntax.{w32, w64}
-use mir.Val.{SFits, hbits, toZ, ofZ}
+use mir.Val.{Fits, SFits, hbits, toZ, ofZ}
 use mir.Facts.{toZ-ofZ}
 use borrow.Author.Tests.{le-ltb}
 use Rattle.values.specs.Values.{clamped, isZero, rounded, signed, nearest, quotient}
@@ -49,6 +50,10 @@ nonzero-as-read {b} f nonzero = ap isZero (toZ-ofZ f) ∙ nonzero-by-bits b nonz
 pub divisor-above : {b : ℤ} {n : ℕ} → SFits w32 b → isZero b ≡ false → n ≡ natAbs (readBack w32 b) → 0 < n
 divisor-above {b} f t e = omega (arith, e, plain-size f, size-above b t)
 
+-- one more than a quotient of magnitudes
+pub next-fits : {m : ℕ} (n : ℕ) → m < 2 ^ 32 → Fits w64 (m / n + 1)
+next-fits {m} n f = record { fits = omega (arith, div-le-self m n) }
+
 -- m and n are the magnitudes: what `round` gives
 module _ {a b : ℤ} (fa : SFits w32 a) (fb : SFits w32 b) {m n : ℕ} (d : m ≡ natAbs (readBack w32 a))
     (e : n ≡ natAbs (readBack w32 b)) where
@@ -89,7 +94,7 @@ module _ {a b : ℤ} (fa : SFits w32 a) (fb : SFits w32 b) {k : ℕ}
   negated-back = ap (λ (z : ℤ). pos 0 -ℤ z) rounded-back ∙ +ℤ-idl (negℤ (pos k))
 
   pub negated-fits : SFits w64 (pos 0 -ℤ toZ w64 k)
-  negated-fits = subst (SFits w64) (sym negated-back) (fits-64 (negated-size (pos k) small) tt)
+  negated-fits = subst (SFits w64) (sym negated-back) (fits-64 {k = 2147483649} (omega (arith, negated-size (pos k), small)) tt)
 
   module _ (nonzero : ofZ w32 b ≡ 0 → ⊥) {r : ℤ} (f : mag r < 2 ^ hbits w32) where
     clamped-nearest : r ≡ clamped (signed a b k) → readBack w32 r ≡ quotient a b

@@ -1,6 +1,6 @@
 -- Quotients of natural numbers to the nearest whole number, a tie to the even one: `rounded` gives one, and there is no other.
 use mathlib.Core.Path.{_≡_, refl, subst}
-use Prim.Native.Nat.{ℕ, suc, _+_, _-_, _*_, _/_, _%_, _≤_, _<_}
+use Prim.Native.Nat.{ℕ, suc, _+_, _*_, _/_, _%_, _≤_, _<_}
 use native.Mathlib.Nat.{suc-mul, mul-le-mul-right, div-add-mod', div-le-self, mod-lt}
 use native.Mathlib.Omega.{arith}
 use native.Mathlib.Decide.{ℕ-discrete}
@@ -8,10 +8,7 @@ use lib.Dec.{eqb, ltb}
 use borrow.Author.Tests.{ltb-true, ltb-false, eqb-true, eqb-false}
 use Rattle.prelude.proofs.Bools.{by-cases}
 use Rattle.values.specs.Values.{rounded}
-
--- how far two numbers are apart
-abbrev pub apart : ℕ → ℕ → ℕ
-apart x y = (x - y) + (y - x)
+use Rattle.values.proofs.Signed.{apart}
 
 -- `IsNearest`, of natural numbers
 pub record Rounds (m n k : ℕ) : Type 0 where

@@ -1,7 +1,7 @@
 -- Values of 32 bits, worked in 64: every exact result fits 64 bits, and what the machine reads back is the number.
 use mathlib.Core.Path.{_≡_, refl, sym, ap, _∙_, subst}
 use mathlib.Core.Bool.{Bool, true, false, false≢true}
-use Prim.Native.Nat.{ℕ, zero, suc, _+_, _*_, _^_, _≤_, _<_}
+use Prim.Native.Nat.{ℕ, zero, suc, _+_, _-_, _*_, _^_, _≤_, _<_}
 use native.Mathlib.Nat.{le-refl, le-suc, le-trans, lt-of-le-of-lt, mul-le-mul}
 use native.Mathlib.Omega.{arith}
 use lib.Dec.{T, ltb, lit<}
@@ -32,26 +32,32 @@ module _ {z : ℤ} (f : SFits w32 z) where
   pub widened-fits : SFits w32 (widened z)
   widened-fits = subst (SFits w32) (sym widened-is) f
 
--- how large the exact results are
-natural-difference-size : (a b : ℕ) {k : ℕ} → a ≤ k → b ≤ k → natAbs (subℕ a b) ≤ k
-natural-difference-size a b {k} h i =
-    by-cases (λ (z : ℤ). natAbs z ≤ k) (ltb a b) (λ t. omega (arith, ltb-true a b t)) (λ t. omega arith)
+-- how far two natural numbers are apart: the size of their difference
+abbrev pub apart : ℕ → ℕ → ℕ
+apart a b = (a - b) + (b - a)
 
+pub natural-difference : (a b : ℕ) → natAbs (subℕ a b) ≡ apart a b
+natural-difference a b =
+    by-cases (λ (z : ℤ). natAbs z ≡ apart a b) (ltb a b)
+    (λ t. omega (arith, ltb-true a b t))
+    (λ t. omega (arith, ltb-false a b t))
+
+pub negated-size : (z : ℤ) → natAbs (negℤ z) ≡ natAbs z
+negated-size (pos zero) = refl
+negated-size (pos (suc n)) = refl
+negated-size (negsuc n) = refl
+
+-- how large the exact results are
 sum-size : (a b : ℤ) {k : ℕ} → natAbs a ≤ k → natAbs b ≤ k → natAbs (a +ℤ b) ≤ k + k
 sum-size (pos a) (pos b) h i = omega arith
-sum-size (pos a) (negsuc b) h i = natural-difference-size a (suc b) (omega arith) (omega arith)
-sum-size (negsuc a) (pos b) h i = natural-difference-size b (suc a) (omega arith) (omega arith)
+sum-size (pos a) (negsuc b) h i = omega (arith, natural-difference a (suc b))
+sum-size (negsuc a) (pos b) h i = omega (arith, natural-difference b (suc a))
 sum-size (negsuc a) (negsuc b) h i = omega arith
-
-pub negated-size : (b : ℤ) {k : ℕ} → natAbs b ≤ k → natAbs (negℤ b) ≤ k
-negated-size (pos zero) h = h
-negated-size (pos (suc n)) h = h
-negated-size (negsuc n) h = h
 
 product-size : (a b : ℤ) {k : ℕ} → natAbs a ≤ k → natAbs b ≤ k → natAbs (a *ℤ b) ≤ k * k
 product-size (pos a) (pos b) h i = mul-le-mul h i
-product-size (pos a) (negsuc b) h i = negated-size (pos (a * suc b)) (mul-le-mul h i)
-product-size (negsuc a) (pos b) h i = negated-size (pos (suc a * b)) (mul-le-mul h i)
+product-size (pos a) (negsuc b) h i = omega (arith, negated-size (pos (a * suc b)), mul-le-mul h i)
+product-size (negsuc a) (pos b) h i = omega (arith, negated-size (pos (suc a * b)), mul-le-mul h i)
 product-size (negsuc a) (negsuc b) h i = mul-le-mul h i
 
 mag-size : (z : ℤ) → mag z ≤ natAbs z
@@ -69,7 +75,7 @@ module _ (a b : ℤ) (fa : SFits w32 a) (fb : SFits w32 b) where
   sum-fits = fits-64 (sum-size a b (value-size fa) (value-size fb)) tt
 
   pub difference-fits : SFits w64 (a -ℤ b)
-  difference-fits = fits-64 (sum-size a (negℤ b) (value-size fa) (negated-size b (value-size fb))) tt
+  difference-fits = fits-64 (sum-size a (negℤ b) (value-size fa) (omega (arith, negated-size b, value-size fb))) tt
 
   pub product-fits : SFits w64 (a *ℤ b)
   product-fits = fits-64 (product-size a b (value-size fa) (value-size fb)) tt

@@ -1,8 +1,8 @@
 -- `round`: the quotient and the remainder of the magnitudes are no larger than these, so nothing overflows 64 bits.
-use native.Mathlib.Nat.{div-le-self, mod-le}
+use native.Mathlib.Nat.{mod-le}
 use native.Mathlib.Omega.{arith}
 use borrow.Author.Needs.{needs}
-use Rattle.values.proofs.Quotients.{divisor-above, below-half, above-half, tie-even, tie-odd}
+use Rattle.values.proofs.Quotients.{divisor-above, next-fits, below-half, above-half, tie-even, tie-odd}
 use Rattle.values.proofs.arithmetic.round.Statement.{statement}
 use Rattle.values.proofs.arithmetic.round.Tie as tie
 
@@ -24,9 +24,7 @@ div-cut c =
     divisor-above (s .fits .b) (s .pre) (c .magnitude2 .ensures)
 
 rem-twice : tie.Need-rem-twice
-rem-twice c =
-    let s = c .before .before in
-    divisor-above (s .fits .b) (s .pre) (c .magnitude2 .ensures)
+rem-twice c = div-cut c
 
 mul-twice : tie.Need-mul-twice
 mul-twice c =
@@ -41,8 +39,8 @@ returns c =
 
 add-result : tie.Need-add-result
 add-result c =
-    let m = c .before .before .before .magnitude in
-    record { fits = omega (arith, div-le-self (m .result) (c .before .before .magnitude2 .result), m .ok) }
+    let w = c .before .before in
+    next-fits (w .magnitude2 .result) (w .before .magnitude .ok)
 
 returns-2 : tie.Need-returns-2
 returns-2 c =
@@ -58,8 +56,8 @@ returns-3 c =
 
 add-result-2 : tie.Need-add-result-2
 add-result-2 c =
-    let m = c .before .before .before .before .magnitude in
-    record { fits = omega (arith, div-le-self (m .result) (c .before .before .before .magnitude2 .result), m .ok) }
+    let w = c .before .before .before in
+    next-fits (w .magnitude2 .result) (w .before .magnitude .ok)
 
 returns-4 : tie.Need-returns-4
 returns-4 c =
