@@ -67,7 +67,10 @@ enum station_pair_word {
     STATION_PAIR_NAME = 1     /* the number of a session signal in the script file */
 };
 
-/* The words of a line of the log. */
+/*
+ * The words of a line of the log. Each assignment to a name at or below the reader's level is a line, and so is each
+ * emission of one that makes its signal present; an emission that finds it present is not.
+ */
 enum station_line_word {
     STATION_LINE_STEP = 0,    /* the step, from 1 */
     STATION_LINE_INSTANT = 1, /* the instant, from 0 */

@@ -3,16 +3,13 @@ use mathlib.Core.Path.{_≡_, refl, ap, _∙_}
 use mathlib.Core.Bool.{Bool, true, false, _&&_}
 use mathlib.Core.List.{List, [], _∷_}
 use Prim.Native.Nat.{ℕ}
+use Rattle.prelude.proofs.Bools.{and-true}
 use Rattle.lattice.specs.Lattice.{Lattice}
 use Rattle.language.specs.Syntax.{Names, Proc, nil, assign, letIn, ifThenElse, while, sequence, emit, local, watching, when, parallel}
 use Rattle.language.specs.Levels.{writeLevel, testLevel, need, needs}
 use Rattle.flow.specs.declared.nodes.Flow.{Flow}
 use Rattle.language.specs.Kinds.{kindOf, childrenOf}
 use Rattle.flow.specs.Nodes.{ownOf, writeFrom, testFrom, ownNeed, pairNeed}
-
-and-true : (b : Bool) → (b && true) ≡ b
-and-true true = refl
-and-true false = refl
 
 module _ (𝓛 : Lattice ℕ) (names : Names ℕ) where
   -- the levels of a process; of a failing node it says nothing

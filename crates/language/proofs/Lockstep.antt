@@ -11,7 +11,7 @@ use Rattle.prelude.proofs.Bools.{by-cases, by-both}
 use Rattle.values.specs.Values.{holds, negation}
 use Rattle.language.specs.Syntax.{Names, Exp, constant, register, binary, negated, Occurs, here, left, right, under, Proc, nil, assign, letIn, ifThenElse, while, sequence, emit, local, watching, when, parallel, isNil}
 use Rattle.language.specs.Steps.{held, present, apply, evaluate, value, test, Output, silent, assigned, emitted, StepResult, inside, suspended, move, change, Inputs, step}
-use Rattle.language.specs.Calls.{Line, System, lineFor, calledFor, stepOf, output, next}
+use Rattle.language.specs.Calls.{Line, System, lineIf, calledAt, calledFor, stepOf, output, next}
 use Rattle.language.proofs.Stores.{set-unseen, LowEqual, set-low, instant-low, instant-register}
 use Rattle.language.proofs.Safe.{LowReads, LowTests, Quiet, Safe, step-uses}
 
@@ -299,45 +299,50 @@ module _ {L : Type 0} (names : Names L) (low : ℕ → Bool) where
     pub steps : at .steps ≡ at′ .steps
     pub instants : at .instants ≡ at′ .instants
 
-  -- the line that a step calls for
-  line-same : (at at′ : System L) → Twins at at′ → (x : ℕ) (v : ℤ) → lineFor low at x v ≡ lineFor low at′ x v
-  line-same at at′ q x v =
-      ap₂
-      (λ k i. lineFor low (record { process = at .process; values = at .values; steps = k; instants = i }) x v)
-      (q .steps)
-      (q .instants)
+  -- The line that a step calls for: two systems that agree on the low signals agree which emissions need one.
+  line-same :
+      (at at′ : System L) → Twins at at′ → (b : Bool) (x : ℕ) (v : ℤ) →
+      lineIf b (at .steps) (at .instants) x v ≡ lineIf b (at′ .steps) (at′ .instants) x v
+  line-same at at′ q b x v = ap₂ (λ k i. lineIf b k i x v) (q .steps) (q .instants)
 
-  line-none : (at : System L) (x : ℕ) (v : ℤ) → low x ≡ false → lineFor low at x v ≡ none
-  line-none at x v h = by-cases (λ c. c ≡ none) (low x) (λ l. absurd (true≢false (sym l ∙ h))) (λ l. refl)
+  appears-same :
+      {s t : List ℤ} → LowEqual low s t → (a : ℕ) → (low a && not (present s a)) ≡ (low a && not (present t a))
+  appears-same {s} {t} q a = go (low a) refl
+    where
+      go : (b : Bool) → low a ≡ b → (b && not (present s a)) ≡ (b && not (present t a))
+      go true l = ap not (present-same q l)
+      go false l = refl
 
   called-same :
       (at at′ : System L) → Twins at at′ → {o o′ : Output} → Alike low o o′ →
       calledFor low at o ≡ calledFor low at′ o′
-  unfolding calledFor
+  unfolding calledAt
   called-same at at′ q (the-same {o = silent}) = refl
-  called-same at at′ q (the-same {o = assigned x v}) = line-same at at′ q x v
-  called-same at at′ q (the-same {o = emitted a}) = line-same at at′ q a _
-  called-same at at′ q (unseen {x = x} {v = v} {w = w} h) = line-none at x v h ∙ sym (line-none at′ x w h)
+  called-same at at′ q (the-same {o = assigned x v}) = line-same at at′ q (low x) x v
+  called-same at at′ q (the-same {o = emitted a}) =
+      rw (appears-same (q .values) a) (line-same at at′ q (low a && not (present (at′ .values) a)) a _)
+  called-same at at′ q (unseen h) = rw h refl
 
   called-none : (at : System L) {o : Output} → Hidden low o → calledFor low at o ≡ none
-  unfolding calledFor
+  unfolding calledAt
   called-none at no-output = refl
-  called-none at (no-assignment {x = x} {v = v} h) = line-none at x v h
-  called-none at (no-emission {a = a} h) = line-none at a _ h
+  called-none at (no-assignment h) = rw h refl
+  called-none at (no-emission h) = rw h refl
 
   -- every line is stamped with its step
   abbrev pub Stamped : ℕ → Option Line → Type 0
   Stamped k none = Unit {0}
   Stamped k (some l) = l .step ≡ k
 
-  line-stamped : (at : System L) (x : ℕ) (v : ℤ) → Stamped (suc (at .steps)) (lineFor low at x v)
-  line-stamped at x v = by-cases (Stamped (suc (at .steps))) (low x) (λ t. refl) (λ f. tt)
+  line-stamped : (b : Bool) (k i x : ℕ) (v : ℤ) → Stamped (suc k) (lineIf b k i x v)
+  line-stamped true k i x v = refl
+  line-stamped false k i x v = tt
 
   pub called-stamped : (at : System L) (o : Output) → Stamped (suc (at .steps)) (calledFor low at o)
-  unfolding calledFor
+  unfolding calledAt
   called-stamped at silent = tt
-  called-stamped at (assigned x v) = line-stamped at x v
-  called-stamped at (emitted a) = line-stamped at a _
+  called-stamped at (assigned x v) = line-stamped (low x) (at .steps) (at .instants) x v
+  called-stamped at (emitted a) = line-stamped (low a && not (present (at .values) a)) (at .steps) (at .instants) a _
 
   -- inputs that name the same low signals
   abbrev pub LowInputs : Inputs → Inputs → Type 0

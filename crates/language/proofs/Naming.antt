@@ -11,7 +11,7 @@ use Rattle.prelude.proofs.Bools.{by-cases}
 use Rattle.prelude.proofs.Tables.{table-same}
 use Rattle.language.specs.Syntax.{Names, Proc, nil, assign, letIn, ifThenElse, while, sequence, emit, local, watching, when, parallel, isNil}
 use Rattle.language.specs.Steps.{Output, silent, assigned, emitted, StepResult, leaves, suspended, change, move, Inputs, instantStart, step}
-use Rattle.language.specs.Calls.{System, Stop, calledFor, givenBack, returned, output, next, behind, reach, run}
+use Rattle.language.specs.Calls.{System, Stop, calledAt, calledFor, givenBack, returned, output, next, behind, reach, run}
 use Rattle.language.proofs.Stores.{instant-length}
 use Rattle.language.proofs.Safe.{Uses, step-uses}
 use Rattle.language.proofs.Stopping.{both-stay, both-go}
@@ -71,7 +71,7 @@ module _ {L : Type 0} (names names′ : Names L) (inputs : Inputs) (seen seen′
       (table-same _ _ (length s) (λ x l. rw (signals x (omega (arith, e, l)))))
 
   called-same : (at : System L) (o : Output) → Shows (λ x. x < n) o → calledFor seen at o ≡ calledFor seen′ at o
-  unfolding calledFor
+  unfolding calledAt
   called-same at silent h = refl
   called-same at (assigned x v) h = rw (sights x h)
   called-same at (emitted a) h = rw (sights a h)

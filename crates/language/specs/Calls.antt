@@ -1,6 +1,6 @@
 -- 01, 'Calls': what a run does, step by step.
 use Prim.Native.Nat.{ℕ, zero, suc}
-use mathlib.Core.Bool.{Bool, cond}
+use mathlib.Core.Bool.{Bool, cond, not, _&&_}
 use mathlib.Core.Option.{Option, none, some}
 use mathlib.Core.List.{List, [], _∷_, _++_}
 use lib.IntN.{ℤ, pos}
@@ -10,7 +10,7 @@ use mir.Val.{ofZ}
 use Rattle.prelude.specs.Table.{table}
 use Rattle.lattice.specs.Lattice.{Lattice}
 use Rattle.language.specs.Syntax.{Names, Proc, isNil}
-use Rattle.language.specs.Steps.{held, Output, silent, assigned, emitted, StepResult, suspended, Inputs, step}
+use Rattle.language.specs.Steps.{held, present, Output, silent, assigned, emitted, StepResult, suspended, Inputs, step}
 
 -- 'step from 1, instant from 0, name, value (1 for an emission)'
 pub record Line : Type 0 where
@@ -68,21 +68,22 @@ starts p s = record { process = p; values = s; steps = 0; instants = 0 }
 abbrev pub readable : {L : Type 0} → Lattice L → Names L → L → ℕ → Bool
 readable 𝓛 names reader x = 𝓛 .leq (names .level x) reader
 
--- the line of a step that gives x this value, after so many steps and instants, if the reader sees x
-abbrev pub lineAt : (ℕ → Bool) → ℕ → ℕ → ℕ → ℤ → Option Line
-lineAt seen steps instants x v =
-    cond (seen x) (some (record { step = suc steps; instant = instants; name = x; value = v })) none
+-- the line of a step that gives x this value, after so many steps and instants, if it needs one
+abbrev pub lineIf : Bool → ℕ → ℕ → ℕ → ℤ → Option Line
+lineIf needed steps instants x v =
+    cond needed (some (record { step = suc steps; instant = instants; name = x; value = v })) none
 
--- The line that a step calls for, from the system before it: 'A line is written for each assignment and emission to a
--- name at or below the reader's level; a let writes none.'
-module _ {L : Type 0} (seen : ℕ → Bool) (at : System L) where
-  abbrev pub lineFor : ℕ → ℤ → Option Line
-  lineFor = lineAt seen (at .steps) (at .instants)
+-- The line that a step calls for, after so many steps and instants, by the names that the reader sees and the signals
+-- that are present before it: 'A line is written for each assignment and emission to a name at or below the reader's
+-- level; a let writes none.' 02 (c): 'Of emissions, only one that makes an absent signal present is a line'.
+unfoldable pub calledAt : (ℕ → Bool) → (ℕ → Bool) → ℕ → ℕ → Output → Option Line
+calledAt seen signals steps instants silent = none
+calledAt seen signals steps instants (assigned x v) = lineIf (seen x) steps instants x v
+calledAt seen signals steps instants (emitted a) = lineIf (seen a && not (signals a)) steps instants a (pos 1)
 
-  unfoldable pub calledFor : Output → Option Line
-  calledFor silent = none
-  calledFor (assigned x v) = lineFor x v
-  calledFor (emitted a) = lineFor a (pos 1)
+-- from the system before it
+abbrev pub calledFor : {L : Type 0} → (ℕ → Bool) → System L → Output → Option Line
+calledFor seen at = calledAt seen (present (at .values)) (at .steps) (at .instants)
 
 module _ {L : Type 0} (names : Names L) (inputs : Inputs) where
   -- the step of a system: an instant change enters the next instant

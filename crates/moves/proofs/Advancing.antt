@@ -10,13 +10,13 @@ use lib.IntN.{ℤ}
 use lib.ListN.{length, set}
 use borrow.Author.Tests.{ltb-true}
 use Rattle.language.specs.Syntax.{Proc, nil, isNil}
-use Rattle.language.specs.Calls.{Line, lineFor}
+use Rattle.language.specs.Calls.{Line, lineIf}
 use Rattle.moves.specs.declared.counts.Counts.{Counts}
 use Rattle.moves.specs.declared.counts.Reason.the-variants.{Nil}
 use Rattle.moves.specs.declared.counts.Moved.{Moved}
 use Rattle.moves.specs.declared.counts.Moved.the-variants.{Again, Rests}
-use Rattle.moves.specs.Moves.{Running, system, logAfter, linesAfter, hasRoom, nextLine, moved, Silent, MovePath, stays, moves, Goes, Stops, Comes, IsFull}
-use Rattle.moves.specs.Contracts.{Counted, CanMove, Writes, runningWith}
+use Rattle.moves.specs.Moves.{Running, logAfter, linesAfter, hasRoom, nextLine, moved, Silent, MovePath, stays, moves, Goes, Stops, Comes, IsFull}
+use Rattle.moves.specs.Contracts.{Counted, CanMove, needsLine, Writes, runningWith}
 use Rattle.moves.proofs.Framing.{joined, silently, silent-move}
 
 lines-fit : (room : ℕ) (l : Option Line) (n : ℕ) → n ≤ room → hasRoom room l n ≡ true → linesAfter l n ≤ room
@@ -84,12 +84,12 @@ module _ {seen : ℕ → Bool} {limit room : ℕ} where
   goes-silently at t m = record { path = silent-move refl m t; some = omega arith }
 
 -- an assignment or an emission
-module _ (seen : ℕ → Bool) (limit room : ℕ) (at : Running ℕ) {x : ℕ} {v : ℤ} (w : Writes (at .process) (at .values) x v) (t : at .steps < limit) where
+module _ (seen : ℕ → Bool) (limit room : ℕ) (at : Running ℕ) {n x : ℕ} {v : ℤ} (w : Writes n (at .process) (at .values) x v) (t : at .steps < limit) where
   abbrev line : Option Line
-  line = lineFor seen (system at) x v
+  line = lineIf (needsLine seen n (at .values) x) (at .steps) (at .instants) x v
 
   same-room : {b : Bool} → hasRoom room line (at .lines) ≡ b → hasRoom room (nextLine seen at) (at .lines) ≡ b
-  same-room e = ap (λ z. hasRoom room z (at .lines)) (w .line seen (system at)) ∙ e
+  same-room e = ap (λ z. hasRoom room z (at .lines)) (w .line seen (at .steps) (at .instants)) ∙ e
 
   -- its line has no room
   pub stops-full : hasRoom room line (at .lines) ≡ false → IsFull seen limit room at
@@ -109,7 +109,7 @@ module _ (seen : ℕ → Bool) (limit room : ℕ) (at : Running ℕ) {x : ℕ} {
         })
     unfolding moved
     written-path =
-        subst (MovePath seen limit room at) (rw (w .process, w .values, w .line seen (system at)))
+        subst (MovePath seen limit room at) (rw (w .process, w .values, w .line seen (at .steps) (at .instants)))
         (moves (record { live = w .live; time = t; space = same-room e }) stays)
 
     pub stops-written :

@@ -13,7 +13,7 @@ use borrow.Author.Tests.{eqb-false, not-true}
 use Rattle.prelude.proofs.Bools.{fails, and-intro, and-left, and-right, by-cases}
 use Rattle.language.specs.Syntax.{Proc, nil, assign, letIn, ifThenElse, while, sequence, emit, local, watching, when, parallel, isNil}
 use Rattle.language.specs.Steps.{present, test, value, StepResult, inside, suspended, move}
-use Rattle.language.specs.Calls.{calledFor}
+use Rattle.language.specs.Calls.{calledAt}
 use Rattle.language.specs.Shapes.{leavesAlone}
 use Rattle.language.specs.Frames.{Frame, alone, beforeThe, watchedBy, guardedBy, besideThe, around, Open}
 use Rattle.moves.specs.Moves.{Running, withProcess, nextLine, hasRoom, moved, Live, Silent, MovePath, stays, moves, IsSpent, IsFull}
@@ -150,11 +150,11 @@ framed F at = withProcess (around F (at .process)) at
 
 module _ {L : Type 0} (seen : ℕ → Bool) (F : Frame L) (at : Running L) (l : Live (at .process) (at .values)) where
   line-around : nextLine seen (framed F at) ≡ nextLine seen at
-  unfolding calledFor
+  unfolding calledAt
   line-around = rw (move-around F l)
 
   moved-around : moved seen (framed F at) ≡ framed F (moved seen at)
-  unfolding moved calledFor
+  unfolding moved calledAt
   moved-around = rw (move-around F l)
 
 module _ {L : Type 0} {seen : ℕ → Bool} {limit room : ℕ} where
@@ -217,14 +217,14 @@ silently p s at =
 pub silent-space :
     {L : Type 0} (seen : ℕ → Bool) (room : ℕ) (at : Running L) {p p′ : Proc L} {s′ : List ℤ} →
     at .process ≡ p → Silent p (at .values) p′ s′ → hasRoom room (nextLine seen at) (at .lines) ≡ true
-unfolding calledFor
+unfolding calledAt
 silent-space seen room at e m = rw (e, m .1)
 
 pub silent-move :
     {L : Type 0} {seen : ℕ → Bool} {limit room : ℕ} {at : Running L} {p p′ : Proc L} {s′ : List ℤ} →
     at .process ≡ p → Silent p (at .values) p′ s′ → at .steps < limit →
     MovePath seen limit room at (silently p′ s′ at)
-unfolding moved calledFor
+unfolding moved calledAt
 silent-move {seen = seen} {limit = limit} {room = room} {at = at} {p′ = p′} {s′ = s′} e m t =
     let same : silently p′ s′ at ≡ moved seen at = rw (e, m .1) in
     moves

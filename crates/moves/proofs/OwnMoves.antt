@@ -11,9 +11,10 @@ use borrow.Rule.Slice.PartMut.{putMid}
 use lib.IntN.{ℤ, pos}
 use lib.ListN.{getD, length, take, drop, set, replicate, length-set, length-replicate, length-drop}
 use lib.Seq.{length-take-le, drop-set-lt}
+use Rattle.prelude.proofs.Bools.{and-true}
 use Rattle.language.specs.Syntax.{Proc, assign, letIn, ifThenElse, while, emit, local, isNil}
 use Rattle.language.specs.Steps.{value, test, suspended, move}
-use Rattle.language.specs.Calls.{calledFor}
+use Rattle.language.specs.Calls.{calledAt}
 use Rattle.packing.specs.Packing.{levelIn}
 use Rattle.program.specs.Program.{nameCount, expressionCount, nodeCount, nameWord, bAt, firstAt, secondAt, kindAt, aAt, expressionOf, processOf}
 use Rattle.program.specs.Runnable.{Runnable}
@@ -236,13 +237,23 @@ module _ {words : List ℕ} {k : ℕ} {vs : List ℤ} {n : ℕ} (w : WriterAt wo
   name-known = ⊎-elim (λ e. writer-fields {m = 1} e .1 .0) (λ e. writer-fields {m = 6} e .1) (w .writer)
 
   pub assign-writes : n ≡ 1 → Written words k vs (value (expressionOf words (b words k)) vs)
-  unfolding residual suspended move isNil calledFor
+  unfolding residual suspended move isNil calledAt
   assign-writes e st some z =
-      rw (writer-fields e .0, z)
-      (record { live = record { some = refl; moving = refl }; process = refl; values = refl; line = λ seen at. refl })
+      rw (w .kind ∙ e, writer-fields e .0, z)
+      (record {
+        live = record { some = refl; moving = refl };
+        process = refl;
+        values = refl;
+        line = λ seen steps instants. rw (and-true (seen (a words k)));
+      })
 
   pub emit-writes : n ≡ 6 → Written words k vs (pos 1)
-  unfolding residual suspended move isNil calledFor
+  unfolding residual suspended move isNil calledAt
   emit-writes e st some z =
-      rw (writer-fields e .0, z)
-      (record { live = record { some = refl; moving = refl }; process = refl; values = refl; line = λ seen at. refl })
+      rw (w .kind ∙ e, writer-fields e .0, z)
+      (record {
+        live = record { some = refl; moving = refl };
+        process = refl;
+        values = refl;
+        line = λ seen steps instants. refl;
+      })

@@ -1,16 +1,17 @@
 -- What the functions that make moves ask for and promise.
 use mathlib.Core.Path.{_≡_}
-use mathlib.Core.Bool.{Bool, true, false}
+use mathlib.Core.Bool.{Bool, true, false, not, _&&_}
 use mathlib.Core.Logic.{_⊎_}
 use mathlib.Core.Option.{Option}
 use mathlib.Core.List.{List}
 use Prim.Native.Nat.{ℕ, suc, _+_, _*_, _/_, _≤_, _<_}
+use lib.Dec.{eqb}
 use lib.IntN.{ℤ}
 use lib.ListN.{set, length}
 use Rattle.language.specs.Kinds.{assign, letIn, ifThenElse, while, emit, local}
 use Rattle.language.specs.Syntax.{Proc, nil}
-use Rattle.language.specs.Steps.{move}
-use Rattle.language.specs.Calls.{Line, System, lineFor, calledFor, mostSteps, lineAt}
+use Rattle.language.specs.Steps.{present, move}
+use Rattle.language.specs.Calls.{Line, lineIf, calledAt, mostSteps}
 use Rattle.program.specs.Program.{mostNames, nodeCount, kindAt, aAt, seenBy}
 use Rattle.program.specs.Forms.{itself}
 use Rattle.residual.specs.Residual.{own}
@@ -34,9 +35,9 @@ pub record Counted (limit : ℕ) (log : List ℕ) (at : Counts) : Type 0 where
   pub instants : at .instants ≤ at .steps
   pub space : 4 * at .lines ≤ length log
 
--- the line of a step that gives x this value, if the program's reader sees x
-abbrev pub lineOf : List ℕ → Counts → ℕ → ℤ → Option Line
-lineOf words at = lineAt (seenBy words) (at .steps) (at .instants)
+-- the line of a move that gives x this value, if it needs one
+abbrev pub lineOf : Bool → Counts → ℕ → ℤ → Option Line
+lineOf needed at = lineIf needed (at .steps) (at .instants)
 
 -- what is asked for a line
 pub record CanNote (log : List ℕ) (at : Counts) (x : ℕ) : Type 0 where
@@ -102,16 +103,23 @@ MovesSilently words k st values st′ values′ = Silent (residualOf words k st)
 abbrev pub IsSilent : ℕ → Type 0
 IsSilent kind = (kind ≡ letIn) ⊎ ((kind ≡ ifThenElse) ⊎ ((kind ≡ while) ⊎ (kind ≡ local)))
 
--- assignments and emissions call for one
+-- assignments and emissions may call for one
 abbrev pub IsWriter : ℕ → Type 0
 IsWriter kind = (kind ≡ assign) ⊎ (kind ≡ emit)
 
--- a move that gives x this value and leaves nil: an assignment or an emission
-pub record Writes (p : Proc ℕ) (s : List ℤ) (x : ℕ) (v : ℤ) : Type 0 where
+-- Whether the move of a node of kind n that writes x needs a line: the reader sees x, and it is no emission that finds
+-- its signal present.
+abbrev pub needsLine : (ℕ → Bool) → ℕ → List ℤ → ℕ → Bool
+needsLine seen n s x = seen x && not (eqb n emit && present s x)
+
+-- a move of a node of kind n that gives x this value and leaves nil: an assignment or an emission
+pub record Writes (n : ℕ) (p : Proc ℕ) (s : List ℤ) (x : ℕ) (v : ℤ) : Type 0 where
   pub live : Live p s
   pub process : move p s .process ≡ nil
   pub values : move p s .values ≡ set s x v
-  pub line : (seen : ℕ → Bool) (at : System ℕ) → calledFor seen at (move p s .output) ≡ lineFor seen at x v
+  pub line :
+      (seen : ℕ → Bool) (steps instants : ℕ) →
+      calledAt seen (present s) steps instants (move p s .output) ≡ lineIf (needsLine seen n s x) steps instants x v
 
 -- node k is an assignment or an emission
 pub record WriterAt (words : List ℕ) (k : ℕ) (values : List ℤ) (n : ℕ) : Type 0 where
@@ -123,4 +131,4 @@ pub record WriterAt (words : List ℕ) (k : ℕ) (values : List ℤ) (n : ℕ) :
 -- what node k, an assignment or an emission whose move is next, gives its name
 abbrev pub Written : List ℕ → ℕ → List ℤ → ℤ → Type 0
 Written words k values v =
-    (st : List ℕ) → 1 ≤ length st → own st ≡ 0 → Writes (residualOf words k st) values (aAt words k) v
+    (st : List ℕ) → 1 ≤ length st → own st ≡ 0 → Writes (kindAt words k) (residualOf words k st) values (aAt words k) v

@@ -9,9 +9,11 @@ use language::process_kinds;
 use program::WORDS;
 use program::forms;
 ghost use mathlib.Core.Path.{_≡_};
+ghost use Prim.Native.Nat.{_<_};
 ghost use lib.ListN.{length, replicate};
 ghost use Rattle.language.specs.Kinds.{letIn, ifThenElse, while, local};
-ghost use Rattle.moves.specs.Contracts.{Unmoved, MovesSilently, IsSilent, WriterAt, Written, CanMoveItself, Makes};
+ghost use Rattle.program.specs.Program.{mostNames, seenBy};
+ghost use Rattle.moves.specs.Contracts.{needsLine, Unmoved, MovesSilently, IsSilent, WriterAt, Written, CanMoveItself, Makes};
 
 fn clear(state: &mut [u8])
     ensures { λ _. ⌜ now (state .exit) ≡ replicate (length (now (state .entry))) 0 ⌝ }
@@ -114,6 +116,18 @@ fn written(program: &[usize; WORDS], values: &[i32], k: usize, kind: usize) -> i
     evaluation::value_of(program, values, program::b_at(program, k))
 }
 
+// Whether a node of this kind that writes x needs a line: not where it emits a signal that is present, and else if the
+// reader sees x.
+fn needs_line(program: &[usize; WORDS], values: &[i32], x: usize, kind: usize) -> bool
+    requires { ⌜ (x < mostNames) × (x < length (now values)) ⌝ }
+    ensures { λ r. ⌜ r ≡ needsLine (seenBy (now (program .entry))) kind (now (values .entry)) x ⌝ }
+{
+    if kind == process_kinds::EMIT && evaluation::is_present(values, x) {
+        return false;
+    }
+    program::is_seen(program, x)
+}
+
 // Node k makes its own move, if there is a step left for it.
 pub fn move_own(
     program: &[usize; WORDS],
@@ -134,7 +148,8 @@ pub fn move_own(
     if process_kinds::is_writer(kind) {
         let x = program::a_at(program, k);
         let v = written(program, values, k, kind);
-        let noted = log::note(program, log, at, x, v);
+        let needed = needs_line(program, values, x, kind);
+        let noted = log::note(log, at, needed, x, v);
         if !noted.fits {
             return Moved::Rests(Reason::Full, at);
         }

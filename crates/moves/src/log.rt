@@ -1,6 +1,5 @@
 // The log: four words make a line.
 use crate::counts::Counts;
-use program::WORDS;
 ghost use mathlib.Core.Path.{_≡_};
 ghost use Prim.Native.Nat.{_/_, _+_, _≤_};
 ghost use lib.ListN.{length};
@@ -23,13 +22,13 @@ pub struct Noted {
     pub lines: usize,
 }
 
-// Writes the line that a step calls for which gives x this value, if the reader sees x and there is room.
-pub fn note(program: &[usize; WORDS], log: &mut [u32], at: Counts, x: usize, value: i32) -> Noted
+// Writes the line of a move that gives x this value, if it needs one and there is room.
+pub fn note(log: &mut [u32], at: Counts, needed: bool, x: usize, value: i32) -> Noted
     requires { ⌜ CanNote (now log) at x ⌝ }
-    ensures { λ r. ⌜ Notes (length (now (log .entry)) / 4) (lineOf (now (program .entry)) at x value) (at .lines) (now (log .entry)) r (now (log .exit)) ⌝ }
+    ensures { λ r. ⌜ Notes (length (now (log .entry)) / 4) (lineOf needed at x value) (at .lines) (now (log .entry)) r (now (log .exit)) ⌝ }
 {
     let lines = at.lines;
-    if !program::is_seen(program, x) {
+    if !needed {
         return Noted { fits: true, lines };
     }
     if log.len() / 4 <= lines {

@@ -24,6 +24,10 @@ pub and-second : (a b : Bool) → a ≡ true → (a && b) ≡ b
 and-second true b h = refl
 and-second false b h = absurd (false≢true h)
 
+pub and-true : (a : Bool) → (a && true) ≡ a
+and-true true = refl
+and-true false = refl
+
 pub or-left : (a b : Bool) → (a || b) ≡ false → a ≡ false
 or-left true b h = h
 or-left false b h = refl

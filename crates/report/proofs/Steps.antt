@@ -1,7 +1,7 @@
 -- Each path of the report goes beside the one path in place.
 use Prim.Native.Nat.{ℕ, suc}
-use mathlib.Core.Path.{_≡_, refl, sym, ap, subst, _∙_}
-use mathlib.Core.Bool.{Bool, true, false, cond}
+use mathlib.Core.Path.{_≡_, refl, sym, ap, ap₂, subst, _∙_}
+use mathlib.Core.Bool.{Bool, true, false, cond, not, _&&_}
 use mathlib.Core.Option.{Option, none, some}
 use mathlib.Core.List.{List, [], _++_, Option·toList}
 use lib.IntN.{ℤ}
@@ -10,13 +10,13 @@ use Rattle.language.specs.NameKinds.{Kind, var, sig}
 use Rattle.language.specs.Scope.{Declared}
 use Rattle.language.specs.Typing.{Environment}
 use Rattle.language.specs.Steps.{present, Output, silent, Inputs, instantStart}
-use Rattle.language.specs.Calls.{Line, System, lineFor, calledFor}
+use Rattle.language.specs.Calls.{Line, System, lineIf, calledAt, calledFor}
 use Rattle.language.specs.Instants as inplace
 use Rattle.language.specs.Paths as paths
 use Rattle.report.specs.Names.{Renaming}
 use Rattle.report.specs.Configurations.{Configuration, InputsWithin}
 use Rattle.report.specs.Instants.{Step, MOVE, INSTANT-OP}
-use Rattle.report.specs.Paths.{NamedLine, named, counted, isSeen, linesFor, ExecutionPath, here, more}
+use Rattle.report.specs.Paths.{NamedLine, named, isSeen, linesFor, ExecutionPath, here, more}
 use Rattle.report.specs.Results.{SameLine, SameLines, no-lines, one-more}
 use Rattle.report.proofs.Memory.{Agree, defined, agree-instant}
 use Rattle.report.proofs.Waiting.{Signals, suspended-back, changed-back}
@@ -189,9 +189,6 @@ module _ {L : Type 0} (names : Names L) (n : ℕ) where
               session = λ δ h. q ∙ x .kept k y δ h;
             }
 
-        seen-too : (k : Kind) (y y′ : ℕ) → F k y ≡ true → y′ ≡ ρ k y → C .environment k y′ ≡ some (names .level y)
-        seen-too k y y′ f q = ap (C .environment k) q ∙ j .tied .agree .dom k y f
-
         one-or-none :
             (b : Bool) (k : Kind) (l m : Line) → SameLine names Γ last l (record { kind = k; line = m }) →
             SameLines names Γ last (Option·toList (cond b (some l) none)) (named k (cond b (some m) none))
@@ -199,21 +196,30 @@ module _ {L : Type 0} (names : Names L) (n : ℕ) where
         one-or-none true k l m h = one-more h no-lines
         one-or-none false k l m h = no-lines
 
-        -- the lines of a name of this kind
+        -- the lines of a name of this kind, if both need one or neither does
         lines-of :
-            (k : Kind) (y y′ : ℕ) (v w : ℤ) → F k y ≡ true → y′ ≡ ρ k y → v ≡ w →
-            SameLines names Γ last (Option·toList (lineFor sees at y v))
-            (named k (lineFor (λ z. isSeen below (C .environment k z)) (counted C) y′ w))
-        lines-of k y y′ v w f q e =
-            rw (seen-too k y y′ f q) (one-or-none (below (names .level y)) k _ _ (line-too k y y′ v w f q e))
+            (k : Kind) (y y′ : ℕ) (v w : ℤ) → F k y ≡ true → y′ ≡ ρ k y → v ≡ w → {b b′ : Bool} → b ≡ b′ →
+            SameLines names Γ last (Option·toList (lineIf b (at .steps) (at .instants) y v))
+            (named k (lineIf b′ (C .steps) (C .instants) y′ w))
+        lines-of k y y′ v w f q e {b} h = rw (← h) (one-or-none b k _ _ (line-too k y y′ v w f q e))
+
+        -- the report's E has the signals that are present
+        present-too : (y y′ : ℕ) → F sig y ≡ true → y′ ≡ ρ sig y → present (at .values) y ≡ C .signals y′
+        present-too y y′ f q = j .tied .agree .signals y f ∙ ap (C .signals) (sym q)
+
+        seen-too :
+            (k : Kind) (y y′ : ℕ) → F k y ≡ true → y′ ≡ ρ k y → sees y ≡ isSeen below (C .environment k y′)
+        seen-too k y y′ f q = sym (ap (isSeen below) (ap (C .environment k) q ∙ j .tied .agree .dom k y f))
 
         pub lines-too :
             {o O : Output} → SameOutput F ρ o O →
             SameLines names Γ last (Option·toList (calledFor sees at o)) (linesFor below C O)
-        unfolding calledFor Option·toList
+        unfolding calledAt Option·toList
         lines-too no-output = no-lines
-        lines-too (an-assignment {x = y} {x′ = y′} {v = v} {w = w} f q e) = lines-of var y y′ v w f q e
-        lines-too (an-emission {a = y} {a′ = y′} f q) = lines-of sig y y′ _ _ f q refl
+        lines-too (an-assignment {x = y} {x′ = y′} {v = v} {w = w} f q e) =
+            lines-of var y y′ v w f q e (seen-too var y y′ f q)
+        lines-too (an-emission {a = y} {a′ = y′} f q) =
+            lines-of sig y y′ _ _ f q refl (ap₂ (λ b c. b && not c) (seen-too sig y y′ f q) (present-too y y′ f q))
 
     append-lines :
         {origin : Renaming} {ls ls′ : List Line} {ms ms′ : List NamedLine} → SameLines names Γ origin ls ms →

@@ -3,10 +3,9 @@ use Prim.Native.Nat.{ℕ, zero, suc}
 use mathlib.Core.Bool.{Bool, false}
 use mathlib.Core.Option.{Option, none, some}
 use mathlib.Core.List.{List, [], _∷_, _++_}
-use Rattle.language.specs.Syntax.{nil}
 use Rattle.language.specs.NameKinds.{Kind, var, sig}
 use Rattle.language.specs.Steps.{Output, silent, assigned, emitted, Inputs}
-use Rattle.language.specs.Calls.{Line, System, calledFor}
+use Rattle.language.specs.Calls.{Line, calledAt}
 use Rattle.report.specs.Configurations.{Configuration}
 use Rattle.report.specs.Instants.{Step}
 
@@ -25,10 +24,6 @@ abbrev pub named : Kind → Option Line → List NamedLine
 named k none = []
 named k (some l) = record { kind = k; line = l } ∷ []
 
--- what 01 counts, of a configuration: all that `calledFor` looks at
-abbrev pub counted : {L : Type 0} → Configuration L → System L
-counted C = record { process = nil; values = []; steps = C .steps; instants = C .instants }
-
 module _ {L : Type 0} (below : L → Bool) where
   -- 'a name at or below the reader's level', by Γ
   abbrev pub isSeen : Option L → Bool
@@ -37,7 +32,9 @@ module _ {L : Type 0} (below : L → Bool) where
 
   -- the lines that a step calls for, from the configuration before it: none or one
   abbrev pub linesFor : Configuration L → Output → List NamedLine
-  linesFor C o = named (kindOf o) (calledFor (λ x. isSeen (C .environment (kindOf o) x)) (counted C) o)
+  linesFor C o =
+      named (kindOf o)
+      (calledAt (λ x. isSeen (C .environment (kindOf o) x)) (C .signals) (C .steps) (C .instants) o)
 
   -- n steps from one configuration to another, with the lines that they call for
   pub data ExecutionPath (inputs : Inputs) : ℕ → Configuration L → List NamedLine → Configuration L → Type 0 where

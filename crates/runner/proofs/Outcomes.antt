@@ -12,7 +12,7 @@ use lib.Seq.{sets, sets-eq}
 use borrow.Author.Tests.{ltb-true, ltb-false}
 use Rattle.language.specs.Syntax.{Names, isNil}
 use Rattle.language.specs.Steps.{StepResult as Left, leaves, suspended, move, change, Inputs, instantStart, step}
-use Rattle.language.specs.Calls.{Line, Ending, finished, spent, logFull, Stop, calledFor, halts, noted, reach, words}
+use Rattle.language.specs.Calls.{Line, Ending, finished, spent, logFull, Stop, calledAt, calledFor, halts, noted, reach, words}
 use Rattle.moves.specs.Moves.{Running, system, putLine, logAfter, linesAfter, hasRoom, nextLine, moved, changed, Live, MovePath, stays, moves}
 use Rattle.runner.specs.Outcome.{Outcome, written, recorded, outcome, stopped}
 use Rattle.moves.proofs.Framing.{waits-some}
@@ -119,7 +119,7 @@ module _ {L : Type 0} (names : Names L) (inputs : Inputs) (seen : ℕ → Bool) 
 
   pub outcome-changes :
       suspended (at .process) (at .values) ≡ true → at .steps < limit → out (changed names inputs at) ≡ out at
-  unfolding outcome calledFor noted
+  unfolding outcome calledAt noted
   outcome-changes w t = ap (recorded (at .lines) (at .log)) (sym (rest-changes t w))
 
 pub outcome-moves :

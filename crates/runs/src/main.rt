@@ -1,4 +1,4 @@
-// Runs the examples of 01 that are not proved, those of the report and some with lists, as the file stdin has them. For each it
+// Runs the examples of 01 that are not proved, those of the report and some of 02, as the file stdin has them. For each it
 // prints a title and what comes of the script, for the reader 0. What it prints is held to the file stdout, which was worked
 // out from the papers alone.
 use libc::STDIN_FILENO;

@@ -11,7 +11,7 @@ use Rattle.values.specs.Values.{clamped, rounded, quotient}
 use Rattle.language.specs.Syntax.{isNil}
 use Rattle.language.specs.Levels.{expLevel, writeLevel, testLevel, need}
 use Rattle.language.specs.Steps.{evaluate, value, suspended, move, change, instantStart, step}
-use Rattle.language.specs.Calls.{calledFor, givenBack, noted, reach, words}
+use Rattle.language.specs.Calls.{calledAt, givenBack, noted, reach, words}
 use Rattle.entries.specs.Faults.{fieldIsRight, faultRefusal}
 use Rattle.uses.specs.Uses.{used, timesUsed, useRefusal}
 use Rattle.scope.specs.Reach.{isOutOfReach, reachRefusal}
@@ -24,5 +24,5 @@ use Rattle.engine.specs.Answers.{verdict, left}
 use Rattle.theorems.specs.Examples.{ExamplesHold}
 
 pub examples-hold : ExamplesHold
-unfolding firstFrom first any all count total course entry table leastUpper top orders.isFaulty orders.firstFaulty orders.refusal pairs.firstLacking books.refusal clamped rounded quotient isNil expLevel writeLevel testLevel need evaluate value suspended move change instantStart step calledFor givenBack noted reach used timesUsed isOutOfReach fieldIsRight faultRefusal useRefusal reachRefusal scripts.entryRefusal scripts.refusal expressionOf processOf words checkRefusal listed valuesRefusal listRefusal callRefusal runRefusal verdict left
+unfolding firstFrom first any all count total course entry table leastUpper top orders.isFaulty orders.firstFaulty orders.refusal pairs.firstLacking books.refusal clamped rounded quotient isNil expLevel writeLevel testLevel need evaluate value suspended move change instantStart step calledAt givenBack noted reach used timesUsed isOutOfReach fieldIsRight faultRefusal useRefusal reachRefusal scripts.entryRefusal scripts.refusal expressionOf processOf words checkRefusal listed valuesRefusal listRefusal callRefusal runRefusal verdict left
 examples-hold = refl

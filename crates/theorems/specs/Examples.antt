@@ -1,5 +1,5 @@
--- 01, 'Peg list': the starred examples and the program's own, and quotients by 02 (b), in one table: the bytes and numbers
--- of a call, what check answers, and what run leaves.
+-- 01, 'Peg list': the starred examples and the program's own, and some of 02, in one table: the bytes and numbers of a
+-- call, what check answers, and what run leaves.
 use mathlib.Core.Path.{_≡_}
 use mathlib.Core.List.{List, [], _∷_, _++_, map}
 use Prim.Native.Nat.{ℕ, _-_, _/_, _%_}
@@ -104,6 +104,14 @@ assigns a b operator v word =
     (pos 0 ∷ []) 1000 L L
     finished 1 0 ((1 ∷ 0 ∷ 0 ∷ word ∷ []) ∷ []) (v ∷ [])
 
+-- emit a; emit a, for the signal a at L, absent or present before: its lines
+abbrev emitsTwice : ℤ → List (List ℕ) → Example
+emitsTwice before lines =
+    runs
+    (file (signal L ∷ []) [] (part emit 0 0 0 ∷ part emit 0 0 0 ∷ part sequence 0 1 0 ∷ []))
+    (before ∷ []) 1000 L L
+    finished 3 0 lines (pos 1 ∷ [])
+
 abbrev pub examples : List Example
 examples =
     -- nil: W 1, T 0
@@ -183,6 +191,9 @@ examples =
     ∷ assigns 4294967295 2 (divide 0 1) (pos 0) 0
     ∷ assigns 3 2 (divide 0 1) (pos 2) 2
     ∷ assigns 2147483648 2147483647 (divide 0 1) (negsuc 0) 4294967295
+    -- emit a; emit a, a absent: 3 steps, a line stamped 1; a present: no line
+    ∷ emitsTwice (pos 0) ((1 ∷ 0 ∷ 0 ∷ 1 ∷ []) ∷ [])
+    ∷ emitsTwice (pos 1) []
     -- values 00000000 and script 0000FFFF 0000000000000007 0100000000000000 0004000C00145354: 'accepted 0 0', '1 0 0 7',
     -- 'finished 1 0'
     ∷ runs

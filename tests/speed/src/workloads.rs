@@ -68,6 +68,7 @@ pub fn runs() -> Vec<Workload> {
         arithmetic(),
         divisions(),
         logging(),
+        repeating(),
         arriving(),
     ]
 }
@@ -334,18 +335,33 @@ fn divisions() -> Workload {
     workload("divisions by divisors of both signs", draft, 0)
 }
 
-/// A loop of eight writes that the reader sees; the log has room for all lines.
+/// A loop of eight assignments that the reader sees; the log has room for all lines.
 fn logging() -> Workload {
     let mut draft = Draft::default();
     let always = draft.constant(1);
-    let (x, s) = (draft.register(LOW), draft.signal(LOW));
-    let mut body = draft.emit(s);
+    let x = draft.register(LOW);
+    let mut body = draft.increment(x);
     for _ in 0..7 {
         let write = draft.increment(x);
         body = draft.sequence(write, body);
     }
     draft.while_do(always, body);
     workload("log of every write", draft, 4 * MOST_STEPS as usize)
+}
+
+/// A loop of eight emissions of one signal that the reader sees. Only the first of all is a line: the log has room for
+/// that one.
+fn repeating() -> Workload {
+    let mut draft = Draft::default();
+    let always = draft.constant(1);
+    let s = draft.signal(LOW);
+    let mut body = draft.emit(s);
+    for _ in 0..7 {
+        let emission = draft.emit(s);
+        body = draft.sequence(emission, body);
+    }
+    draft.while_do(always, body);
+    workload("repeated emissions", draft, 4)
 }
 
 /// `while x < i32::MAX do ((do (when never do nil) watching tilt); x := x + 1)`: counts the instants in which tilt

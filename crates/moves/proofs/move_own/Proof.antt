@@ -1,5 +1,6 @@
 -- `move_own`: by the kind, if the limit is not reached.
-use mathlib.Core.Path.{_≡_, sym, ap, _∙_, subst}
+use mathlib.Core.Path.{_≡_, sym, ap, ap₂, _∙_, subst}
+use mathlib.Core.Option.{Option}
 use Prim.Native.Nat.{_/_, _<_}
 use native.Mathlib.Nat.{le-antisymm}
 use native.Mathlib.Omega.{arith}
@@ -7,11 +8,12 @@ use mir.Syntax.{w32}
 use mir.Facts.{toZ-ofZ}
 use lib.ListN.{length, set}
 use borrow.Author.Tests.{not-true, not-false}
+use Rattle.language.specs.Calls.{Line}
 use Rattle.program.specs.Program.{nameCount, kindAt, processOf, seenBy}
 use Rattle.residual.specs.Residual.{own}
 use Rattle.residual.proofs.Residuals.{nil-at-four, some-bytes, own-set-at}
 use Rattle.residual.proofs.Sights.{MovesItself, sight}
-use Rattle.moves.specs.Contracts.{WriterAt, Writes, afterMove, lineOf, Notes, nodeAt}
+use Rattle.moves.specs.Contracts.{WriterAt, needsLine, Writes, afterMove, lineOf, Notes, nodeAt}
 use Rattle.moves.specs.Moves.{stays}
 use Rattle.moves.proofs.Advancing.{goes-silently, stops-full, stops-written}
 use Rattle.moves.proofs.OwnMoves.{is-itself, writer-is, is-silent, itself-live, name-known}
@@ -64,7 +66,7 @@ name-few c = omega (arith, c .a-at .ensures, name-known (writer-at (c .before)))
 writes :
     (c : tie.After-written) →
     let a = c .before .before .before .before .before .before .before .before .before .before .args in
-    Writes (nodeAt (a .program .now) (a .k) (a .state .now) (a .values .now) (a .log .now) (a .at) .process) (a .values .now) (c .before .before .a-at .result) (c .written .result)
+    Writes (kindAt (a .program .now) (a .k)) (nodeAt (a .program .now) (a .k) (a .state .now) (a .values .now) (a .log .now) (a .at) .process) (a .values .now) (c .before .before .a-at .result) (c .written .result)
 writes c =
     let start = c .before .before .before .before .before .before .before .before .before .before in
     rw (c .before .before .a-at .ensures) (c .written .ensures (start .args .state .now) (some-bytes (start .pre .can .node)) (moves-itself start .0))
@@ -81,27 +83,53 @@ a-at-requires c κs = search needs
 written-requires : tie.Need-written-requires
 written-requires c κs = writer-at (c .before .before)
 
+needs-line-requires : tie.Need-needs-line-requires
+needs-line-requires c κs =
+    let can = c .before .before .before .before .before .before .before .before .before .before .before .pre .can in
+    let few = name-few (c .before .before .before) in
+    (omega (arith, few, can .valued .runnable .fewNames), omega (arith, few, can .valued .named))
+
 note-requires : tie.Need-note-requires
 note-requires c κs =
-    let can = c .before .before .before .before .before .before .before .before .before .before .before .pre .can in
+    let can = c .before .before .before .before .before .before .before .before .before .before .before .before .before .pre .can in
     record {
-      few = omega (arith, name-few (c .before .before .before), can .valued .runnable .fewNames);
-      time = omega (arith, c .before .before .before .before .before .before .before .if1 .left, can .counted .most);
+      few = omega (arith, name-few (c .before .before .before .before .before), can .valued .runnable .fewNames);
+      time = omega (arith, c .before .before .before .before .before .before .before .before .before .if1 .left, can .counted .most);
       instants = can .counted .instants;
       space = can .counted .space;
     }
 
+-- whether it needs a line, by the kind of node k
+needed :
+    (c : tie.After-needs-line) →
+    let a = c .before .before .before .before .before .before .before .before .before .before .before .before .args in
+    c .needs-line .result ≡ needsLine (seenBy (a .program .now)) (kindAt (a .program .now) (a .k)) (a .values .now) (c .before .before .before .before .a-at .result)
+needed c =
+    let a = c .before .before .before .before .before .before .before .before .before .before .before .before .args in
+    subst
+    (λ n. c .needs-line .result ≡ needsLine (seenBy (a .program .now)) n (a .values .now) (c .before .before .before .before .a-at .result))
+    (c .before .before .before .before .before .before .before .kind-at .ensures)
+    (c .needs-line .ensures)
+
+-- the line that the move calls for
+abbrev line : (c : tie.After-note) → Option Line
+line c =
+    let a = c .before .before .before .before .before .before .before .before .before .before .before .before .before .before .args in
+    let x = c .before .before .before .before .before .before .a-at .result in
+    lineOf (needsLine (seenBy (a .program .now)) (kindAt (a .program .now) (a .k)) (a .values .now) x) (a .at) x (c .before .before .before .before .written .result)
+
 -- what was noted, of the value as it was given
 noted :
     (c : tie.After-note) →
-    let a = c .before .before .before .before .before .before .before .before .before .before .before .before .args in
-    Notes (length (a .log .now) / 4) (lineOf (a .program .now) (a .at) (c .before .before .before .before .a-at .result) (c .before .before .written .result)) (a .at .lines) (a .log .now)
-    (c .note .result) (c .note .last .1 .0)
+    let a = c .before .before .before .before .before .before .before .before .before .before .before .before .before .before .args in
+    Notes (length (a .log .now) / 4) (line c) (a .at .lines) (a .log .now) (c .note .result) (c .note .last .0)
 noted c =
-    let a = c .before .before .before .before .before .before .before .before .before .before .before .before .args in
+    let a = c .before .before .before .before .before .before .before .before .before .before .before .before .before .before .args in
     subst
-    (λ v. Notes (length (a .log .now) / 4) (lineOf (a .program .now) (a .at) (c .before .before .before .before .a-at .result) v) (a .at .lines) (a .log .now) (c .note .result) (c .note .last .1 .0))
-    (toZ-ofZ {w = w32} (record { sfits = c .before .before .written .ok }))
+    (λ l. Notes (length (a .log .now) / 4) l (a .at .lines) (a .log .now) (c .note .result) (c .note .last .0))
+    (ap₂ (λ b v. lineOf b (a .at) (c .before .before .before .before .before .before .a-at .result) v)
+    (needed (c .before .before))
+    (toZ-ofZ {w = w32} (record { sfits = c .before .before .before .before .written .ok })))
     (c .note .ensures)
 
 same-length : tie.Need-same-length
@@ -112,25 +140,25 @@ same-length-2 c = search needs
 
 returns-2 : tie.Need-returns-2
 returns-2 c =
-    let a = c .before .before .before .before .before .before .before .before .before .before .before .before .before .before .before .before .args in
+    let a = c .before .before .before .before .before .before .before .before .before .before .before .before .before .before .before .before .before .before .args in
     let n = noted (c .before .before .before .before) in
     let here = nodeAt (a .program .now) (a .k) (a .state .now) (a .values .now) (a .log .now) (a .at) in
-    let w = writes (c .before .before .before .before .before .before) in
+    let w = writes (c .before .before .before .before .before .before .before .before) in
     let none = not-true _ (c .if3 .taken) in
     rw (n .full none)
     (record {
       path = stays;
-      ends = stops-full (seenBy (a .program .now)) (a .limit) (length (a .log .now) / 4) here w (c .before .before .before .before .before .before .before .before .before .before .before .before .if1 .left) (sym (n .fits) ∙ none);
+      ends = stops-full (seenBy (a .program .now)) (a .limit) (length (a .log .now) / 4) here w (c .before .before .before .before .before .before .before .before .before .before .before .before .before .before .if1 .left) (sym (n .fits) ∙ none);
     })
 
 mul-v : tie.Need-mul-v
 mul-v c = search needs
 
 slice-set-from-v : tie.Need-slice-set-from-v
-slice-set-from-v c = omega (arith, name-few (c .before .before .before .before .before .before .before .before), c .before .before .before .before .before .before .before .before .before .before .before .before .before .before .before .before .pre .can .valued .named)
+slice-set-from-v c = omega (arith, name-few (c .before .before .before .before .before .before .before .before .before .before), c .before .before .before .before .before .before .before .before .before .before .before .before .before .before .before .before .before .before .pre .can .valued .named)
 
 slice-write-state : tie.Need-slice-write-state
-slice-write-state c = some-bytes (c .before .before .before .before .before .before .before .before .before .before .before .before .before .before .before .before .pre .can .node)
+slice-write-state c = some-bytes (c .before .before .before .before .before .before .before .before .before .before .before .before .before .before .before .before .before .before .pre .can .node)
 
 after-move-requires : tie.Need-after-move-requires
 after-move-requires c κs = search needs
@@ -146,13 +174,13 @@ same-length-5 c = search needs
 
 returns-3 : tie.Need-returns-3
 returns-3 c =
-    let a = c .before .before .before .before .before .before .before .before .before .before .before .before .before .before .before .before .before .args in
+    let a = c .before .before .before .before .before .before .before .before .before .before .before .before .before .before .before .before .before .before .before .args in
     let n = noted (c .before .before .before .before .before) in
     let here = nodeAt (a .program .now) (a .k) (a .state .now) (a .values .now) (a .log .now) (a .at) in
     let fits = not-false _ (c .before .if3 .left) in
-    stops-written (seenBy (a .program .now)) (a .limit) (length (a .log .now) / 4) here (writes (c .before .before .before .before .before .before .before)) (c .before .before .before .before .before .before .before .before .before .before .before .before .before .if1 .left) (sym (n .fits) ∙ fits)
-    (nil-at-four (processOf (a .program .now) (a .k)) _ (own-set-at (a .state .now) (some-bytes (c .before .before .before .before .before .before .before .before .before .before .before .before .before .before .before .before .before .pre .can .node)) 4))
-    (ap (set (a .values .now) (c .before .before .before .before .before .before .before .before .before .a-at .result)) (toZ-ofZ {w = w32} (record { sfits = c .before .before .before .before .before .before .before .written .ok })))
+    stops-written (seenBy (a .program .now)) (a .limit) (length (a .log .now) / 4) here (writes (c .before .before .before .before .before .before .before .before .before)) (c .before .before .before .before .before .before .before .before .before .before .before .before .before .before .before .if1 .left) (sym (n .fits) ∙ fits)
+    (nil-at-four (processOf (a .program .now) (a .k)) _ (own-set-at (a .state .now) (some-bytes (c .before .before .before .before .before .before .before .before .before .before .before .before .before .before .before .before .before .before .before .pre .can .node)) 4))
+    (ap (set (a .values .now) (c .before .before .before .before .before .before .before .before .before .before .before .a-at .result)) (toZ-ofZ {w = w32} (record { sfits = c .before .before .before .before .before .before .before .before .before .written .ok })))
     (n .written fits)
     (c .after-move .ensures ∙ ap (afterMove (a .at)) (n .lines fits))
 
@@ -193,6 +221,7 @@ move-own-spec =
     is-writer-requires
     a-at-requires
     written-requires
+    needs-line-requires
     note-requires
     same-length
     same-length-2

@@ -127,8 +127,12 @@ impl<'a> Machine<'a> {
         }
         match (self.nodes[k as usize], state) {
             (Node::Nil, _) => Step::Terminated,
-            (Node::Assign { name, value }, _) => self.write(k, name, self.value(value)),
-            (Node::Emit { signal }, _) => self.write(k, signal, 1),
+            (Node::Assign { name, value }, _) => {
+                self.write(k, name, self.value(value), self.sees(name))
+            }
+            (Node::Emit { signal }, _) => {
+                self.write(k, signal, 1, self.sees(signal) && !self.is_present(signal))
+            }
             (Node::Let { name, value, body }, State::Whole) => {
                 self.declare(k, name, self.value(value), body)
             }
@@ -153,9 +157,9 @@ impl<'a> Machine<'a> {
         }
     }
 
-    /// An assignment or an emission.
-    fn write(&mut self, k: u16, name: u16, value: i32) -> Step {
-        if self.seen[name as usize] {
+    /// An assignment or an emission, which needs a line or none.
+    fn write(&mut self, k: u16, name: u16, value: i32, needs_line: bool) -> Step {
+        if needs_line {
             let from = 4 * self.lines;
             let Some(line) = self.log.get_mut(from..from + 4) else {
                 return Step::Full;
@@ -279,6 +283,10 @@ impl<'a> Machine<'a> {
             (Node::Parallel { .. }, State::Whole | State::Turned) => false,
             (node, state) => part(node, state).is_some_and(|child| self.is_terminated(child)),
         }
+    }
+
+    fn sees(&self, name: u16) -> bool {
+        self.seen[name as usize]
     }
 
     pub fn is_present(&self, signal: u16) -> bool {

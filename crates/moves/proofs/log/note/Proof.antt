@@ -1,4 +1,4 @@
--- `note`: a line is written where the reader sees the name and there is room.
+-- `note`: a line is written where one is needed and there is room.
 use mathlib.Core.Path.{_≡_, refl, sym, ap, ap₂, _∙_}
 use mathlib.Core.Bool.{true≢false, false≢true}
 use mathlib.Core.List.{List}
@@ -15,12 +15,9 @@ use borrow.Author.Needs.{needs}
 use Rattle.moves.proofs.log.note.Statement.{statement}
 use Rattle.moves.proofs.log.note.Tie as tie
 
-is-seen-requires : tie.Need-is-seen-requires
-is-seen-requires c κs = search needs
-
 returns : tie.Need-returns
 returns c =
-    rw (sym (c .before .is-seen .ensures) ∙ not-true _ (c .if1 .taken)) (record {
+    rw (not-true (c .before .before .args .needed) (c .if1 .taken)) (record {
       fits = refl;
       written = λ _. refl;
       lines = λ _. refl;
@@ -29,7 +26,7 @@ returns c =
 
 returns-2 : tie.Need-returns-2
 returns-2 c =
-    rw (sym (c .before .before .is-seen .ensures) ∙ not-false _ (c .before .if1 .left)) (record {
+    rw (not-false (c .before .before .before .args .needed) (c .before .if1 .left)) (record {
       fits = sym (le-ltb _ _ (c .if2 .taken));
       written = λ e. absurd (false≢true e);
       lines = λ e. absurd (false≢true e);
@@ -57,8 +54,8 @@ cast-put-line-2 c = search needs
 put-line-requires : tie.Need-put-line-requires
 put-line-requires c κs = search needs
 
-add-t11 : tie.Need-add-t11
-add-t11 c = search needs
+add-t10 : tie.Need-add-t10
+add-t10 c = search needs
 
 same-length : tie.Need-same-length
 same-length c = search needs
@@ -73,12 +70,12 @@ put log n steps instant x w f e q =
 
 returns-3 : tie.Need-returns-3
 returns-3 c =
-    let a = c .before .before .before .before .before .before .before .before .before .before .before .args in
-    rw (sym (c .before .before .before .before .before .before .before .before .before .is-seen .ensures) ∙ not-false _ (c .before .before .before .before .before .before .before .before .if1 .left)) (record {
+    let a = c .before .before .before .before .before .before .before .before .before .before .args in
+    rw (not-false (a .needed) (c .before .before .before .before .before .before .before .before .if1 .left)) (record {
       fits = sym (lt-ltb _ _ (c .before .before .before .before .before .before .before .if2 .left));
       written =
           λ _.
-          put (a .log .now) (a .at .lines) (a .at .steps) (a .at .instants) (a .x) _ (c .before .before .before .before .before .before .before .before .before .before .before .fits .value) (c .before .before .before .before .before .before .word-of .ensures)
+          put (a .log .now) (a .at .lines) (a .at .steps) (a .at .instants) (a .x) _ (c .before .before .before .before .before .before .before .before .before .before .fits .value) (c .before .before .before .before .before .before .word-of .ensures)
           (c .before .before .put-line .ensures);
       lines = λ _. add-one (a .at .lines);
       full = λ e. absurd (true≢false e);
@@ -88,7 +85,6 @@ pub note-spec : {M : Type 1} → statement M
 note-spec =
     tie.close
     (tie.spec
-    is-seen-requires
     returns
     returns-2
     word-of-requires
@@ -98,6 +94,6 @@ note-spec =
     cast-put-line
     cast-put-line-2
     put-line-requires
-    add-t11
+    add-t10
     same-length
     returns-3)
