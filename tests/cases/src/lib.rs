@@ -17,6 +17,7 @@ use file::{File, SESSION};
 use grow::{Careless, Rule, Style};
 use order::Lattice;
 pub use rng::Rng;
+use std::collections::BTreeSet;
 use tree::Script;
 
 /// The arguments of one call of run, and of check by its first two.
@@ -153,7 +154,7 @@ fn with_inputs(rng: &mut Rng, lattice: Lattice, script: Script) -> Draft {
         values: values(rng, &file),
         limit: limit(rng, &file),
         list: list::list(rng, &file),
-        log: log(rng),
+        log: log(rng, &file),
         lattice,
         file,
         script: None,
@@ -185,13 +186,23 @@ fn limit(rng: &mut Rng, file: &File) -> u32 {
 }
 
 /// A log's length in words, not always a multiple of four.
-fn log(rng: &mut Rng) -> usize {
+fn log(rng: &mut Rng, file: &File) -> usize {
     match rng.below(10) {
         0 => rng.below(4),
-        1..=3 => rng.below(40),
+        1 | 2 => rng.below(40),
+        3 => tight_log(rng, file),
         4 => rng.below(200),
         _ => 1600 + rng.below(4),
     }
+}
+
+/// At most a line for each assignment and for each signal that is emitted: a script that writes each of these
+/// lines once fills it exactly, and may then go on with emissions that are no lines.
+fn tight_log(rng: &mut Rng, file: &File) -> usize {
+    let of_kind = |kind: u8| file.nodes.iter().filter(move |node| node.kind == kind);
+    let signals: BTreeSet<u16> = of_kind(6).map(|emits| emits.a).collect();
+    let most = of_kind(1).count() + signals.len();
+    4 * rng.between(0, most) + rng.below(4)
 }
 
 /// Puts up to `count` faults into a draft, at least one if any of eight tries applies. Faults below the
@@ -261,6 +272,17 @@ mod tests {
             assert!(expressions.len() <= file::MOST_EXPRESSIONS);
             assert!((1..=file::MOST_NODES).contains(&nodes.len()));
         }
+    }
+
+    #[test]
+    fn many_scripts_emit_a_signal_twice() {
+        let emits_twice = |seed: &u64| {
+            let file = draft(&mut Rng::new(*seed)).file;
+            let emissions = file.nodes.iter().filter(|node| node.kind == 6);
+            let mut seen = BTreeSet::new();
+            !emissions.into_iter().all(|node| seen.insert(node.a))
+        };
+        assert!((0..1000).filter(emits_twice).count() > 400);
     }
 
     #[test]

@@ -33,27 +33,36 @@ pub fn session_signals(file: &File) -> Vec<u32> {
         .collect()
 }
 
-/// The session signals that some when or watching tests.
-fn tested_signals(file: &File) -> Vec<u32> {
-    let tests = |name: u32| {
+/// The kinds of nodes that emit a signal, and that test one.
+const EMITS: &[u8] = &[6];
+const TESTS: &[u8] = &[8, 9];
+
+/// The session signals that some node of these kinds names.
+fn named_by(file: &File, kinds: &[u8]) -> Vec<u32> {
+    let names = |name: u32| {
         let mut nodes = file.nodes.iter();
-        nodes.any(|node| matches!(node.kind, 8 | 9) && u32::from(node.a) == name)
+        nodes.any(|node| kinds.contains(&node.kind) && u32::from(node.a) == name)
     };
     let mut signals = session_signals(file);
-    signals.retain(|&name| tests(name));
+    signals.retain(|&name| names(name));
     signals
 }
 
 /// A list that is not refused; an empty one where the script has no session signal.
 pub fn list(rng: &mut Rng, file: &File) -> Vec<u32> {
-    let (all, tested) = (session_signals(file), tested_signals(file));
+    let (tested, emitted) = (named_by(file, TESTS), named_by(file, EMITS));
+    let all = session_signals(file);
     let mut list = vec![];
     let mut instant: u32 = 1;
     for place in 0..length(rng) {
         if place > 0 || rng.chance(1, 2) {
             instant = instant.saturating_add(gap(rng));
         }
-        let from = if rng.chance(3, 4) { &tested } else { &all };
+        let from = match rng.below(6) {
+            0..=3 => &tested,
+            4 => &emitted,
+            _ => &all,
+        };
         list.extend(rng.pick(from).into_iter().flat_map(|name| [instant, name]));
     }
     list

@@ -5,12 +5,12 @@ use crate::demand_three::{self, Vary};
 use crate::engine::{Engine, Raw, Reference, Wrapper};
 use crate::report::Report;
 use crate::tally::Tally;
-use crate::{examples, faults, long_runs, small_lists, sweep};
+use crate::{examples, faults, long_runs, small_lists, small_loops, sweep};
 use reference::{Fault, Rules};
 
 /// Faults that let a reader see what is sealed; demand 3 must not hold under any of them, where the runs
-/// differ in this. Lists alone are enough where a sealed signal is tested, or where it takes a step.
-const LEAKS: [(Fault, Vary); 15] = [
+/// differ in this. Lists alone are enough where a sealed signal is tested, or where steps are counted by it.
+const LEAKS: [(Fault, Vary); 17] = [
     (Fault::WhileAgainstConditionOnly, Vary::StartsAndLists),
     (Fault::ParallelOneWay, Vary::StartsAndLists),
     (Fault::LetFlowUnchecked, Vary::StartsAndLists),
@@ -20,12 +20,14 @@ const LEAKS: [(Fault, Vary); 15] = [
     (Fault::SecondOperandIgnored, Vary::StartsAndLists),
     (Fault::LetWritesLine, Vary::StartsAndLists),
     (Fault::EveryLevelLogged, Vary::StartsAndLists),
+    (Fault::RepeatTakesNoStep, Vary::StartsAndLists),
     (Fault::WhenFlowUnchecked, Vary::Lists),
     (Fault::WatchingFlowUnchecked, Vary::Lists),
     (Fault::SequenceReversed, Vary::Lists),
     (Fault::ParallelOneWay, Vary::Lists),
     (Fault::WhileAgainstConditionOnly, Vary::Lists),
     (Fault::ListedTakesStep, Vary::Lists),
+    (Fault::RepeatTakesNoStep, Vary::Lists),
 ];
 
 /// The most pairs that are tried under a leak.
@@ -64,6 +66,11 @@ pub fn small_lists(report: &mut Report) {
     report.line("every list of up to five small words", words);
     let pairs = compared(small_lists::compare_pairs());
     report.line("every list of three early pairs", pairs);
+}
+
+pub fn small_loops(report: &mut Report) {
+    let loops = small_loops::compare_all().map(|runs| format!("in {runs} runs"));
+    report.line("every loop of three small acts", loops);
 }
 
 /// Demand 3 of the library, by both ways in, and its floors.

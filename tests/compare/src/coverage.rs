@@ -1,6 +1,7 @@
 //! What the compared cases reached. A comparison that reaches too little of something fails.
 
 use crate::divisions;
+use crate::emissions;
 use crate::floors;
 use crate::lists;
 use crate::outcome::Outcome;
@@ -26,6 +27,7 @@ enum Topic {
     Run,
     List,
     Division,
+    Emission,
     Fault,
     Before,
 }
@@ -139,6 +141,11 @@ impl Coverage {
         self.count_notes(Topic::Division, &divisions::NOTES, &reached);
     }
 
+    /// Counts what the emissions of a run brought about.
+    pub fn record_emissions(&mut self, reached: [bool; emissions::NOTES]) {
+        self.count_notes(Topic::Emission, &emissions::notes(), &reached);
+    }
+
     /// Counts how another run of a recorded case ended.
     pub fn record_again(&mut self, made: &Made, outcome: &Outcome) {
         if outcome.refusal() == 0 {
@@ -196,6 +203,9 @@ impl Coverage {
         all.extend(lists::NOTES.map(|(note, floor)| (Topic::List, note.to_string(), floor)));
         all.extend(
             divisions::NOTES.map(|(note, floor)| (Topic::Division, note.to_string(), floor)),
+        );
+        all.extend(
+            emissions::notes().map(|(note, floor)| (Topic::Emission, note.to_string(), floor)),
         );
         all.extend(damage::sorts().map(|sort| (Topic::Fault, sort_name(sort), SORT_FLOOR)));
         all.extend((1..15).map(|refusal| (Topic::Before, before(refusal), ORDER_FLOOR)));
@@ -257,6 +267,7 @@ fn title(topic: Topic) -> &'static str {
         Topic::Run => "run",
         Topic::List => "list",
         Topic::Division => "division",
+        Topic::Emission => "line or repeat",
         Topic::Fault => "fault answered by its refusal",
         Topic::Before => "faults of two refusals at once",
     }

@@ -146,9 +146,36 @@ fn listed_runs() -> Vec<LongRun> {
     ]
 }
 
+/// Runs with emissions that find their signal present. The log is full from the first emission on, or fills late.
+fn repeating_runs() -> Vec<LongRun> {
+    let twice = sequence(Process::Emit(SIGNAL), next_instant());
+    vec![
+        long_run(
+            "an emission in each round",
+            forever(Process::Emit(SIGNAL)),
+            MOST_STEPS,
+            LINE_WORDS,
+        ),
+        long_run(
+            "an emission of a listed signal in each instant",
+            forever(next_instant()),
+            200_000,
+            LINE_WORDS,
+        )
+        .listed(1..=50_000),
+        long_run(
+            "two emissions in each instant until the log is full",
+            forever(twice),
+            MOST_STEPS,
+            50_000 * LINE_WORDS + 3,
+        ),
+    ]
+}
+
 /// Compares each run; gives its title, and how library and reference differ.
 pub fn compare_all() -> Vec<(&'static str, Result<(), String>)> {
-    let all = runs().into_iter().chain(listed_runs());
+    let all = [runs(), listed_runs(), repeating_runs()];
+    let all = all.into_iter().flatten();
     all.map(|run| (run.title, compare_run(run))).collect()
 }
 

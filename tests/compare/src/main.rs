@@ -96,6 +96,7 @@ fn all() -> bool {
         checks::comparison(report, CASES, SEED);
         checks::long_runs(report);
         checks::small_lists(report);
+        checks::small_loops(report);
         checks::demand_three(report, PAIRS, SEED);
         checks::leaks(report, SEED);
         checks::faults(report, SEED);

@@ -197,6 +197,7 @@ mod tests {
             Fault::LocalNotReset,
             Fault::ListedStays,
             Fault::ListPlaceLast,
+            Fault::RepeatNeedsRoom,
         ] {
             let wrong = Reference(Rules { fault: Some(fault) });
             let differs = |case: &Case| compare(&right, &wrong, case).is_err();

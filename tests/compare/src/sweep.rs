@@ -3,6 +3,7 @@
 use crate::coverage::{self, declares_in_a_loop, Coverage};
 use crate::difference::{compare, show, Difference};
 use crate::divisions;
+use crate::emissions;
 use crate::engine::{Engine, Raw, Reference, Wrapper};
 use crate::lists;
 use crate::outcome::{outcome, wrong_out, Outcome};
@@ -12,6 +13,9 @@ use cases::file::File;
 use cases::list::{in_order, pairs, session_signals};
 use cases::{Case, Made, Rng};
 use reference::{Fault, Rules};
+
+/// The most steps of a run that is run again with small changes.
+const MOST_STEPS_AGAIN: u32 = 2000;
 
 /// The seed of a case: its number under the seed of the sweep.
 pub fn case_seed(seed: u64, number: u64) -> u64 {
@@ -58,6 +62,7 @@ pub fn one(seed: u64, coverage: &mut Coverage) -> Result<(), Difference> {
     coverage.record(&made, &outcome);
     record_list(seed, &made.case, &outcome, coverage).map_err(difference)?;
     record_divisions(seed, &made.case, &outcome, coverage).map_err(difference)?;
+    record_emissions(&made.case, &outcome, &mut rng, coverage);
     near(seed, &made, &outcome, &mut rng, coverage)
 }
 
@@ -83,6 +88,14 @@ fn record_divisions(
         coverage.record_divisions(divisions::reached(library(seed), case, outcome)?);
     }
     Ok(())
+}
+
+/// Of one run in three, and of none of many steps, since each note asks for a run of its own.
+fn record_emissions(case: &Case, outcome: &Outcome, rng: &mut Rng, coverage: &mut Coverage) {
+    let is_short = outcome.steps() <= MOST_STEPS_AGAIN;
+    if outcome.refusal() == 0 && is_short && rng.chance(1, 3) {
+        coverage.record_emissions(emissions::reached(case, outcome));
+    }
 }
 
 /// Whether a local is entered again while its signal is present: the outcome is another if the signal stays.
@@ -125,7 +138,7 @@ fn near(
     rng: &mut Rng,
     coverage: &mut Coverage,
 ) -> Result<(), Difference> {
-    if outcome.refusal() != 0 || outcome.steps() > 2000 || rng.chance(1, 2) {
+    if outcome.refusal() != 0 || outcome.steps() > MOST_STEPS_AGAIN || rng.chance(1, 2) {
         return Ok(());
     }
     let mut close = made.clone();
@@ -142,6 +155,7 @@ fn near(
     let outcome = agree(seed, &close.case)?;
     coverage.extra(coverage::NEAR_ENDING);
     coverage.record_again(&close, &outcome);
+    record_emissions(&close.case, &outcome, rng, coverage);
     record_list(seed, &close.case, &outcome, coverage)
         .map_err(|says| Difference::new(seed, &close.case, says))
 }

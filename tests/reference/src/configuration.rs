@@ -102,6 +102,16 @@ impl Configuration {
         self.types.len()
     }
 
+    /// What Γ says of a name.
+    pub fn typing(&self, name: Name) -> Option<Typing> {
+        self.types.get(name).copied().flatten()
+    }
+
+    /// The name of the file that a name stands for.
+    pub fn origin(&self, name: Name) -> Name {
+        self.typing(name).map_or(name, |typing| typing.origin)
+    }
+
     /// The newest name made for this name of the file, if any was.
     pub fn newest_made_for(&self, origin: Name) -> Option<Name> {
         let made_for = |typing: &Option<Typing>| typing.is_some_and(|t| t.origin == origin);

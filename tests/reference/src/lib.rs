@@ -1,10 +1,10 @@
 //! A second interpreter of station scripts, written from the papers and not from
-//! the code: the scope paper (called 01 in the comments), the change requests that
-//! have landed (called 02: requests (a) and (b)) and report RR-5594 (called the
-//! report). Where 01 leaves refusals 4 to 10 and 13 open it takes the readings of
-//! docs/DECISIONS.md. It checks a script file against a level book, runs it by
-//! rewriting trees by the report's Figures 1 to 4, and derives the types of Figure
-//! 5 by brute force. A flag of the tests plants one fault in one of its rules.
+//! the code: the scope paper (called 01 in the comments), the changes of its rules
+//! (called 02: (a), (b) and (c)) and report RR-5594 (called the report). Where 01
+//! leaves refusals 4 to 10 and 13 open it takes the readings of docs/DECISIONS.md.
+//! It checks a script file against a level book, runs it by rewriting trees by the
+//! report's Figures 1 to 4, and derives the types of Figure 5 by brute force. A
+//! flag of the tests plants one fault in one of its rules.
 
 #![forbid(unsafe_code)]
 
@@ -12,6 +12,7 @@ mod arguments;
 mod book;
 mod check;
 mod configuration;
+mod emissions;
 pub mod examples;
 mod fault;
 mod file;

@@ -3,6 +3,7 @@
 use crate::book::{Book, Level};
 use crate::check::Accepted;
 use crate::configuration::{step, Configuration, Effect, SignalEnvironment, Step, Typing};
+use crate::emissions::Emissions;
 use crate::fault::{Fault, Rules};
 use crate::file::NameEntry;
 use crate::inputs::Inputs;
@@ -23,6 +24,7 @@ struct Run<'a> {
     limit: u32,
     inputs: Inputs,
     configuration: Configuration,
+    emissions: Emissions,
     steps: u32,
 }
 
@@ -38,6 +40,7 @@ pub fn run(rules: Rules, accepted: &Accepted, arguments: RunArguments) -> RunAns
         limit: arguments.limit,
         inputs: Inputs::new(rules, accepted, reader, arguments.list),
         configuration: Configuration::initial(&accepted.file, values),
+        emissions: Emissions::default(),
         steps: 0,
     };
     let ending = run.take_steps(&mut log);
@@ -68,15 +71,21 @@ impl Run<'_> {
             };
             self.write_line(&next.effect, log);
             self.steps += self.steps_of(&next.effect);
+            self.emissions
+                .note(self.rules, &self.configuration, &next.effect);
             self.configuration.take(self.rules, next);
         }
     }
 
     /// One, also where an instant change makes signals present: 'in the same step
-    /// as the change'.
+    /// as the change'; and one where an emission finds its signal present, which
+    /// 'takes its step'.
     fn steps_of(&self, effect: &Effect) -> u32 {
-        let listed = matches!(effect, Effect::ChangesInstant(i) if !i.is_empty());
-        1 + u32::from(listed && self.rules.has(Fault::ListedTakesStep))
+        match (effect, self.rules.fault) {
+            (Effect::ChangesInstant(i), Some(Fault::ListedTakesStep)) if !i.is_empty() => 2,
+            (Effect::Emits(a), Some(Fault::RepeatTakesNoStep)) if !self.makes_line(*a) => 0,
+            _ => 1,
+        }
     }
 
     /// 'Before each step: 0 finished if the script is nil; else 1 spent if the
@@ -96,14 +105,29 @@ impl Run<'_> {
     }
 
     fn typing(&self, name: Name) -> Option<Typing> {
-        self.configuration.types.get(name).copied().flatten()
+        self.configuration.typing(name)
+    }
+
+    /// Whether an emission of `a` is a line for those who see `a`.
+    fn makes_line(&self, a: Name) -> bool {
+        self.emissions.is_line(self.rules, &self.configuration, a)
+    }
+
+    /// Every assignment is a line, also one of the value that its register holds;
+    /// only a planted fault leaves that one out.
+    fn is_left_out(&self, x: Name, value: i32) -> bool {
+        let held = self.configuration.store.get(x);
+        held == Some(&value) && self.rules.has(Fault::EqualAssignmentIsNoLine)
     }
 
     /// The name and value that a step writes: 'for each assignment and emission
     /// ...; a let writes none'. Nor does an instant change: 'without a log line'.
+    /// Nor does an emission that finds its signal present.
     fn written(&self, effect: &Effect) -> Option<(Typing, i32)> {
         match *effect {
+            Effect::Assigns(x, value) if self.is_left_out(x, value) => None,
             Effect::Assigns(x, value) => Some((self.typing(x)?, value)),
+            Effect::Emits(a) if !self.makes_line(a) => None,
             Effect::Emits(a) if self.rules.has(Fault::EmissionLogsName) => {
                 let typing = self.typing(a)?;
                 Some((typing, typing.origin as i32))
@@ -125,31 +149,39 @@ impl Run<'_> {
         }
     }
 
+    fn sees(&self, name: Name) -> bool {
+        let typing = self.typing(name);
+        typing.is_some_and(|typing| self.is_visible(typing))
+    }
+
+    /// Whether a step needs four words of the log. An emission that finds its
+    /// signal present 'needs no log words'.
     fn needs_line(&self, effect: &Effect) -> bool {
-        let sealed_count = self.rules.has(Fault::SealedWritesUseLog);
         let written = self.written(effect);
-        let listed = match effect {
-            Effect::ChangesInstant(i) => {
-                self.rules.has(Fault::ListedNeedsLine) && self.visible(i).next().is_some()
+        match (effect, self.rules.fault) {
+            (Effect::ChangesInstant(i), Some(Fault::ListedNeedsLine)) => {
+                self.visible(i).next().is_some()
             }
-            _ => false,
-        };
-        listed || written.is_some_and(|(typing, _)| sealed_count || self.is_visible(typing))
+            (Effect::Emits(a), Some(Fault::RepeatNeedsRoom)) => self.sees(*a),
+            (Effect::Emits(_), Some(Fault::EmissionNeedsNoRoom)) => false,
+            (_, Some(Fault::SealedWritesUseLog)) => written.is_some(),
+            _ => written.is_some_and(|(typing, _)| self.is_visible(typing)),
+        }
     }
 
     fn write_line(&self, effect: &Effect, log: &mut Log) {
-        if let Effect::ChangesInstant(i) = effect {
-            return self.write_listed(i, log);
-        }
-        let Some((typing, value)) = self.written(effect) else {
-            return;
-        };
-        if !self.is_visible(typing) {
-            log.skip(self.rules);
-            return;
-        }
         let instant = self.configuration.instant;
-        log.write(self.line(instant, typing.origin, value));
+        match (self.written(effect), effect) {
+            (Some((typing, value)), _) if self.is_visible(typing) => {
+                log.write(self.line(instant, typing.origin, value));
+            }
+            (Some(_), _) => log.skip(self.rules.has(Fault::SealedWritesUseLog)),
+            (None, Effect::ChangesInstant(i)) => self.write_listed(i, log),
+            (None, Effect::Emits(a)) if self.sees(*a) => {
+                log.skip(self.rules.has(Fault::RepeatsUseLog));
+            }
+            _ => {}
+        }
     }
 
     /// 'Step from 1, instant from 0, name, value.'
@@ -166,8 +198,7 @@ impl Run<'_> {
 
     /// The names of I that the reader sees.
     fn visible<'i>(&'i self, i: &'i SignalEnvironment) -> impl Iterator<Item = Name> + 'i {
-        let is_visible = |a: Name| self.typing(a).is_some_and(|typing| self.is_visible(typing));
-        i.iter().copied().filter(move |&a| is_visible(a))
+        i.iter().copied().filter(|&a| self.sees(a))
     }
 
     /// Only a planted fault writes lines for listed signals.

@@ -1,5 +1,7 @@
 //! The interpreter against the examples of the papers.
 
+use std::collections::BTreeSet;
+
 use reference::examples::{all, Example, ExampleRun};
 use reference::{check, pairs, run, Rules, RunArguments};
 
@@ -37,6 +39,27 @@ fn run_gives_the_papers_answers() {
     for example in all() {
         for expected in &example.runs {
             assert_run(&example, expected);
+        }
+    }
+}
+
+/// Whether a name is of kind 1 and has the owner 65535.
+fn is_session_signal(script: &[u8], name: u32) -> bool {
+    let at = 4 * name as usize;
+    script[at] == 1 && script[at + 2..at + 4] == [0xFF, 0xFF]
+}
+
+/// Nothing makes a session signal absent before the instant ends, so that at most
+/// one emission in an instant makes it present.
+#[test]
+fn a_session_signal_has_one_line_in_an_instant() {
+    for example in all() {
+        for run in &example.runs {
+            let of_signal = |line: &&[u32; 4]| is_session_signal(&example.script, line[2]);
+            let mut lines = run.lines.iter().filter(of_signal);
+            let mut seen = BTreeSet::new();
+            let once = lines.all(|line| seen.insert((line[1], line[2])));
+            assert!(once, "{}", example.name);
         }
     }
 }

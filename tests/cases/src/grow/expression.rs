@@ -35,6 +35,12 @@ impl Grower<'_> {
         }
     }
 
+    /// What a register holds.
+    pub fn itself(&mut self, name: usize) -> Expression {
+        self.take(1);
+        Expression::Register(name)
+    }
+
     /// An expression to be tested: mostly one that reads a register.
     pub fn test(&mut self, level: usize) -> Expression {
         if self.rng.chance(1, 2) {

@@ -21,10 +21,13 @@ enum Form {
     CutOff,
     HeldBack,
     Awaiting,
+    EmitsTwice,
+    EmitsAgain,
+    Answers,
 }
 
 /// Each form with its least size and its weight.
-const FORMS: [(Form, usize, usize); 14] = [
+const FORMS: [(Form, usize, usize); 17] = [
     (Form::Sequence, 3, 20),
     (Form::Parallel, 3, 14),
     (Form::Conditional, 3, 11),
@@ -39,6 +42,9 @@ const FORMS: [(Form, usize, usize); 14] = [
     (Form::CutOff, 7, 8),
     (Form::HeldBack, 20, 8),
     (Form::Awaiting, 5, 9),
+    (Form::EmitsTwice, 5, 9),
+    (Form::EmitsAgain, 13, 4),
+    (Form::Answers, 4, 4),
 ];
 
 /// A form of at most `size` nodes, by weight.
@@ -84,6 +90,9 @@ impl Grower<'_> {
             Form::CutOff => self.cut_off(bounds, size),
             Form::HeldBack => self.held_back(bounds, size),
             Form::Awaiting => self.awaiting(bounds, size),
+            Form::EmitsTwice => self.emits_twice(bounds, size),
+            Form::EmitsAgain => self.emits_again(bounds, size),
+            Form::Answers => self.answers(bounds, size),
         }
     }
 

@@ -6,6 +6,7 @@
 
 mod bounds;
 mod division;
+mod emission;
 mod expression;
 mod forms;
 mod leaks;
@@ -171,9 +172,13 @@ impl Grower<'_> {
         process.unwrap_or(Process::Nil)
     }
 
+    /// An assignment, now and then of the value that the register holds.
     fn assignment(&mut self, write: usize) -> Option<Process> {
         let name = self.name(false, |lattice, level| lattice.at_most(write, level))?;
-        let value = self.expression(self.names[name].level);
+        let value = match self.rng.chance(1, 16) {
+            true => self.itself(name),
+            false => self.expression(self.names[name].level),
+        };
         Some(Process::Assign(name, value))
     }
 }

@@ -74,6 +74,7 @@ impl Grower<'_> {
             4 if size >= 9 => self.pause_then(bounds, size),
             5 if size >= 3 => self.in_parallel(bounds, size),
             6 if size >= 3 => self.in_sequence(bounds, size),
+            7 if size >= 4 => self.renews(bounds, size),
             _ => self.process(bounds, size),
         }
     }

@@ -169,14 +169,16 @@ fn one_instant_only() -> Example {
         .list(&[1, 1])
 }
 
-/// An emission of a listed signal is a line like any other. Change, emit, the
-/// when goes.
+/// An emission of a listed signal finds it present, and is no line. Change, emit,
+/// the when goes.
 fn emitted_as_well() -> Example {
     let mut n = Names::new();
     let a = n.signal(L);
     Example::script("when a do emit a", ENTERING, n, when(a, emit(a)))
         .accepted(0, 0)
-        .run((&[0], 9), finished(3, 1), &[[2, 1, 0, 1]], &[1])
+        .run((&[0], 9), finished(3, 1), &[], &[1])
+        .list(&[1, 0])
+        .run_with((0, &[0], 9, 0), finished(3, 1), &[], &[1])
         .list(&[1, 0])
 }
 

@@ -271,8 +271,8 @@ fn local_entered_again() -> Example {
     )
 }
 
-/// 'A line is written for each assignment and emission to a name at or below
-/// the reader's level; a let writes none.' Steps counted by hand.
+/// 'A line is written for each assignment ... to a name at or below the reader's
+/// level; a let writes none.' Steps counted by hand.
 fn lines() -> Vec<Example> {
     let (n, y, x) = low_and_high();
     let two_writes = || seq(assign(x, constant(1)), assign(y, constant(2)));

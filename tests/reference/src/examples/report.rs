@@ -283,14 +283,15 @@ fn pin() -> Vec<Example> {
     vec![
         // Node 6 is alpha: its when tests H before b_L is written.
         Example::script("program (5), PIN", TYPES, high_names, high).refused(11, 6),
-        // If, emit a, drop, when goes, drop, emit b, drop, emit c, drop, emit a.
+        // If, emit a, drop, when goes, drop, emit b, drop, emit c, drop, and emit a,
+        // which finds it present.
         // If, drop, trade, emit c, drop, emit a, drop, when goes, drop, emit b.
         Example::script("program (5), PIN, all low", TYPES, low_names, low)
             .accepted(0, 0)
             .run(
                 (&[0, 0, 0, 0], 100),
                 finished(10, 0),
-                &[[2, 0, 1, 1], [6, 0, 2, 1], [8, 0, 3, 1], [10, 0, 1, 1]],
+                &[[2, 0, 1, 1], [6, 0, 2, 1], [8, 0, 3, 1]],
                 &[0, 1, 1, 1],
             )
             .run(

@@ -3,13 +3,12 @@
 //! sentence that each one names.
 
 use super::script::*;
-use super::{finished, log_full, spent, three_signals, Example, H, L};
+use super::{finished, spent, three_signals, Example, H, L};
 
 const VALUES: &str = "01, 'Script file': values";
 const DIVISION: &str = "02 (b), division";
 const LEVELS: &str = "01, 'Write level and test level'";
 const STEPS: &str = "01, 'Steps'";
-const CALLS: &str = "01, 'Calls'";
 
 const MAX: i32 = 2147483647;
 const MIN: i32 = -2147483648;
@@ -25,7 +24,6 @@ pub fn all() -> Vec<Example> {
         watching_changes(),
         when_changes(),
         sequence_changes(),
-        emissions(),
     ];
     groups.into_iter().flatten().collect()
 }
@@ -253,29 +251,4 @@ fn sequence_changes() -> Vec<Example> {
     )
     .accepted(1, 0)
     .run((&[1, 0, 0], 5), spent(5, 4), &[], &[0, 0, 0])]
-}
-
-/// An emission of a signal that is present writes a line like any other; so does
-/// one of an owned signal. 'Log full if this step needs a line and no four words
-/// are left': a step that needs none goes on.
-fn emissions() -> Vec<Example> {
-    let mut n = Names::new();
-    let (a, b) = (n.signal(L), n.signal(L));
-    let process = local(b, seq(emit(a), seq(emit(b), emit(a))));
-    vec![
-        Example::script("local b in (emit a; (emit b; emit a))", CALLS, n, process)
-            .accepted(0, 0)
-            .run(
-                (&[1, 0], 99),
-                finished(6, 0),
-                &[[2, 0, 0, 1], [4, 0, 1, 1], [6, 0, 0, 1]],
-                &[1, 0],
-            )
-            .run_with(
-                (0, &[1, 0], 99, 11),
-                log_full(5, 0),
-                &[[2, 0, 0, 1], [4, 0, 1, 1]],
-                &[1, 0],
-            ),
-    ]
 }

@@ -285,11 +285,11 @@ fn runs() -> Vec<Example> {
         .refused_run((1, &[0, 0, 1], 9), 13, 2)
         .refused_run((1, &[-5, 1, 0], million + 1), 14, 0)
         .refused_run((0, &[-5, 1, 0], u32::MAX), 14, 0)
-        // Local, x, drop, emit.
+        // Local, x, drop, and an emission that finds a present.
         .run(
             (&[-5, 1, 0], million),
             super::finished(4, 0),
-            &[[2, 0, 0, 4], [4, 0, 1, 1]],
+            &[[2, 0, 0, 4]],
             &[4, 1, 0],
         );
     vec![example]
