@@ -119,7 +119,7 @@ void station_check(const uint8_t *book, size_t book_len,
 /*
  * Runs a script under a level book. `out` becomes number, place, ending, steps, instants, lines.
  *
- *   reader   a level of the book: the log takes lines for names at or below it
+ *   reader   a level of the book: the log takes lines for names at or below it (station_line_word says which)
  *   values   one number for each name of the script: a register's value, 0 or 1 for a signal, 0 for an owned name;
  *            afterwards the state after the counted steps, with owned names 0
  *   limit    the most steps, 0 to STATION_MAX_STEPS

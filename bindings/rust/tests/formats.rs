@@ -47,14 +47,22 @@ struct Example {
 
 /// What the program `station` prints; its list is empty.
 fn printed(book: &[u8], example: &mut Example) -> Result<Vec<String>, Refusal> {
-    let mut log = [0; 4 * 256];
+    printed_with(book, example, &mut [0; 4 * 256])
+}
+
+/// The same with another log.
+fn printed_with(
+    book: &[u8],
+    example: &mut Example,
+    log: &mut [u32],
+) -> Result<Vec<String>, Refusal> {
     let Example {
         script,
         values,
         list,
     } = example;
     let levels = check(book, script)?;
-    let run = run(book, script, 0, values, 1000, list, &mut log)?;
+    let run = run(book, script, 0, values, 1000, list, log)?;
     let ending = match run.ending {
         Ending::Finished => "finished",
         Ending::Spent => "spent",
@@ -62,7 +70,7 @@ fn printed(book: &[u8], example: &mut Example) -> Result<Vec<String>, Refusal> {
     };
     let mut text = vec![format!("accepted {} {}", levels.write, levels.test)];
     let line = |l: station::Line| format!("{} {} {} {}", l.step, l.instant, l.name, l.value);
-    text.extend(lines(&log, run.lines).map(line));
+    text.extend(lines(log, run.lines).map(line));
     text.push(format!("{ending} {} {}", run.steps, run.instants));
     Ok(text)
 }
@@ -98,10 +106,10 @@ fn examples() -> Vec<(Example, Vec<String>)> {
 fn scripts_are_answered_as_the_document_says() {
     let book = &all("book")[0];
     let examples = examples();
-    assert_eq!(examples.len(), 4);
-    assert_eq!((all("script").len(), all("values").len()), (4, 4));
+    assert_eq!(examples.len(), 5);
+    assert_eq!((all("script").len(), all("values").len()), (5, 5));
     let lists = examples.iter().map(|(example, _)| example.list.len());
-    assert_eq!(lists.collect::<Vec<usize>>(), [0, 0, 0, 6]);
+    assert_eq!(lists.collect::<Vec<usize>>(), [0, 0, 0, 6, 0]);
     for (mut example, answer) in examples {
         assert_eq!(printed(book, &mut example), Ok(answer));
     }
@@ -110,12 +118,34 @@ fn scripts_are_answered_as_the_document_says() {
 #[test]
 fn the_script_that_waits_finishes_only_with_its_list() {
     let book = &all("book")[0];
-    let (mut example, _) = examples().pop().expect("an example with a list");
+    let mut examples = examples().into_iter().map(|(example, _)| example);
+    let mut example = examples
+        .find(|example| !example.list.is_empty())
+        .expect("an example with a list");
     printed(book, &mut example).expect("accepted");
     assert_eq!(example.values, [1, 1]);
     (example.values, example.list) = (vec![0, 0], vec![]);
     let text = printed(book, &mut example).expect("accepted");
     assert_eq!(text, ["accepted 0 0", "spent 1000 1000"]);
+}
+
+#[test]
+fn the_second_emission_needs_no_room() {
+    let book = &all("book")[0];
+    let (example, _) = examples().pop().expect("the script that emits twice");
+    let with_log_of = |words: usize| {
+        let (script, values) = (example.script.clone(), example.values.clone());
+        let list = vec![];
+        let mut example = Example {
+            script,
+            values,
+            list,
+        };
+        printed_with(book, &mut example, &mut vec![0; words]).expect("accepted")
+    };
+    assert_eq!(with_log_of(8).last().unwrap(), "finished 5 0");
+    assert_eq!(with_log_of(4), ["accepted 0 0", "1 0 1 1", "log full 4 0"]);
+    assert_eq!(with_log_of(0).last().unwrap(), "log full 0 0");
 }
 
 #[test]
