@@ -1,6 +1,6 @@
 -- 01's list by kind is `writeLevel`, `testLevel` and `need` of a process, from what its children have.
 use mathlib.Core.Path.{_≡_, refl, ap, _∙_}
-use mathlib.Core.Bool.{Bool, true, false, _&&_}
+use mathlib.Core.Bool.{Bool, true, _&&_}
 use mathlib.Core.List.{List, [], _∷_}
 use Prim.Native.Nat.{ℕ}
 use Rattle.prelude.proofs.Bools.{and-true}

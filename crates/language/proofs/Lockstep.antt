@@ -1,8 +1,8 @@
 -- Two systems that agree on the low names take the same step while something low may yet be written; after that,
 -- nothing low changes in either.
 use Prim.Native.Nat.{ℕ, suc}
-use mathlib.Core.Path.{_≡_, refl, ap, ap₂, sym, subst, _∙_}
-use mathlib.Core.Bool.{Bool, true, false, cond, not, _&&_, _||_, true≢false}
+use mathlib.Core.Path.{_≡_, refl, ap, ap₂, subst, _∙_}
+use mathlib.Core.Bool.{Bool, true, false, cond, not, _&&_, _||_}
 use mathlib.Core.Option.{Option, none, some}
 use mathlib.Core.List.{List}
 use mathlib.Core.Logic.{_⊎_, inl, inr, ⊎-map}
@@ -299,12 +299,13 @@ module _ {L : Type 0} (names : Names L) (low : ℕ → Bool) where
     pub steps : at .steps ≡ at′ .steps
     pub instants : at .instants ≡ at′ .instants
 
-  -- The line that a step calls for: two systems that agree on the low signals agree which emissions need one.
+  -- the line that a step calls for
   line-same :
       (at at′ : System L) → Twins at at′ → (b : Bool) (x : ℕ) (v : ℤ) →
       lineIf b (at .steps) (at .instants) x v ≡ lineIf b (at′ .steps) (at′ .instants) x v
   line-same at at′ q b x v = ap₂ (λ k i. lineIf b k i x v) (q .steps) (q .instants)
 
+  -- a low signal that an emission makes present in one of them it makes present in the other
   appears-same :
       {s t : List ℤ} → LowEqual low s t → (a : ℕ) → (low a && not (present s a)) ≡ (low a && not (present t a))
   appears-same {s} {t} q a = go (low a) refl
