@@ -3,8 +3,8 @@
 /// The words of a line.
 pub const LINE_WORDS: usize = 4;
 
-/// A line: an assignment to a name at or below the reader's level, or an emission of one that made its signal present. An
-/// emission that finds its signal present is no line.
+/// A line: an assignment to a name at or below the reader's level, or an emission of one that made its signal present.
+/// An emission that finds its signal present is no line.
 #[derive(Clone, Copy, Debug, PartialEq, Eq, Hash)]
 pub struct Line {
     /// The step, counted from 1.
