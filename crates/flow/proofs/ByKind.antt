@@ -1,9 +1,8 @@
 -- 01's list by kind is `writeLevel`, `testLevel` and `need` of a process, from what its children have.
 use mathlib.Core.Path.{_≡_, refl, ap, _∙_}
-use mathlib.Core.Bool.{Bool, true, _&&_}
+use mathlib.Core.Bool.{Bool, true, _&&_, and-true}
 use mathlib.Core.List.{List, [], _∷_}
 use Prim.Native.Nat.{ℕ}
-use Rattle.prelude.proofs.Bools.{and-true}
 use Rattle.lattice.specs.Lattice.{Lattice}
 use Rattle.language.specs.Syntax.{Names, Proc, nil, assign, letIn, ifThenElse, while, sequence, emit, local, watching, when, parallel}
 use Rattle.language.specs.Levels.{writeLevel, testLevel, need, needs}

@@ -7,7 +7,7 @@ use mathlib.Core.Option.{Option, none, some}
 use mathlib.Core.List.{List}
 use mathlib.Core.Logic.{_⊎_, inl, inr, ⊎-map}
 use lib.IntN.{ℤ}
-use Rattle.prelude.proofs.Bools.{by-cases, by-both}
+use Rattle.prelude.proofs.Bools.{and-same, by-cases, by-both}
 use Rattle.values.specs.Values.{holds, negation}
 use Rattle.language.specs.Syntax.{Names, Exp, constant, register, binary, negated, Occurs, here, left, right, under, Proc, nil, assign, letIn, ifThenElse, while, sequence, emit, local, watching, when, parallel, isNil}
 use Rattle.language.specs.Steps.{held, present, apply, evaluate, value, test, Output, silent, assigned, emitted, StepResult, inside, suspended, move, change, Inputs, step}
@@ -308,11 +308,7 @@ module _ {L : Type 0} (names : Names L) (low : ℕ → Bool) where
   -- a low signal that an emission makes present in one of them it makes present in the other
   appears-same :
       {s t : List ℤ} → LowEqual low s t → (a : ℕ) → (low a && not (present s a)) ≡ (low a && not (present t a))
-  appears-same {s} {t} q a = go (low a) refl
-    where
-      go : (b : Bool) → low a ≡ b → (b && not (present s a)) ≡ (b && not (present t a))
-      go true l = ap not (present-same q l)
-      go false l = refl
+  appears-same q a = and-same (low a) _ _ (λ l. ap not (present-same q l))
 
   called-same :
       (at at′ : System L) → Twins at at′ → {o o′ : Output} → Alike low o o′ →

@@ -1,6 +1,6 @@
 -- A node whose own move is next: what the move is, kind by kind, and what the bytes say after it.
 use mathlib.Core.Path.{_≡_, refl, sym, ap, _∙_, subst}
-use mathlib.Core.Bool.{true, false, true≢false}
+use mathlib.Core.Bool.{true, false, true≢false, and-true}
 use mathlib.Core.Logic.{inl, inr, ⊎-elim}
 use mathlib.Core.List.{List, [], _∷_}
 use Prim.Native.Nat.{ℕ, suc, _-_, _<_}
@@ -11,7 +11,6 @@ use borrow.Rule.Slice.PartMut.{putMid}
 use lib.IntN.{ℤ, pos}
 use lib.ListN.{getD, length, take, drop, set, replicate, length-set, length-replicate, length-drop}
 use lib.Seq.{length-take-le, drop-set-lt}
-use Rattle.prelude.proofs.Bools.{and-true}
 use Rattle.language.specs.Syntax.{Proc, assign, letIn, ifThenElse, while, emit, local, isNil}
 use Rattle.language.specs.Steps.{value, test, suspended, move}
 use Rattle.language.specs.Calls.{calledAt}

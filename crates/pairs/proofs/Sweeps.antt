@@ -1,12 +1,13 @@
 -- The sweep over the pairs: what holds when the pairs of all places below p are done.
-use mathlib.Core.Path.{_≡_, refl, sym, ap, _∙_, subst}
-use mathlib.Core.Bool.{Bool, true, false, _&&_}
+use mathlib.Core.Path.{_≡_, sym, ap, _∙_, subst}
+use mathlib.Core.Bool.{true, false}
 use mathlib.Core.List.{List}
 use Prim.Native.Nat.{ℕ, _+_, _*_, _/_, _%_, _≤_, _<_}
 use native.Mathlib.Decide.{ℕ-discrete, decLt}
 use native.Mathlib.Omega.{arith}
 use lib.Dec.{eqb, ltb}
 use borrow.Author.Tests.{lt-ltb, le-ltb, ltb-true, eq-eqb, ne-eqb}
+use Rattle.prelude.proofs.Bools.{and-same}
 use Rattle.prelude.proofs.Searches.{first-is, first-none, first-same, any-same}
 use Rattle.order.specs.Order.{Relation, missed, isLeastUpper, leastUpper}
 use Rattle.book.specs.LevelBook.{mostLevels}
@@ -179,15 +180,11 @@ module _ (R S : Relation) (n : ℕ) (same : (i j : ℕ) → i < n → j < n → 
 
   lacks-same : (p : ℕ) → lacksUpper R n p ≡ lacksUpper S n p
   lacks-same p =
-      guarded (ltb (p / mostLevels) (p % mostLevels)) (ltb (p % mostLevels) n) (λ u v.
+      and-same (ltb (p / mostLevels) (p % mostLevels)) _ _ (λ u.
+      and-same (ltb (p % mostLevels) n) _ _ (λ v.
       let h = ltb-true (p / mostLevels) (p % mostLevels) u in
       let k = ltb-true (p % mostLevels) n v in
-      ap (λ m. eqb m n) (least-same (p / mostLevels) (p % mostLevels) (omega (arith, h, k)) k))
-    where
-      guarded : (x y : Bool) {u v : Bool} → (x ≡ true → y ≡ true → u ≡ v) → (x && (y && u)) ≡ (x && (y && v))
-      guarded true true h = h refl refl
-      guarded true false h = refl
-      guarded false y h = refl
+      ap (λ m. eqb m n) (least-same (p / mostLevels) (p % mostLevels) (omega (arith, h, k)) k)))
 
   pub swept-same : (t : List (List ℕ)) (place : ℕ) → Swept R n t place → Swept S n t place
   swept-same t place w =

@@ -7,6 +7,7 @@ use Prim.Native.Nat.{ℕ, _<_}
 use native.Mathlib.Omega.{arith}
 use lib.Dec.{eqb, ltb}
 use borrow.Author.Tests.{eqb-true, ltb-true, lt-ltb}
+use Rattle.prelude.proofs.Bools.{and-same}
 use Rattle.language.specs.Shapes.{watches}
 use Rattle.layout.specs.declared.parts.Part.{Part}
 use Rattle.layout.specs.Layout.{nodeCount}
@@ -19,11 +20,6 @@ use Rattle.script.specs.Checked.{Checked}
 use Rattle.tree.specs.Tree.{processOf}
 use Rattle.tree.proofs.Views.{NodeView, aNil, anAssign, aLet, anIf, aWhile, aSequence, anEmit, aLocal, aWatching, aWhen, aParallel, node-view, role}
 use Rattle.plan.specs.Plan.{watchesBefore, watchesBy, KeepsNodes}
-
--- a conjunction's second test counts where the first holds
-and-same : (a b c : Bool) → (a ≡ true → b ≡ c) → (a && b) ≡ (a && c)
-and-same true b c f = f refl
-and-same false b c f = refl
 
 module _ (s : List ℕ) (ok : Checked s) where
   -- 'child nodes have smaller numbers than their parent': node 0 has none

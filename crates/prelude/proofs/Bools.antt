@@ -24,9 +24,10 @@ pub and-second : (a b : Bool) → a ≡ true → (a && b) ≡ b
 and-second true b h = refl
 and-second false b h = absurd (false≢true h)
 
-pub and-true : (a : Bool) → (a && true) ≡ a
-and-true true = refl
-and-true false = refl
+-- a conjunction's second test counts where the first holds
+pub and-same : (a b c : Bool) → (a ≡ true → b ≡ c) → (a && b) ≡ (a && c)
+and-same true b c h = h refl
+and-same false b c h = refl
 
 pub or-left : (a b : Bool) → (a || b) ≡ false → a ≡ false
 or-left true b h = h

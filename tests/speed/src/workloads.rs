@@ -335,17 +335,22 @@ fn divisions() -> Workload {
     workload("divisions by divisors of both signs", draft, 0)
 }
 
+/// A loop without end, of eight such writes a round.
+fn eight_a_round(draft: &mut Draft, write: impl Fn(&mut Draft) -> u16) {
+    let always = draft.constant(1);
+    let mut body = write(draft);
+    for _ in 0..7 {
+        let first = write(draft);
+        body = draft.sequence(first, body);
+    }
+    draft.while_do(always, body);
+}
+
 /// A loop of eight assignments that the reader sees; the log has room for all lines.
 fn logging() -> Workload {
     let mut draft = Draft::default();
-    let always = draft.constant(1);
     let x = draft.register(LOW);
-    let mut body = draft.increment(x);
-    for _ in 0..7 {
-        let write = draft.increment(x);
-        body = draft.sequence(write, body);
-    }
-    draft.while_do(always, body);
+    eight_a_round(&mut draft, |draft| draft.increment(x));
     workload("log of every write", draft, 4 * MOST_STEPS as usize)
 }
 
@@ -353,14 +358,8 @@ fn logging() -> Workload {
 /// that one.
 fn repeating() -> Workload {
     let mut draft = Draft::default();
-    let always = draft.constant(1);
     let s = draft.signal(LOW);
-    let mut body = draft.emit(s);
-    for _ in 0..7 {
-        let emission = draft.emit(s);
-        body = draft.sequence(emission, body);
-    }
-    draft.while_do(always, body);
+    eight_a_round(&mut draft, |draft| draft.emit(s));
     workload("repeated emissions", draft, 4)
 }
 

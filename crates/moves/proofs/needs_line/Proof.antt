@@ -1,10 +1,9 @@
 -- `needs_line`: none for an emission of a present signal, else by the reader.
-use mathlib.Core.Path.{_≡_, refl, sym, ap, ap₂, _∙_}
-use mathlib.Core.Bool.{Bool, true, false, not, _&&_}
+use mathlib.Core.Path.{_≡_, sym, ap, ap₂, _∙_}
+use mathlib.Core.Bool.{Bool, true, false, not, _&&_, and-true, and-false}
 use mathlib.Core.Logic.{⊎-elim}
 use native.Mathlib.Omega.{arith}
 use borrow.Author.Tests.{eq-eqb, ne-eqb}
-use Rattle.prelude.proofs.Bools.{and-true}
 use Rattle.language.specs.Steps.{present}
 use Rattle.program.specs.Program.{seenBy}
 use borrow.Author.Needs.{needs}
@@ -13,8 +12,7 @@ use Rattle.moves.proofs.needs_line.Tie as tie
 
 -- a repeated emission is seen by no reader; of every other move the reader decides
 repeated : (seen : Bool) {r : Bool} → r ≡ true → (seen && not r) ≡ false
-repeated true e = ap not e
-repeated false e = refl
+repeated seen e = ap (λ r. seen && not r) e ∙ and-false seen
 
 by-reader : (seen : Bool) {r : Bool} → r ≡ false → (seen && not r) ≡ seen
 by-reader seen e = ap (λ r. seen && not r) e ∙ and-true seen
