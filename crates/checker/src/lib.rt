@@ -1,6 +1,7 @@
 // A level book and a script file are checked: refusals 1 to 11.
 use book::Book;
 use layout::Script;
+use pairs::table;
 use pairs::table::PairTable;
 use prelude::Refusal;
 ghost use mathlib.Core.Path.{_≡_};
@@ -85,10 +86,11 @@ pub fn prepare(b: &[u8], s: &[u8]) -> Prepared
     if read.refusal.number != 0 {
         return refused_with(read.refusal);
     }
-    let mut join = [[0u8; Book::MAX_LEVELS]; Book::MAX_LEVELS];
-    let mut meet = [[0u8; Book::MAX_LEVELS]; Book::MAX_LEVELS];
-    let place = pairs::first_lacking(read.book, &mut join, &mut meet);
-    let lack = pairs::lack_refusal(place);
+    let mut join = table::new_table();
+    let mut meet = table::new_table();
+    // All pairs: there are no more of them than places.
+    let swept = pairs::sweep(read.book, Book::PLACES, &mut join, &mut meet);
+    let lack = pairs::lack_refusal(swept.place);
     if lack.number != 0 {
         return refused_with(lack);
     }

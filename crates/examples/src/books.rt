@@ -1,6 +1,7 @@
 // Level books: the levels, the bottom and the top, the tables of joins and meets.
 use crate::say;
 use book::Book;
+use pairs::table;
 use pairs::table::PairTable;
 ghost use Prim.Native.Nat.{_<_, _≤_};
 ghost use Rattle.book.specs.LevelBook.{mostLevels};
@@ -11,7 +12,7 @@ fn say_row(t: &PairTable, n: usize, i: usize)
 {
     let mut j: usize = 0;
     while j < n {
-        say(b" ", pairs::table::level_at(t, i, j));
+        say(b" ", table::level_at(t, i, j));
         j += 1;
     }
     text::say_byte(b'\n');
@@ -44,9 +45,10 @@ pub fn show(file: &[u8]) {
         text::say_refusal(read.refusal.number, read.refusal.place);
         return;
     }
-    let mut join = [[0u8; Book::MAX_LEVELS]; Book::MAX_LEVELS];
-    let mut meet = [[0u8; Book::MAX_LEVELS]; Book::MAX_LEVELS];
-    let lack = pairs::lack_refusal(pairs::first_lacking(read.book, &mut join, &mut meet));
+    let mut join = table::new_table();
+    let mut meet = table::new_table();
+    let swept = pairs::sweep(read.book, Book::PLACES, &mut join, &mut meet);
+    let lack = pairs::lack_refusal(swept.place);
     if 0 < lack.number {
         text::say_refusal(lack.number, lack.place);
         return;

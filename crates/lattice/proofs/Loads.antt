@@ -19,7 +19,7 @@ use Rattle.book.specs.Load.{bookOf}
 use Rattle.order.proofs.Loads.{passing-order}
 use Rattle.pairs.specs.Table.{Keeps}
 use Rattle.pairs.specs.Refusals.{firstLacking, lackRefusal}
-use Rattle.pairs.specs.Bounds.{Paired}
+use Rattle.pairs.proofs.Pairs.{Paired}
 use Rattle.lattice.specs.Refusals.{refusal, isAccepted}
 
 module _ (s : List ℕ) (r : LoadedBook) (read : r ≡ orders-load.loaded s) where

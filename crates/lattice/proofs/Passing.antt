@@ -18,7 +18,7 @@ use Rattle.order.specs.Rows.{InOrder}
 use Rattle.order.specs.Refusals as orders
 use Rattle.order.proofs.Loads.{passing-size, passing-order}
 use Rattle.pairs.specs.Refusals.{lacksUpper, firstLacking}
-use Rattle.pairs.proofs.Sweeps.{quotient, remainder}
+use Rattle.pairs.proofs.Lacks.{quotient, remainder}
 use Rattle.lattice.specs.Refusals.{refusal, isAccepted}
 
 -- no refusal of the first two, and the test of the third fails

@@ -2,5 +2,9 @@
 pub mod Orders
 pub mod Stores
 pub mod Rows
+pub mod Lacks
+pub mod Numbers
+pub mod Bounds
+pub mod Fills
 pub mod Sweeps
 pub mod Pairs

@@ -8,7 +8,8 @@ use borrow.Author.Tests.{not-true, not-false}
 use Rattle.prelude.specs.Search.{any}
 use Rattle.prelude.proofs.Bools.{fails, and-intro, and-left, and-right, and-swap}
 use Rattle.prelude.proofs.Searches.{first-holds, first-is, first-same, any-none, any-same, none-of-any}
-use Rattle.order.specs.Order.{Relation, missed, isLeastUpper, leastUpper, PartialOrder, LeastUppers}
+use Rattle.order.specs.Order.{Relation, converse, missed, isLeastUpper, leastUpper, greatestLower, PartialOrder, LeastUppers}
+use Rattle.order.proofs.Duals.{dual}
 
 module _ (R : Relation) (n : ℕ) where
   -- k is a common upper level of i and j, and at or below each
@@ -53,15 +54,17 @@ module _ (R : Relation) (n : ℕ) where
       and-swap (R i k) (R j k) (not (any (missed R i j k) n))
       ∙ ap (λ b. R j k && (R i k && not b)) (any-same (missed R i j k) (missed R j i k) n (λ m u. and-swap (R i m) (R j m) (not (R k m)))))
 
-  pub least-own : PartialOrder R n → (i : ℕ) → i < n → leastUpper R n i i ≡ i
+  -- of two levels in order the upper one is the least common upper level
+  pub least-above : PartialOrder R n → (i j : ℕ) → i < n → j < n → R i j ≡ true → leastUpper R n i j ≡ j
   unfolding leastUpper
-  least-own o i h =
-      first-is (isLeastUpper R n i i) n i h
-      (test-complete i i i (record { left = o .reflexive i h; right = o .reflexive i h; least = λ m l a b. a }))
+  least-above o i j hi hj h =
+      let own = o .reflexive j hj in
+      first-is (isLeastUpper R n i j) n j hj
+      (test-complete i j j (record { left = h; right = own; least = λ m l a b. b }))
       (λ k l.
-      fails (isLeastUpper R n i i k) (λ e.
-      let w = test-sound i i k e in
-      let q : i ≡ k = o .antisymmetric i k h (omega arith) (w .left) (w .least i h (o .reflexive i h) (o .reflexive i h)) in
+      fails (isLeastUpper R n i j k) (λ e.
+      let w = test-sound i j k e in
+      let q : j ≡ k = o .antisymmetric j k hj (omega arith) (w .right) (w .least j hj h own) in
       omega arith))
 
   module _ (o : PartialOrder R n) (exists : (i j : ℕ) → i < j → j < n → leastUpper R n i j < n) where
@@ -74,7 +77,7 @@ module _ (R : Relation) (n : ℕ) where
                 | yes v ↦ subst (λ k. k < n) (least-swap j i) (exists j i v a)
                 | no v ↦
                     let e : j ≡ i = omega arith in
-                    subst (λ k. leastUpper R n i k < n) (sym e) (subst (λ k. k < n) (sym (least-own o i a)) a)
+                    subst (λ k. leastUpper R n i k < n) (sym e) (subst (λ k. k < n) (sym (least-above o i i a a (o .reflexive i a))) a)
               ]
         ]
 
@@ -86,3 +89,25 @@ module _ (R : Relation) (n : ℕ) where
           right = λ i j a b. found i j (within i j a b) .right;
           least = λ i j k a b c. found i j (within i j a b) .least k c;
         }
+
+-- two relations that agree on the levels have the same least common upper levels
+pub least-same :
+    (R S : Relation) (n : ℕ) → ((i j : ℕ) → i < n → j < n → R i j ≡ S i j) → (i j : ℕ) → i < n → j < n →
+    leastUpper R n i j ≡ leastUpper S n i j
+unfolding leastUpper
+least-same R S n same i j a b =
+    first-same (isLeastUpper R n i j) (isLeastUpper S n i j) n (λ k l.
+    rw (
+      same i k a l,
+      same j k b l,
+      any-same (missed R i j k) (missed S i j k) n (λ m u. rw (same i m a u, same j m b u, same k m l u)),
+    ))
+
+-- the common levels of two levels in order: the upper one and the lower one
+pub upper-and-lower :
+    (R : Relation) (n : ℕ) → PartialOrder R n → (i j : ℕ) → i < n → j < n → R i j ≡ true →
+    (leastUpper R n i j ≡ j) × (greatestLower R n i j ≡ i)
+upper-and-lower R n o i j hi hj h = (
+  least-above R n o i j hi hj h,
+  least-swap (converse R) n i j ∙ least-above (converse R) n (dual R n o) j i hj hi h,
+)

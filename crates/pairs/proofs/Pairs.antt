@@ -1,89 +1,98 @@
--- The two sweeps together: the place of refusal 3, and the tables that they fill.
-use mathlib.Core.Path.{_≡_, refl, sym, _∙_, subst}
-use mathlib.Core.Bool.{Bool}
+-- A sweep over all pairs, of new tables: the place of refusal 3, and both levels of every pair where there is none.
+use mathlib.Core.Path.{_≡_, refl, sym, ap, _∙_, subst}
+use mathlib.Core.Bool.{true, false, cond, not, _||_, or-true}
 use mathlib.Core.List.{List}
-use Prim.Native.Nat.{ℕ, _*_, _≤_}
+use Prim.Native.Nat.{ℕ, _+_, _*_, _≤_, _<_}
 use native.Mathlib.Decide.{decLt}
 use native.Mathlib.Omega.{arith}
-use lib.Dec.{leb}
-use borrow.Author.Tests.{leb-true, leb-false}
-use Rattle.prelude.specs.Search.{lesser}
-use Rattle.prelude.proofs.Searches.{first-or, first-within}
-use Rattle.prelude.proofs.Bools.{by-cases}
-use Rattle.order.specs.Order.{Relation, converse, leastUpper, PartialOrder}
+use lib.Dec.{ltb}
+use borrow.Author.Tests.{lt-ltb, le-ltb, eq-eqb}
+use Rattle.prelude.proofs.Bools.{and-intro, by-cases}
+use Rattle.prelude.proofs.Searches.{first-within, first-at-end, lesser-right}
+use Rattle.order.specs.Order.{Relation, converse, leastUpper, greatestLower, PartialOrder}
+use Rattle.order.specs.Rows.{InOrder}
+use Rattle.order.proofs.Duals.{dual}
 use Rattle.book.specs.LevelBook.{mostLevels, atOrBelow}
-use Rattle.order.specs.Rows.{InOrder, converseRows}
-use Rattle.order.proofs.Duals.{dual, upside-down}
+use Rattle.pairs.specs.declared.Swept.{Swept}
 use Rattle.pairs.specs.Refusals.{lacksUpper, firstLacking}
-use Rattle.pairs.specs.Table.{kept, Keeps}
-use Rattle.pairs.specs.Bounds.{Swept, Paired}
-use Rattle.pairs.proofs.Orders.{least-swap, least-own}
-use Rattle.pairs.proofs.Sweeps.{swept-same}
+use Rattle.pairs.specs.Table.{kept, Keeps, newLevel}
+use Rattle.pairs.specs.Sweeping.{levelPairs, pairNumber, lacksOne, refusedNumber, takenUp, placeWithin, isFound, keptAfter, Sweeps}
+use Rattle.pairs.proofs.Orders.{least-above}
+use Rattle.pairs.proofs.Lacks.{refused-pair, lacks-at}
+use Rattle.pairs.proofs.Numbers.{number-within}
 
--- a sweep that found no pair lacking has filled the table
-filled :
-    (R : Relation) (n : ℕ) (t : List (List ℕ)) → PartialOrder R n → Swept R n t (mostLevels * mostLevels) → Keeps t n (leastUpper R n)
-filled R n t o w i j a b =
-    elim (decLt i j) [
-      | yes u ↦ w .pairs refl i j u b .0
-      | no u ↦
-          elim (decLt j i) [
-            | yes v ↦ w .pairs refl j i v a .1 ∙ least-swap R n j i
-            | no v ↦
-                let e : i ≡ j = omega arith in
-                subst (λ k. kept t i k ≡ leastUpper R n i k) e (w .own refl i a ∙ sym (least-own R n o i a))
-          ]
-    ]
+-- What is found of all pairs: the place of refusal 3; where no pair lacks a level, both are kept for every pair.
+pub record Paired (R : Relation) (n : ℕ) (join meet : List (List ℕ)) (place : ℕ) : Type 0 where
+  pub first-place : place ≡ firstLacking R n
+  pub joins : place ≡ mostLevels * mostLevels → Keeps join n (leastUpper R n)
+  pub meets : place ≡ mostLevels * mostLevels → Keeps meet n (greatestLower R n)
 
--- the lesser of two numbers up to m is m: both are
-both-past : (m u l : ℕ) → u ≤ m → l ≤ m → m ≤ lesser u l → (u ≡ m) × (l ≡ m)
-both-past m u l hu hl =
-    by-cases
-    (λ k. m ≤ k → (u ≡ m) × (l ≡ m))
-    (leb u l)
-    (λ e h. (omega arith, omega (arith, leb-true u l e)))
-    (λ e h. (omega (arith, leb-false u l e), omega arith))
+module _ (R : Relation) (n k : ℕ) (few : n ≤ mostLevels) (enough : levelPairs n ≤ k) where
+  -- the place is that of refusal 3
+  any-place : placeWithin R n k ≡ firstLacking R n
+  unfolding firstLacking
+  any-place =
+      elim (decLt (firstLacking R n) (mostLevels * mostLevels)) [
+        | yes l ↦
+            let q = refused-pair R n l in
+            rw (lt-ltb (refusedNumber R n) k (omega (arith, number-within n _ _ (q .order) (q .within))))
+        | no l ↦
+            by-cases
+            (λ p. p ≡ firstLacking R n)
+            (ltb (refusedNumber R n) k)
+            (λ e. refl)
+            (λ e. omega (arith, first-within (λ p. lacksUpper R n p || lacksUpper (converse R) n p) (mostLevels * mostLevels)))
+      ]
 
-module _
-    (rs : List ℕ)
-    (n : ℕ)
-    (w : InOrder rs n)
-    (join meet : List (List ℕ))
-    (u l p : ℕ)
-    (up : Swept (atOrBelow rs) n join u)
-    (below : List ℕ)
-    (turned : below ≡ converseRows rs n)
-    (down : Swept (atOrBelow below) n meet l)
-    (least : p ≡ lesser u l)
-  where
-    down′ : Swept (converse (atOrBelow rs)) n meet l
-    down′ =
-        let few = w .few in
-        swept-same (atOrBelow (converseRows rs n)) (converse (atOrBelow rs)) n
-        (λ i j a b. upside-down rs n i j (omega arith) b) meet l
-        (subst (λ x. Swept (atOrBelow x) n meet l) turned down)
+  module _ (none : firstLacking R n ≡ mostLevels * mostLevels) where
+    all-taken : takenUp R n k ≡ levelPairs n
+    all-taken = rw (none, lesser-right k (levelPairs n) enough)
 
-    place-is : p ≡ firstLacking (atOrBelow rs) n
+    all-found : (i j : ℕ) → i < j → j < n → isFound R n k i j ≡ true
     unfolding firstLacking
-    place-is =
-        let f : ℕ → Bool = lacksUpper (atOrBelow rs) n in
-        let g : ℕ → Bool = lacksUpper (converse (atOrBelow rs)) n in
-        least ∙ rw (up .first-place, down′ .first-place) (sym (first-or f g (mostLevels * mostLevels)))
+    all-found i j h l =
+        let p : ℕ = mostLevels * i + j in
+        let has : lacksOne R n i j ≡ false = sym (lacks-at R n i j few h l) ∙ first-at-end _ _ none p (omega arith) in
+        and-intro _ _ (lt-ltb i j h)
+        (and-intro _ _ (lt-ltb j n l)
+        (and-intro _ _
+        (lt-ltb (pairNumber n i j) (takenUp R n k) (subst (λ m. pairNumber n i j < m) (sym all-taken) (number-within n i j h l)))
+        (ap not has)))
 
-    past : p ≡ mostLevels * mostLevels → (u ≡ mostLevels * mostLevels) × (l ≡ mostLevels * mostLevels)
-    past e =
-        both-past (mostLevels * mostLevels) u l
-        (rw (up .first-place) (first-within _ _))
-        (rw (down′ .first-place) (first-within _ _))
-        (omega arith)
+    -- a table that was new keeps the level of every two levels
+    all-kept :
+        (level : ℕ → ℕ → ℕ) → ((i : ℕ) → i < n → level i i ≡ i) → (t t′ : List (List ℕ)) → Keeps t mostLevels newLevel →
+        ((i j : ℕ) → kept t′ i j ≡ keptAfter R n k level t i j) → Keeps t′ n level
+    all-kept level own t t′ new after i j hi hj =
+        elim (decLt i j) [
+          | yes u ↦ after i j ∙ rw (all-found i j u hj)
+          | no u ↦
+              elim (decLt j i) [
+                | yes v ↦ after i j ∙ rw (all-found j i v hi, or-true (isFound R n k i j))
+                | no v ↦
+                    let e : i ≡ j = omega arith in
+                    subst (λ x. kept t′ i x ≡ level i x) e
+                    (after i i
+                    ∙ rw (le-ltb i i (omega arith), new i i (omega arith) (omega arith), eq-eqb i i refl) (sym (own i hi)))
+              ]
+        ]
 
-    pub paired : Paired (atOrBelow rs) n join meet p
-    paired =
-        record {
-          first-place = place-is;
-          joins = λ e. filled (atOrBelow rs) n join (w .order) (subst (Swept (atOrBelow rs) n join) (past e .0) up);
-          meets =
-              λ e.
-              filled (converse (atOrBelow rs)) n meet (dual _ _ (w .order))
-              (subst (Swept (converse (atOrBelow rs)) n meet) (past e .1) down′);
-        }
+module _ (rs : List ℕ) (n k : ℕ) (w : InOrder rs n) (enough : levelPairs n ≤ k) where
+  pub paired :
+      (join meet join′ meet′ : List (List ℕ)) (r : Swept) → Keeps join mostLevels newLevel → Keeps meet mostLevels newLevel →
+      Sweeps (atOrBelow rs) n k join meet join′ meet′ r → Paired (atOrBelow rs) n join′ meet′ (r .place)
+  paired join meet join′ meet′ r u v swept =
+      let R : Relation = atOrBelow rs in
+      let place : r .place ≡ firstLacking R n = swept .place ∙ any-place R n k (w .few) enough in
+      let o = w .order in
+      record {
+        first-place = place;
+        joins =
+            λ e.
+            all-kept R n k (w .few) enough (sym place ∙ e) (leastUpper R n)
+            (λ i h. least-above R n o i i h h (o .reflexive i h)) join join′ u (swept .joins);
+        meets =
+            λ e.
+            all-kept R n k (w .few) enough (sym place ∙ e) (greatestLower R n)
+            (λ i h. least-above (converse R) n (dual R n o) i i h h (o .reflexive i h)) meet meet′ v (swept .meets);
+      }

@@ -2,16 +2,17 @@
 use mathlib.Core.Path.{_≡_, sym, ap, _∙_}
 use mathlib.Core.Bool.{true, false, _&&_, true≢false}
 use mathlib.Core.List.{List}
-use Prim.Native.Nat.{ℕ, _<_}
+use Prim.Native.Nat.{ℕ, _≤_, _<_}
 use native.Mathlib.Nat.{lt-of-le-of-lt}
+use native.Mathlib.Omega.{arith}
 use lib.ListN.{getD}
 use lib.Bits.{bitAnd, and-le-l}
-use Rattle.prelude.specs.Search.{first}
+use Rattle.prelude.specs.Search.{first, lesser}
 use Rattle.prelude.specs.Sets.{has}
 use Rattle.prelude.proofs.Bools.{fails, and-intro, and-left, and-right, same-truth}
-use Rattle.prelude.proofs.Searches.{NoneBelow, first-passed}
+use Rattle.prelude.proofs.Searches.{NoneBelow, past, first-is, first-none, first-passed, lesser-left, lesser-right}
 use Rattle.prelude.proofs.Sets.{has-both, same-set}
-use Rattle.order.specs.Order.{isLeastUpper}
+use Rattle.order.specs.Order.{isLeastUpper, leastUpper}
 use Rattle.book.specs.LevelBook.{mostLevels, atOrBelow}
 use Rattle.order.specs.Rows.{InOrder}
 use Rattle.pairs.proofs.Orders.{IsLeastUpper, test-sound, test-complete}
@@ -57,3 +58,13 @@ module _ (rs : List ℕ) (n i j : ℕ) where
 
     pub not-least : (getD rs k 0 ≡ uppers → ⊥) → isLeastUpper (atOrBelow rs) n i j k ≡ false
     not-least ne = fails _ (λ e. ne (same-row (test-sound (atOrBelow rs) n i j k e)))
+
+  -- where a search that starts there has ended: at the least common upper level, or past all levels
+  module _ (w : InOrder rs n) (hi : i < n) (hj : j < n) (k : ℕ) (none : NoneBelow (isLeastUpper (atOrBelow rs) n i j) k) where
+    pub found : k < n → getD rs k 0 ≡ uppers → lesser k n ≡ leastUpper (atOrBelow rs) n i j
+    unfolding leastUpper
+    found l e = lesser-left k n (omega arith) ∙ sym (first-is _ n k l (is-least w hi hj k l e) none)
+
+    pub none-found : n ≤ k → lesser k n ≡ leastUpper (atOrBelow rs) n i j
+    unfolding leastUpper
+    none-found l = lesser-right k n l ∙ sym (first-none _ n (past l none))

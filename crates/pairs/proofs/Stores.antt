@@ -1,16 +1,15 @@
 -- A square table, and the store of one entry.
-use mathlib.Core.Path.{_≡_, sym, ap, _∙_}
+use mathlib.Core.Path.{_≡_, refl, sym, ap, _∙_, subst}
 use mathlib.Core.List.{List, []}
-use Prim.Native.Nat.{ℕ, _<_}
+use Prim.Native.Nat.{ℕ, _+_, _≤_, _<_}
+use native.Mathlib.Nat.{le-refl}
 use native.Mathlib.Decide.{ℕ-discrete}
 use native.Mathlib.Omega.{arith}
 use lib.ListN.{getD, set, length, length-set, replicate, length-replicate, getD-replicate}
+use borrow.Author.Tests.{eq-eqb, ne-eqb}
+use Rattle.book.specs.LevelBook.{mostLevels}
 use lib.Seq.{getD-set-same, getD-set-other}
-use Rattle.pairs.specs.Table.{kept, Square}
-
--- the table after `t[i][j] = v`
-abbrev pub put : List (List ℕ) → ℕ → ℕ → ℕ → List (List ℕ)
-put t i j v = set t i (set (getD t i []) j v)
+use Rattle.pairs.specs.Table.{kept, Square, Keeps, put, newLevel}
 
 module _ (n : ℕ) (t : List (List ℕ)) (w : Square n t) (i j v : ℕ) (hi : i < n) (hj : j < n) where
   pub put-same : kept (put t i j v) i j ≡ v
@@ -52,3 +51,49 @@ new-square n v =
       rows = length-replicate n (replicate n v);
       entries = λ i h. ap length (getD-replicate n i (replicate n v) [] h) ∙ length-replicate n v;
     }
+
+-- a table to which the own entries of the levels below q are written: the rows of these levels are those of a new table, the
+-- others still have 0 everywhere
+pub record OwnLevels (t : List (List ℕ)) (q : ℕ) : Type 0 where
+  pub square : Square mostLevels t
+  pub done : (i j : ℕ) → i < q → i < mostLevels → j < mostLevels → kept t i j ≡ newLevel i j
+  pub left : (i j : ℕ) → q ≤ i → i < mostLevels → j < mostLevels → kept t i j ≡ 0
+
+pub no-levels : OwnLevels (replicate mostLevels (replicate mostLevels 0)) 0
+no-levels =
+    record {
+      square = new-square mostLevels 0;
+      done = λ i j l hi hj. absurd (omega arith);
+      left =
+          λ i j l hi hj.
+          ap (λ row. getD row j 0) (getD-replicate mostLevels i (replicate mostLevels 0) [] hi)
+          ∙ getD-replicate mostLevels j 0 0 hj;
+    }
+
+module _ (t : List (List ℕ)) (q : ℕ) (w : OwnLevels t q) (h : q < mostLevels) where
+  other : (i j : ℕ) → (i ≡ q → j ≡ q → ⊥) → kept (put t q q q) i j ≡ kept t i j
+  other = put-other mostLevels t (w .square) q q q h h
+
+  -- row q
+  this-row : (j : ℕ) → j < mostLevels → kept (put t q q q) q j ≡ newLevel q j
+  this-row j hj =
+      elim (ℕ-discrete q j) [
+        | yes e ↦ subst (λ k. kept (put t q q q) q k ≡ newLevel q k) e (put-same mostLevels t (w .square) q q q h h ∙ sym (rw (eq-eqb q q refl)))
+        | no e ↦ other q j (λ x y. e (sym y)) ∙ w .left q j (le-refl q) h hj ∙ sym (rw (ne-eqb q j e))
+      ]
+
+  pub own-level : OwnLevels (put t q q q) (q + 1)
+  own-level =
+      record {
+        square = put-square mostLevels t (w .square) q q q h h;
+        done =
+            λ i j l hi hj.
+            elim (ℕ-discrete q i) [
+              | yes e ↦ subst (λ k. kept (put t q q q) k j ≡ newLevel k j) e (this-row j hj)
+              | no e ↦ other i j (λ x y. e (sym x)) ∙ w .done i j (omega arith) hi hj
+            ];
+        left = λ i j l hi hj. other i j (λ x y. omega arith) ∙ w .left i j (omega arith) hi hj;
+      }
+
+pub all-levels : (t : List (List ℕ)) (q : ℕ) → OwnLevels t q → mostLevels ≤ q → Square mostLevels t × Keeps t mostLevels newLevel
+all-levels t q w h = (w .square, λ i j hi hj. w .done i j (omega arith) hi hj)

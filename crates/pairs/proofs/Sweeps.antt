@@ -1,199 +1,193 @@
--- The sweep over the pairs: what holds when the pairs of all places below p are done.
-use mathlib.Core.Path.{_≡_, sym, ap, _∙_, subst}
-use mathlib.Core.Bool.{true, false}
+-- The sweep over the pairs: what holds when the first m pairs are taken up, and what it comes to in the end.
+use mathlib.Core.Path.{_≡_, refl, sym, ap, _∙_, subst}
+use mathlib.Core.Bool.{true, false, not, _||_, true≢false}
 use mathlib.Core.List.{List}
-use Prim.Native.Nat.{ℕ, _+_, _*_, _/_, _%_, _≤_, _<_}
+use mathlib.Core.Logic.{_⊎_, ⊎-elim}
+use Prim.Native.Nat.{ℕ, suc, _+_, _*_, _/_, _%_, _≤_, _<_}
+use native.Mathlib.Nat.{le-refl}
 use native.Mathlib.Decide.{ℕ-discrete, decLt}
 use native.Mathlib.Omega.{arith}
-use lib.Dec.{eqb, ltb}
-use borrow.Author.Tests.{lt-ltb, le-ltb, ltb-true, eq-eqb, ne-eqb}
-use Rattle.prelude.proofs.Bools.{and-same}
-use Rattle.prelude.proofs.Searches.{first-is, first-none, first-same, any-same}
-use Rattle.order.specs.Order.{Relation, missed, isLeastUpper, leastUpper}
+use lib.Dec.{ltb}
+use borrow.Author.Tests.{lt-ltb, le-ltb, ltb-true, ne-eqb, not-true}
+use Rattle.prelude.proofs.Bools.{fails, and-intro, and-left, and-right, same-truth, by-cases}
+use Rattle.prelude.proofs.Searches.{first-is, first-within, lesser-left, lesser-right}
+use Rattle.order.specs.Order.{Relation, converse, leastUpper, greatestLower}
 use Rattle.book.specs.LevelBook.{mostLevels}
-use Rattle.pairs.specs.Refusals.{lacksUpper}
-use Rattle.pairs.specs.Table.{kept, Square}
-use Rattle.pairs.specs.Bounds.{Swept}
-use Rattle.pairs.proofs.Stores.{put, put-same, put-other, put-square}
+use Rattle.pairs.specs.Refusals.{lacksUpper, firstLacking}
+use Rattle.pairs.specs.Table.{Square, stored}
+use Rattle.pairs.specs.Sweeping.{levelPairs, pairNumber, lacksOne, refusedNumber, takenUp, placeWithin, isFound, Sweeps}
+use Rattle.pairs.proofs.Orders.{least-swap}
+use Rattle.pairs.proofs.Lacks.{quotient, remainder, Lacking, lacking-pair, refused-pair, lacks-at}
+use Rattle.pairs.proofs.Numbers.{earlier-row, earlier-here, number-within, one-number}
+use Rattle.pairs.proofs.Bounds.{Bounds}
+use Rattle.pairs.proofs.Fills.{isTaken, taken-order, taken-within, taken-number, is-taken, none-taken, Filled, filled-none, filled-next}
 
--- place and pair
-pub quotient : (i j : ℕ) → j < mostLevels → (mostLevels * i + j) / mostLevels ≡ i
-quotient i j h = omega arith
+-- what holds when the first m pairs are taken up: none of them lacks a level, and both tables have theirs
+pub record Upto (R : Relation) (n m : ℕ) (join meet join′ meet′ : List (List ℕ)) : Type 0 where
+  pub complete : (a b : ℕ) → isTaken n m a b ≡ true → lacksOne R n a b ≡ false
+  pub joins : Filled n m (leastUpper R n) join join′
+  pub meets : Filled n m (greatestLower R n) meet meet′
 
-pub remainder : (i j : ℕ) → j < mostLevels → (mostLevels * i + j) % mostLevels ≡ j
-remainder i j h = omega arith
-
--- the pair of a and b has a least common upper level, kept at both of its entries
-pub record PairKept (R : Relation) (n : ℕ) (t : List (List ℕ)) (a b : ℕ) : Type 0 where
-  pub exists : leastUpper R n a b < n
-  pub there : kept t a b ≡ leastUpper R n a b
-  pub back : kept t b a ≡ leastUpper R n a b
-
--- the own entries of the levels below q and the pairs of the places below p are done
-pub record Done (R : Relation) (n q p : ℕ) (t : List (List ℕ)) : Type 0 where
-  pub square : Square mostLevels t
-  pub own : (a : ℕ) → a < q → kept t a a ≡ a
-  pub pairs : (a b : ℕ) → a < b → b < n → mostLevels * a + b < p → PairKept R n t a b
-
-module _ (R : Relation) (n : ℕ) (small : n ≤ mostLevels) (t : List (List ℕ)) where
-  pub start : Square mostLevels t → Done R n 0 0 t
-  start w = record { square = w; own = λ a h. absurd (omega arith); pairs = λ a b u v h. absurd (omega arith) }
-
-  -- a store that touches neither entry of a pair leaves it kept
-  keep :
-      (i j v a b : ℕ) → Square mostLevels t → i < mostLevels → j < mostLevels → (a ≡ i → b ≡ j → ⊥) → (b ≡ i → a ≡ j → ⊥) →
-      PairKept R n t a b → PairKept R n (put t i j v) a b
-  keep i j v a b w hi hj x y p =
-      record {
-        exists = p .exists;
-        there = put-other mostLevels t w i j v hi hj a b x ∙ p .there;
-        back = put-other mostLevels t w i j v hi hj b a y ∙ p .back;
-      }
-
-  pub own-next : (i : ℕ) → i < n → Done R n i (mostLevels * i) t → Done R n (i + 1) (mostLevels * i + (i + 1)) (put t i i i)
-  own-next i h d =
-      record {
-        square = put-square mostLevels t (d .square) i i i (omega arith) (omega arith);
-        own =
-            λ a l.
-            elim (ℕ-discrete a i) [
-              | yes e ↦
-                  subst
-                  (λ x. kept (put t i i i) x x ≡ x)
-                  (sym e)
-                  (put-same mostLevels t (d .square) i i i (omega arith) (omega arith))
-              | no e ↦
-                  put-other mostLevels t (d .square) i i i (omega arith) (omega arith) a a (λ x y. e x) ∙ d .own a (omega arith)
-            ];
-        pairs =
-            λ a b u v l.
-            keep i i i a b (d .square) (omega arith) (omega arith) (λ x y. omega arith) (λ x y. omega arith) (d .pairs a b u v (omega arith));
-      }
-
-  pub row-next :
-      (i j : ℕ) → n ≤ j → Done R n (i + 1) (mostLevels * i + j) t → Done R n (i + 1) (mostLevels * (i + 1)) t
-  row-next i j h d =
-      record {
-        square = d .square;
-        own = d .own;
-        pairs = λ a b u v l. d .pairs a b u v (omega arith);
-      }
-
-  -- the place of a pair that is done is no place of a pair that lacks one
-  passes :
-      (q p k : ℕ) → Done R n q p t → (k / mostLevels < k % mostLevels → k % mostLevels < n → k < p) → lacksUpper R n k ≡ false
-  passes q p k d within =
-      elim (decLt (k / mostLevels) (k % mostLevels)) [
-        | yes u ↦
-            elim (decLt (k % mostLevels) n) [
-              | yes v ↦
-                  let l = within u v in
-                  let w = d .pairs (k / mostLevels) (k % mostLevels) u v (omega arith) .exists in
-                  rw (lt-ltb _ _ u, lt-ltb _ _ v) (ne-eqb (leastUpper R n (k / mostLevels) (k % mostLevels)) n (λ e. omega arith))
-              | no v ↦ rw (lt-ltb _ _ u, le-ltb (k % mostLevels) n (omega arith))
-            ]
-        | no u ↦ rw (le-ltb (k / mostLevels) (k % mostLevels) (omega arith))
-      ]
-
-  pub finish : (i : ℕ) → n ≤ i → Done R n i (mostLevels * i) t → Swept R n t (mostLevels * mostLevels)
-  finish i h d =
-      record {
-        first-place =
-            sym
-            (first-none
-            (lacksUpper R n)
-            (mostLevels * mostLevels)
-            (λ k l. passes i (mostLevels * i) k d (λ u v. omega arith)));
-        own = λ e a l. d .own a (omega arith);
-        pairs = λ e a b u v. let w = d .pairs a b u v (omega arith) in (w .there, w .back);
-      }
-
-  lacks : (i j : ℕ) → i < j → j < n → leastUpper R n i j ≡ n → lacksUpper R n (mostLevels * i + j) ≡ true
-  lacks i j h l e = rw (quotient i j (omega arith), remainder i j (omega arith), lt-ltb i j h, lt-ltb j n l) (eq-eqb (leastUpper R n i j) n e)
-
-  pub stop :
-      (q i j : ℕ) → i < j → j < n → leastUpper R n i j ≡ n → Done R n q (mostLevels * i + j) t →
-      Swept R n t (mostLevels * i + j)
-  stop q i j h l e d =
-      record {
-        first-place =
-            sym
-            (first-is
-            (lacksUpper R n)
-            (mostLevels * mostLevels)
-            (mostLevels * i + j)
-            (omega arith)
-            (lacks i j h l e)
-            (λ k u. passes q (mostLevels * i + j) k d (λ x y. u)));
-        own = λ x. absurd (omega arith);
-        pairs = λ x. absurd (omega arith);
-      }
-
-pub pair-next :
-    (R : Relation) (n : ℕ) (small : n ≤ mostLevels) (t : List (List ℕ)) (i j k : ℕ) → i < j → j < n → leastUpper R n i j ≡ k →
-    k < n → Done R n (i + 1) (mostLevels * i + j) t →
-    Done R n (i + 1) (mostLevels * i + (j + 1)) (put (put t i j k) j i k)
-pair-next R n small t i j k h l e f d =
-    let w : Square mostLevels t = d .square in
-    let hi : i < mostLevels = omega arith in
-    let hj : j < mostLevels = omega arith in
-    let u : List (List ℕ) = put t i j k in
-    let w′ : Square mostLevels u = put-square mostLevels t w i j k hi hj in
-    let near : PairKept R n (put u j i k) i j =
+pub start : (R : Relation) (n : ℕ) (join meet : List (List ℕ)) → Square mostLevels join → Square mostLevels meet → Upto R n 0 join meet join meet
+start R n join meet u v =
     record {
-      exists = omega arith;
-      there = put-other mostLevels u w′ j i k hj hi i j (λ x y. omega arith) ∙ put-same mostLevels t w i j k hi hj ∙ sym e;
-      back = put-same mostLevels u w′ j i k hj hi ∙ sym e;
-    }
-    in
-    record {
-      square = put-square mostLevels u w′ j i k hj hi;
-      own =
-          λ a x.
-          put-other mostLevels u w′ j i k hj hi a a (λ y z. omega arith)
-          ∙ put-other mostLevels t w i j k hi hj a a (λ y z. omega arith)
-          ∙ d .own a x;
-      pairs =
-          λ a b x y z.
-          elim (decLt (mostLevels * a + b) (mostLevels * i + j)) [
-            | yes v ↦
-                keep R n small u j i k a b w′ hj hi (λ y z. omega arith) (λ y z. omega arith)
-                (keep R n small t i j k a b w hi hj (λ y z. omega arith) (λ y z. omega arith) (d .pairs a b x y v))
-            | no v ↦
-                let ea : a ≡ i = omega arith in
-                let eb : b ≡ j = omega arith in
-                subst (λ m. PairKept R n (put u j i k) m b) (sym ea) (subst (λ m. PairKept R n (put u j i k) i m) (sym eb) near)
-          ];
+      complete = λ a b t. absurd (true≢false (sym t ∙ none-taken n a b));
+      joins = filled-none n _ join u;
+      meets = filled-none n _ meet v;
     }
 
--- a sweep is the same for two relations that agree on the levels
-module _ (R S : Relation) (n : ℕ) (same : (i j : ℕ) → i < n → j < n → R i j ≡ S i j) where
-  least-same : (i j : ℕ) → i < n → j < n → leastUpper R n i j ≡ leastUpper S n i j
-  unfolding leastUpper
-  least-same i j a b =
-      first-same (isLeastUpper R n i j) (isLeastUpper S n i j) n (λ k l.
+module _ (R : Relation) (n : ℕ) (few : n ≤ mostLevels) where
+  has-levels : (i j u l : ℕ) → Bounds R n i j u l → lacksOne R n i j ≡ false
+  has-levels i j u l found =
       rw (
-        same i k a l,
-        same j k b l,
-        any-same (missed R i j k) (missed S i j k) n (λ m u. rw (same i m a u, same j m b u, same k m l u)),
-      ))
+        ne-eqb (leastUpper R n i j) n (λ e. omega (arith, found .upper, found .upper-within)),
+        ne-eqb (greatestLower R n i j) n (λ e. omega (arith, found .lower, found .lower-within)),
+      )
 
-  lacks-same : (p : ℕ) → lacksUpper R n p ≡ lacksUpper S n p
-  lacks-same p =
-      and-same (ltb (p / mostLevels) (p % mostLevels)) _ _ (λ u.
-      and-same (ltb (p % mostLevels) n) _ _ (λ v.
-      let h = ltb-true (p / mostLevels) (p % mostLevels) u in
-      let k = ltb-true (p % mostLevels) n v in
-      ap (λ m. eqb m n) (least-same (p / mostLevels) (p % mostLevels) (omega (arith, h, k)) k)))
+  module _ (m : ℕ) (join meet join′ meet′ : List (List ℕ)) (w : Upto R n m join meet join′ meet′) where
+    -- one more pair, which has both levels
+    pub next :
+        (i j u l : ℕ) → i < j → j < n → m ≡ pairNumber n i j → Bounds R n i j u l →
+        (join″ meet″ : List (List ℕ)) → join″ ≡ stored join′ i j u → meet″ ≡ stored meet′ i j l → Upto R n (m + 1) join meet join″ meet″
+    next i j u l h k e found join″ meet″ ej em =
+        record {
+          complete =
+              λ a b t.
+              elim (ℕ-discrete (pairNumber n a b) m) [
+                | yes x ↦
+                    let p = one-number n a b i j (taken-order n (m + 1) a b t) (taken-within n (m + 1) a b t) h k (x ∙ e) in
+                    rw (p .0, p .1) (has-levels i j u l found)
+                | no x ↦
+                    w .complete a b
+                    (is-taken n m a b (taken-order n (m + 1) a b t) (taken-within n (m + 1) a b t) (omega (arith, taken-number n (m + 1) a b t)))
+              ];
+          joins =
+              subst (Filled n (m + 1) (leastUpper R n) join) (sym ej)
+              (filled-next n m i j h k e few (leastUpper R n) (least-swap R n j i) join join′ (w .joins) u (found .upper));
+          meets =
+              subst (Filled n (m + 1) (greatestLower R n) meet) (sym em)
+              (filled-next n m i j h k e few (greatestLower R n) (least-swap (converse R) n j i) meet meet′ (w .meets) l (found .lower));
+        }
 
-  pub swept-same : (t : List (List ℕ)) (place : ℕ) → Swept R n t place → Swept S n t place
-  swept-same t place w =
-      record {
-        first-place =
-            w .first-place
-            ∙ first-same (lacksUpper R n) (lacksUpper S n) (mostLevels * mostLevels) (λ p l. lacks-same p);
-        own = w .own;
-        pairs =
-            λ e i j a b.
-            let q = least-same i j (omega arith) b in (w .pairs e i j a b .0 ∙ q, w .pairs e i j a b .1 ∙ q);
-      }
+    -- what the sweep leaves, of the number that it takes up: those of its pairs that have both levels are the first m
+    left-by :
+        (k taken place : ℕ) → taken ≡ takenUp R n k → place ≡ placeWithin R n k →
+        ((a b : ℕ) → isFound R n k a b ≡ isTaken n m a b) → Sweeps R n k join meet join′ meet′ (record { taken = taken; place = place })
+    left-by k taken place et ep same =
+        record {
+          taken = et;
+          place = ep;
+          joins = λ a b. w .joins .entries a b ∙ sym (rw (same a b, same b a));
+          meets = λ a b. w .meets .entries a b ∙ sym (rw (same a b, same b a));
+        }
+
+    -- a pair that lacks a level is not among the first m
+    lacks-late : (a b : ℕ) → Lacking R n a b → m ≤ pairNumber n a b
+    lacks-late a b q =
+        elim (decLt (pairNumber n a b) m) [
+          | yes x ↦ absurd (true≢false (sym (q .lacks) ∙ w .complete a b (is-taken n m a b (q .order) (q .within) x)))
+          | no x ↦ omega arith
+        ]
+
+    -- the pairs that are found are the first m, if the others that are taken up lack a level
+    found-is :
+        (k taken : ℕ) → takenUp R n k ≡ taken → m ≤ taken →
+        ((a b : ℕ) → a < b → b < n → pairNumber n a b < taken → lacksOne R n a b ≡ false → pairNumber n a b < m) →
+        (a b : ℕ) → isFound R n k a b ≡ isTaken n m a b
+    found-is k taken e h only a b =
+        same-truth _ _
+        (λ f.
+        let u = ltb-true a b (and-left (ltb a b) _ f) in
+        let rest = and-right (ltb a b) _ f in
+        let v = ltb-true b n (and-left (ltb b n) _ rest) in
+        let last = and-right (ltb b n) _ rest in
+        let number : ℕ = pairNumber n a b in
+        let less = ltb-true number (takenUp R n k) (and-left (ltb number (takenUp R n k)) _ last) in
+        is-taken n m a b u v
+        (only a b u v (subst (λ x. number < x) e less) (not-true _ (and-right (ltb number (takenUp R n k)) _ last))))
+        (λ t.
+        let less : pairNumber n a b < taken = omega (arith, taken-number n m a b t) in
+        and-intro _ _ (lt-ltb a b (taken-order n m a b t))
+        (and-intro _ _ (lt-ltb b n (taken-within n m a b t))
+        (and-intro _ _ (lt-ltb (pairNumber n a b) (takenUp R n k) (subst (λ x. pairNumber n a b < x) (sym e) less))
+        (ap not (w .complete a b t)))))
+
+    module _ (k : ℕ) (held : m ≤ k) where
+      -- the sweep has taken up k pairs, or all, and none of them lacks a level
+      module _ (within : m ≤ levelPairs n) (done : (k ≤ m) ⊎ (levelPairs n ≤ m)) where
+        not-yet : firstLacking R n < mostLevels * mostLevels → (k ≡ m) × (k ≤ refusedNumber R n)
+        not-yet l =
+            let q = refused-pair R n l in
+            let late : m ≤ refusedNumber R n = lacks-late _ _ q in
+            let early : refusedNumber R n < levelPairs n = number-within n _ _ (q .order) (q .within) in
+            let same : k ≡ m = ⊎-elim (λ x. omega arith) (λ x. absurd (omega arith)) done in
+            (same, omega arith)
+
+        all-or-k : takenUp R n k ≡ m
+        all-or-k =
+            elim (decLt (firstLacking R n) (mostLevels * mostLevels)) [
+              | yes l ↦
+                  rw (lt-ltb _ _ l) (lesser-left k (suc (refusedNumber R n)) (omega (arith, not-yet l .1)) ∙ not-yet l .0)
+              | no l ↦
+                  rw (le-ltb (firstLacking R n) (mostLevels * mostLevels) (omega arith))
+                  (⊎-elim
+                  (λ x. lesser-left k (levelPairs n) (omega arith) ∙ omega arith)
+                  (λ x. lesser-right k (levelPairs n) (omega arith) ∙ omega arith)
+                  done)
+            ]
+
+        no-refusal : placeWithin R n k ≡ mostLevels * mostLevels
+        unfolding firstLacking
+        no-refusal =
+            elim (decLt (firstLacking R n) (mostLevels * mostLevels)) [
+              | yes l ↦ rw (le-ltb (refusedNumber R n) k (not-yet l .1))
+              | no l ↦
+                  by-cases
+                  (λ p. p ≡ mostLevels * mostLevels)
+                  (ltb (refusedNumber R n) k)
+                  (λ e. omega (arith, first-within (λ p. lacksUpper R n p || lacksUpper (converse R) n p) (mostLevels * mostLevels)))
+                  (λ e. refl)
+            ]
+
+        pub ends : (place : ℕ) → place ≡ mostLevels * mostLevels → Sweeps R n k join meet join′ meet′ (record { taken = m; place = place })
+        ends place e = left-by k m place (sym all-or-k) (e ∙ sym no-refusal) (found-is k m all-or-k (le-refl m) (λ a b h l x y. x))
+
+      -- the sweep has taken up one pair more, and this one lacks a level
+      module _ (i j : ℕ) (h : i < j) (l : j < n) (e : m ≡ pairNumber n i j) (more : m < k) (lacks : lacksOne R n i j ≡ true) where
+        sooner : (p : ℕ) → p < mostLevels * i + j → (lacksUpper R n p || lacksUpper (converse R) n p) ≡ false
+        sooner p u =
+            fails _ (λ t.
+            let q = lacking-pair R n p t in
+            let late = lacks-late _ _ q in
+            elim (decLt (p / mostLevels) i) [
+              | yes x ↦ omega (arith, earlier-row n _ _ i j (q .order) (q .within) x)
+              | no x ↦
+                  let same : p / mostLevels ≡ i = omega (arith, q .within) in
+                  let here = earlier-here n i (p % mostLevels) j (omega (arith, q .order)) (omega (arith, q .within)) in
+                  omega (arith, subst (λ a. pairNumber n a (p % mostLevels) < pairNumber n i j) (sym same) here)
+            ])
+
+        this-place : firstLacking R n ≡ mostLevels * i + j
+        unfolding firstLacking
+        this-place =
+            first-is _ _ _ (omega arith) (lacks-at R n i j few h l ∙ lacks) sooner
+
+        this-number : refusedNumber R n ≡ m
+        this-number = rw (this-place, quotient i j (omega arith), remainder i j (omega arith)) (sym e)
+
+        one-more : takenUp R n k ≡ m + 1
+        one-more =
+            rw (lt-ltb (firstLacking R n) (mostLevels * mostLevels) (omega (arith, this-place)), this-number)
+            (lesser-right k (suc m) (omega arith) ∙ omega arith)
+
+        refused : placeWithin R n k ≡ mostLevels * i + j
+        refused = rw (this-number, lt-ltb m k more) this-place
+
+        pub stops : Sweeps R n k join meet join′ meet′ (record { taken = m + 1; place = mostLevels * i + j })
+        stops =
+            left-by k (m + 1) (mostLevels * i + j) (sym one-more) (sym refused)
+            (found-is k (m + 1) one-more (omega arith) (λ a b u v x y.
+            elim (ℕ-discrete (pairNumber n a b) m) [
+              | yes z ↦ let p = one-number n a b i j u v h l (z ∙ e) in absurd (true≢false (sym lacks ∙ rw (p .0, p .1) at y))
+              | no z ↦ omega arith
+            ]))

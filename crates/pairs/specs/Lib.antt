@@ -1,4 +1,4 @@
 -- The pairs of levels: what is kept for each, and refusal 3.
 pub mod Refusals
-pub mod Bounds
+pub mod Sweeping
 pub mod Table

@@ -8,59 +8,79 @@ use order::converse;
 use prelude::Refusal;
 ghost use mathlib.Core.Path.{_≡_};
 ghost use Prim.Native.Nat.{_<_};
+ghost use Rattle.prelude.specs.Search.{lesser};
 ghost use Rattle.book.specs.LevelBook.{mostLevels, atOrBelow};
+ghost use Rattle.order.specs.Order.{leastUpper};
 ghost use Rattle.order.specs.Rows.{InOrder};
 ghost use Rattle.pairs.specs.Table.{Square};
 ghost use Rattle.pairs.specs.Refusals.{lackRefusal};
-ghost use Rattle.pairs.specs.Bounds.{Swept, Paired};
+ghost use Rattle.pairs.specs.Sweeping.{Sweeps};
 
-// Finds the least common upper level of each pair and keeps it at both entries of the pair, and each level at its own.
-// In an order it is the level whose row is what the rows of the pair share. The place of the first pair that lacks
-// one, or PLACES; the table is then filled up to that pair.
-fn sweep(rows: &[u16; Book::MAX_LEVELS], n: usize, t: &mut PairTable) -> usize
-    requires { ⌜ InOrder (now rows) n × Square mostLevels (now t) ⌝ }
-    ensures { λ r. ⌜ Swept (atOrBelow (now (rows .entry))) n (now (t .exit)) r ⌝ }
+// What a sweep gives: how many pairs it took up, and the place of the last of them if that lacks a level, else PLACES.
+pub struct Swept {
+    pub taken: usize,
+    pub place: usize,
+}
+
+// The least common upper level of i and j; n or more if they have none. In an order it is the level whose row is what the
+// rows of the two share, and no level below the lowest of these can be it.
+fn least_upper(rows: &[u16; Book::MAX_LEVELS], n: usize, i: usize, j: usize) -> usize
+    requires { ⌜ InOrder (now rows) n × ((i < n) × (j < n)) ⌝ }
+    ensures { λ r. ⌜ lesser r n ≡ leastUpper (atOrBelow (now (rows .entry))) n i j ⌝ }
 {
+    let uppers = rows[i] & rows[j];
+    let mut k = sets::lowest(uppers);
+    while k < n {
+        if rows[k] == uppers {
+            break;
+        }
+        k += 1;
+    }
+    k
+}
+
+// Takes up the first `most` pairs i < j of a book in order, by i, then by j, up to the first that lacks its upper or its lower
+// level. Each of the others gets both, in `join` and in `meet`, at both of its entries. No other entry changes.
+pub fn sweep(b: Book, most: usize, join: &mut PairTable, meet: &mut PairTable) -> Swept
+    requires { ⌜ InOrder (b .rows) (b .count) × (Square mostLevels (now join) × Square mostLevels (now meet)) ⌝ }
+    ensures { λ r. ⌜ Sweeps (atOrBelow (b .rows)) (b .count) most (now (join .entry)) (now (meet .entry)) (now (join .exit)) (now (meet .exit)) r ⌝ }
+{
+    let n = b.count;
+    let rows = b.rows;
+    // The meet of a pair is its join in the order upside down, so that one search serves both.
+    let below = converse::converse_rows(&rows, n);
+    let mut taken: usize = 0;
     let mut place = Book::PLACES;
     let mut i: usize = 0;
     'pairs: while i < n {
-        t[i][i] = i as u8;
+        let related = rows[i] | below[i];
         let mut j = i + 1;
         'others: while j < n {
-            let uppers = rows[i] & rows[j];
-            let mut k = sets::lowest(uppers);
-            'levels: while k < n {
-                if rows[k] == uppers {
-                    break;
-                }
-                k += 1;
-            }
-            if n <= k {
-                place = Book::MAX_LEVELS * i + j;
+            if most <= taken {
                 break 'pairs;
             }
-            t[i][j] = k as u8;
-            t[j][i] = k as u8;
+            taken += 1;
+            // Of two levels of which i is at or below j, the one is the meet and the other the join.
+            let mut upper = j;
+            let mut lower = i;
+            if !sets::has(related, j) {
+                upper = least_upper(&rows, n, i, j);
+                lower = least_upper(&below, n, i, j);
+                if n <= upper || n <= lower {
+                    place = Book::MAX_LEVELS * i + j;
+                    break 'pairs;
+                }
+            } else if !sets::has(rows[i], j) {
+                upper = i;
+                lower = j;
+            }
+            table::store(join, i, j, upper);
+            table::store(meet, i, j, lower);
             j += 1;
         }
         i += 1;
     }
-    place
-}
-
-// The place of the first pair that lacks a join or a meet, or PLACES: `join` and `meet` then keep them. The meet of a
-// pair is its join in the order upside down, so that one sweep over the pairs serves both.
-pub fn first_lacking(b: Book, join: &mut PairTable, meet: &mut PairTable) -> usize
-    requires { ⌜ InOrder (b .rows) (b .count) × (Square mostLevels (now join) × Square mostLevels (now meet)) ⌝ }
-    ensures { λ r. ⌜ Paired (atOrBelow (b .rows)) (b .count) (now (join .exit)) (now (meet .exit)) r ⌝ }
-{
-    let n = b.count;
-    let rows = b.rows;
-    let upper = sweep(&rows, n, join);
-    let below = converse::converse_rows(&rows, n);
-    let lower = sweep(&below, n, meet);
-    // The lesser of two places is the first: by i, then by j.
-    prelude::lesser(upper, lower)
+    Swept { taken, place }
 }
 
 // Refusal 3, of the place of the first pair that lacks a level.

@@ -6,8 +6,8 @@ use native.Mathlib.Omega.{arith}
 use native.Mathlib.Decide.{decLt}
 use lib.Dec.{ltb, leb}
 use borrow.Author.Count.{below-more}
-use borrow.Author.Tests.{lt-ltb, le-ltb, ltb-true, ltb-false, leb-true, leb-false, not-true, not-false}
-use Rattle.prelude.proofs.Bools.{and-intro, and-left, and-right, or-swap, same-truth, by-cases}
+use borrow.Author.Tests.{lt-ltb, le-ltb, ltb-true, ltb-false, le-leb, leb-true, leb-false, not-true, not-false}
+use Rattle.prelude.proofs.Bools.{and-intro, and-left, and-right, same-truth, by-cases}
 use Rattle.prelude.specs.Search.{firstFrom, first, any, all, lesser}
 
 -- every number below n fails the test
@@ -182,6 +182,13 @@ pub any-same : (f g : ℕ → Bool) (n : ℕ) → ((k : ℕ) → k < n → f k �
 unfolding any
 any-same f g n same = ap (λ k. ltb k n) (first-same f g n same)
 
+-- the lesser of two numbers in order
+pub lesser-left : (m n : ℕ) → m ≤ n → lesser m n ≡ m
+lesser-left m n h = rw (le-leb m n h)
+
+pub lesser-right : (m n : ℕ) → n ≤ m → lesser m n ≡ n
+lesser-right m n h = by-cases (λ k. k ≡ n) (leb m n) (λ e. omega (arith, leb-true m n e)) (λ e. refl)
+
 -- a search that ends sooner
 pub first-sooner : (f : ℕ → Bool) (m n : ℕ) → n ≤ m → first f n ≡ lesser (first f m) n
 first-sooner f m n h =
@@ -195,29 +202,3 @@ first-sooner f m n h =
       | no u ↦ first-none f n (λ k v. first-passed f m k (omega arith)) ∙ omega arith
     ])
     (λ e. first-none f n (λ k v. first-passed f m k (omega (arith, leb-false (first f m) n e))))
-
--- the first number at which one of two tests holds is the lesser of the first numbers of each
-first-or-left :
-    (f g : ℕ → Bool) (n : ℕ) → first f n ≤ first g n → first (λ k. f k || g k) n ≡ first f n
-first-or-left f g n h =
-    elim (decLt (first f n) n) [
-      | yes l ↦
-          first-is (λ k. f k || g k) n (first f n) l (rw (first-holds f n l)) (λ k u. rw (first-passed f n k u) (first-passed g n k (omega arith)))
-      | no l ↦
-          let e : first f n ≡ n = omega (arith, first-within f n) in
-          first-none (λ k. f k || g k) n (λ k u. rw (first-at-end f n e k u) (first-passed g n k (omega arith))) ∙ sym e
-    ]
-
-first-or-right :
-    (f g : ℕ → Bool) (n : ℕ) → first g n ≤ first f n → first (λ k. f k || g k) n ≡ first g n
-first-or-right f g n h =
-    first-same (λ k. f k || g k) (λ k. g k || f k) n (λ k l. or-swap (f k) (g k)) ∙ first-or-left g f n h
-
-pub first-or :
-    (f g : ℕ → Bool) (n : ℕ) → first (λ k. f k || g k) n ≡ lesser (first f n) (first g n)
-first-or f g n =
-    by-cases
-    (λ k. first (λ k. f k || g k) n ≡ k)
-    (leb (first f n) (first g n))
-    (λ e. first-or-left f g n (leb-true _ _ e))
-    (λ e. first-or-right f g n (omega (arith, leb-false (first f n) (first g n) e)))

@@ -1,275 +1,259 @@
--- `sweep`: the own entries and the pairs up to the one at hand are done (`Sweeps`), and no level below k is the least common upper one.
-use mathlib.Core.Path.{_≡_, sym, subst}
-use mathlib.Core.Logic.{⊎-elim}
+-- `sweep`: the pairs up to the one at hand are taken up (`Sweeps`).
+use mathlib.Core.Path.{_≡_, refl, sym, ap, _∙_, subst}
+use mathlib.Core.List.{List}
+use mathlib.Core.Logic.{_⊎_, inl, inr, ⊎-elim}
 use Prim.Native.Nat.{ℕ, _+_, _*_, _-_, _≤_, _<_}
+use native.Mathlib.Nat.{le-antisymm}
 use native.Mathlib.Omega.{arith}
-use borrow.Author.Count.{below-more}
-use Rattle.prelude.proofs.Searches.{NoneBelow, past, first-is, first-none}
-use Rattle.order.specs.Order.{isLeastUpper, leastUpper}
-use Rattle.book.specs.LevelBook.{mostLevels, atOrBelow}
-use Rattle.order.specs.Rows.{InOrder}
-use Rattle.pairs.specs.Bounds.{Swept}
-use Rattle.pairs.proofs.Rows.{none-sooner, is-least, not-least}
-use Rattle.pairs.proofs.Sweeps.{Done, start, own-next, pair-next, row-next, finish, stop}
+use borrow.Author.Tests.{leb-true, leb-false, not-true, not-false}
 use borrow.Author.Needs.{needs}
+use Rattle.book.specs.LevelBook.{mostLevels, atOrBelow}
+use Rattle.order.specs.Rows.{InOrder, converseRows}
+use Rattle.order.proofs.Duals.{converse-in-order}
+use Rattle.pairs.specs.Sweeping.{levelPairs, pairNumber}
+use Rattle.pairs.proofs.Numbers.{first-number, next-number, next-row, last-row, number-within}
+use Rattle.pairs.proofs.Bounds.{Bounds, in-order, in-converse, searched, not-found}
+use Rattle.pairs.proofs.Sweeps.{Upto, start, next, ends, stops}
 use Rattle.pairs.proofs.sweep.Statement.{statement}
 use Rattle.pairs.proofs.sweep.Tie as tie
 
-abbrev Inv-levels : tie.InvT-levels
-Inv-levels rows n t place i j uppers k₀ k = NoneBelow (isLeastUpper (atOrBelow rows) n i j) k
-
-abbrev μ-levels : tie.MeasureT-levels
-μ-levels rows n t place i j uppers k₀ k = n - k
+-- between two pairs: how many are taken up, at most `most`, and none of them is refused
+abbrev Between : ℕ → ℕ → ℕ → ℕ → ℕ → ℕ → Type 0
+Between most n i j taken place = (taken ≡ pairNumber n i j) × ((taken ≤ most) × (place ≡ mostLevels * mostLevels))
 
 abbrev Inv-others : tie.InvT-others
-Inv-others rows n t₀ place₀ i j₀ t place j =
+Inv-others most join₀ meet₀ n rows below taken₀ place₀ i related j₀ join meet taken place j =
     (i < j)
-    × ((j ≤ n) × ((place ≡ mostLevels * mostLevels) × Done (atOrBelow rows) n (i + 1) (mostLevels * i + j) t))
+    × ((j ≤ n)
+    × (Between most n i j taken place
+    × ((t u : List (List ℕ)) → Upto (atOrBelow rows) n taken₀ t u join₀ meet₀ → Upto (atOrBelow rows) n taken t u join meet)))
 
 abbrev μ-others : tie.MeasureT-others
-μ-others rows n t₀ place₀ i j₀ t place j = n - j
+μ-others most join₀ meet₀ n rows below taken₀ place₀ i related j₀ join meet taken place j = n - j
 
 abbrev Inv-pairs : tie.InvT-pairs
-Inv-pairs rows n t₀ place₀ i₀ t place i =
-    (i ≤ n) × ((place ≡ mostLevels * mostLevels) × Done (atOrBelow rows) n i (mostLevels * i) t)
+Inv-pairs most join₀ meet₀ n rows below taken₀ place₀ i₀ join meet taken place i =
+    (i ≤ n) × (Between most n i (i + 1) taken place × Upto (atOrBelow rows) n taken join₀ meet₀ join meet)
 
 abbrev μ-pairs : tie.MeasureT-pairs
-μ-pairs rows n t₀ place₀ i₀ t place i = n - i
+μ-pairs most join₀ meet₀ n rows below taken₀ place₀ i₀ join meet taken place i = n - i
 
-few : (c : tie.Start Inv-levels μ-levels Inv-others μ-others Inv-pairs μ-pairs) → c .args .n ≤ mostLevels
-few c = c .pre .0 .few
+converse-rows-requires : tie.Need-converse-rows-requires Inv-others μ-others Inv-pairs μ-pairs
+converse-rows-requires c κs = search needs
 
--- at the search over the levels: the pair's two levels, under the order
-module _ (l : tie.At-levels Inv-levels μ-levels Inv-others μ-others Inv-pairs μ-pairs) where
-  ordered : InOrder (l .before .before .before .before .before .before .before .before .args .rows .now) (l .before .before .before .before .before .before .before .before .args .n)
-  ordered = l .before .before .before .before .before .before .before .before .pre .0
+pairs-holds : tie.Need-pairs-holds Inv-others μ-others Inv-pairs μ-pairs
+pairs-holds c =
+    let entry = c .before .before .before in (
+      search needs,
+      ((sym (first-number _), (search needs, refl)), start _ _ _ _ (entry .pre .1 .0) (entry .pre .1 .1)),
+    )
 
-  first-level :
-      l .before .before .before .before .before .before .before .pairs .i
-      < l .before .before .before .before .before .before .before .before .args .n
-  first-level = l .before .before .before .before .before .before .pairs-test .taken
+mul-related : tie.Need-mul-related Inv-others μ-others Inv-pairs μ-pairs
+mul-related c = search needs
 
-  second-level :
-      l .before .before .before .before .before .others .j
-      < l .before .before .before .before .before .before .before .before .args .n
-  second-level = l .before .before .before .before .others-test .taken
+array-read-related : tie.Need-array-read-related Inv-others μ-others Inv-pairs μ-pairs
+array-read-related c = search needs
 
-  abbrev found : ℕ
-  found =
-      leastUpper
-      (atOrBelow (l .before .before .before .before .before .before .before .before .args .rows .now))
-      (l .before .before .before .before .before .before .before .before .args .n)
-      (l .before .before .before .before .before .before .before .pairs .i)
-      (l .before .before .before .before .before .others .j)
+mul-related-2 : tie.Need-mul-related-2 Inv-others μ-others Inv-pairs μ-pairs
+mul-related-2 c = search needs
 
--- where the search over the levels has ended, k is what it finds, or there is none
-module _ (l : tie.Left-levels Inv-levels μ-levels Inv-others μ-others Inv-pairs μ-pairs) where
-  least-is : l .before .levels .k < l .before .before .before .before .before .before .before .before .before .args .n → found (l .before) ≡ l .before .levels .k
-  unfolding leastUpper
-  least-is h =
-      ⊎-elim
-      (λ w. absurd (omega (arith, w .left)))
-      (λ w.
-      first-is _ _ _ (w .0 .taken)
-      (is-least _ _ _ _ (ordered (l .before)) (first-level (l .before)) (second-level (l .before)) _ (w .0 .taken) (w .2 .taken))
-      (l .before .levels .inv))
-      (l .levels-test .came)
+array-read-related-2 : tie.Need-array-read-related-2 Inv-others μ-others Inv-pairs μ-pairs
+array-read-related-2 c = search needs
 
-  none-is : l .before .before .before .before .before .before .before .before .before .args .n ≤ l .before .levels .k → found (l .before) ≡ l .before .before .before .before .before .before .before .before .before .args .n
-  unfolding leastUpper
-  none-is h = first-none _ _ (past h (l .before .levels .inv))
-
-pairs-holds : tie.Need-pairs-holds Inv-levels μ-levels Inv-others μ-others Inv-pairs μ-pairs
-pairs-holds c = (search needs, (search needs, start _ _ (search needs) _ (c .pre .1)))
-
-cast-t : tie.Need-cast-t Inv-levels μ-levels Inv-others μ-others Inv-pairs μ-pairs
-cast-t c = search needs
-
-mul-t : tie.Need-mul-t Inv-levels μ-levels Inv-others μ-others Inv-pairs μ-pairs
-mul-t c = search needs
-
-index-1-t : tie.Need-index-1-t Inv-levels μ-levels Inv-others μ-others Inv-pairs μ-pairs
-index-1-t c = search needs
-
-index-2-t : tie.Need-index-2-t Inv-levels μ-levels Inv-others μ-others Inv-pairs μ-pairs
-index-2-t c = search needs
-
-add-j : tie.Need-add-j Inv-levels μ-levels Inv-others μ-others Inv-pairs μ-pairs
+add-j : tie.Need-add-j Inv-others μ-others Inv-pairs μ-pairs
 add-j c = search needs
 
-others-holds : tie.Need-others-holds Inv-levels μ-levels Inv-others μ-others Inv-pairs μ-pairs
-others-holds c = (
-  search needs,
-  (
-    search needs,
-    (search needs, own-next _ _ (few (c .before .before)) _ _ (c .pairs-test .taken) (c .before .pairs .inv .1 .1)),
-  ),
-)
+others-holds : tie.Need-others-holds Inv-others μ-others Inv-pairs μ-pairs
+others-holds c = (search needs, (search needs, (c .before .pairs .inv .1 .0, λ t u w. w)))
 
-mul-uppers : tie.Need-mul-uppers Inv-levels μ-levels Inv-others μ-others Inv-pairs μ-pairs
-mul-uppers c = search needs
+add-taken : tie.Need-add-taken Inv-others μ-others Inv-pairs μ-pairs
+add-taken c = search needs
 
-element-copy-out-uppers :
-    tie.Need-element-copy-out-uppers Inv-levels μ-levels Inv-others μ-others Inv-pairs μ-pairs
-element-copy-out-uppers c = search needs
+has-requires : tie.Need-has-requires Inv-others μ-others Inv-pairs μ-pairs
+has-requires c κs = search needs
 
-mul-uppers-2 : tie.Need-mul-uppers-2 Inv-levels μ-levels Inv-others μ-others Inv-pairs μ-pairs
-mul-uppers-2 c = search needs
+-- at a pair that is taken up: its two levels, under the order
+module _ (c : tie.After-has Inv-others μ-others Inv-pairs μ-pairs) where
+  abbrev start-of : tie.Start Inv-others μ-others Inv-pairs μ-pairs
+  start-of = c .before .before .before .before .before .before .before .before .before
 
-element-copy-out-uppers-2 :
-    tie.Need-element-copy-out-uppers-2 Inv-levels μ-levels Inv-others μ-others Inv-pairs μ-pairs
-element-copy-out-uppers-2 c = search needs
+  below-is : c .before .before .before .before .before .before .converse-rows .result ≡ converseRows (start-of .args .b .rows) (start-of .args .b .count)
+  below-is = c .before .before .before .before .before .before .converse-rows .ensures
 
-lowest-requires : tie.Need-lowest-requires Inv-levels μ-levels Inv-others μ-others Inv-pairs μ-pairs
-lowest-requires c κs = search needs
+  first-level : c .before .before .before .before .before .pairs .i < start-of .args .b .count
+  first-level = c .before .before .before .before .pairs-test .taken
 
-levels-holds : tie.Need-levels-holds Inv-levels μ-levels Inv-others μ-others Inv-pairs μ-pairs
-levels-holds c =
-    let pair = c .before .before .before .before in
-    let entry = pair .before .before .before in
-    rw (c .lowest .ensures) (none-sooner (entry .args .rows .now) (entry .args .n) (pair .before .before .pairs .i) (pair .others .j))
+  second-level : c .before .before .before .others .j < start-of .args .b .count
+  second-level = c .before .before .others-test .taken
 
-mul-if1 : tie.Need-mul-if1 Inv-levels μ-levels Inv-others μ-others Inv-pairs μ-pairs
-mul-if1 c = search needs
+least-upper-requires : tie.Need-least-upper-requires Inv-others μ-others Inv-pairs μ-pairs
+least-upper-requires c κs =
+    let at = c .before .before in
+    (start-of at .pre .0, (first-level at, second-level at))
 
-element-copy-out-if1 : tie.Need-element-copy-out-if1 Inv-levels μ-levels Inv-others μ-others Inv-pairs μ-pairs
-element-copy-out-if1 c = search needs
+least-upper-requires-2 : tie.Need-least-upper-requires-2 Inv-others μ-others Inv-pairs μ-pairs
+least-upper-requires-2 c κs =
+    let at = c .before .before .before .before in
+    let entry = start-of at in (
+      subst (λ b. InOrder b (entry .args .b .count)) (sym (below-is at)) (converse-in-order (entry .args .b .rows) (entry .args .b .count) (entry .pre .0)),
+      (first-level at, second-level at),
+    )
 
-add-k : tie.Need-add-k Inv-levels μ-levels Inv-others μ-others Inv-pairs μ-pairs
-add-k c = search needs
-
-levels-less : tie.Need-levels-less Inv-levels μ-levels Inv-others μ-others Inv-pairs μ-pairs
-levels-less c = search needs
-
-levels-again : tie.Need-levels-again Inv-levels μ-levels Inv-others μ-others Inv-pairs μ-pairs
-levels-again c =
-    let l = c .before .before .before in
-    below-more _ _ (l .levels .inv)
-    (not-least _ _ _ _ (ordered l) (first-level l) (second-level l) _ (c .before .before .levels-test .taken) (c .if1 .left))
-
-mul-place : tie.Need-mul-place Inv-levels μ-levels Inv-others μ-others Inv-pairs μ-pairs
+mul-place : tie.Need-mul-place Inv-others μ-others Inv-pairs μ-pairs
 mul-place c = search needs
 
-add-place : tie.Need-add-place Inv-levels μ-levels Inv-others μ-others Inv-pairs μ-pairs
+add-place : tie.Need-add-place Inv-others μ-others Inv-pairs μ-pairs
 add-place c = search needs
 
-cast-t-2 : tie.Need-cast-t-2 Inv-levels μ-levels Inv-others μ-others Inv-pairs μ-pairs
-cast-t-2 c = search needs
+mul-has : tie.Need-mul-has Inv-others μ-others Inv-pairs μ-pairs
+mul-has c = search needs
 
-mul-t-2 : tie.Need-mul-t-2 Inv-levels μ-levels Inv-others μ-others Inv-pairs μ-pairs
-mul-t-2 c = search needs
+array-read-has : tie.Need-array-read-has Inv-others μ-others Inv-pairs μ-pairs
+array-read-has c = search needs
 
-index-1-t-2 : tie.Need-index-1-t-2 Inv-levels μ-levels Inv-others μ-others Inv-pairs μ-pairs
-index-1-t-2 c = search needs
+has-requires-2 : tie.Need-has-requires-2 Inv-others μ-others Inv-pairs μ-pairs
+has-requires-2 c κs = search needs
 
-index-2-t-2 : tie.Need-index-2-t-2 Inv-levels μ-levels Inv-others μ-others Inv-pairs μ-pairs
-index-2-t-2 c = search needs
+-- both levels of the pair: found by a search, or the pair's own
+bounds :
+    (c : tie.Joined2 Inv-others μ-others Inv-pairs μ-pairs) →
+    Bounds
+    (atOrBelow (start-of (c .before) .args .b .rows))
+    (start-of (c .before) .args .b .count)
+    (c .before .before .before .before .before .before .pairs .i)
+    (c .before .before .before .before .others .j)
+    (c .if2 .upper)
+    (c .if2 .lower)
+bounds c =
+    let at = c .before in
+    let w = start-of at .pre .0 in
+    ⊎-elim
+    (λ q.
+    rw (q .7, q .8)
+    (searched _ _ _ w (below-is at) _ _ (first-level at) (second-level at) _ _ (q .2 .ensures) (q .4 .ensures) (q .5 .left) (leb-false _ _ (q .6 .left))))
+    (⊎-elim
+    (λ q.
+    rw (q .3, q .4)
+    (in-converse _ _ _ w (below-is at) _ _ (first-level at) (second-level at) (sym (at .has .ensures) ∙ not-false _ (q .0 .left)) (sym (q .1 .ensures) ∙ not-true _ (q .2 .taken))))
+    (λ q.
+    rw (q .3, q .4)
+    (in-order _ _ _ w (below-is at) _ _ (first-level at) (second-level at) (sym (q .1 .ensures) ∙ not-false _ (q .2 .left)))))
+    (c .if2 .came)
 
-cast-t-3 : tie.Need-cast-t-3 Inv-levels μ-levels Inv-others μ-others Inv-pairs μ-pairs
-cast-t-3 c = search needs
+store-requires : tie.Need-store-requires Inv-others μ-others Inv-pairs μ-pairs
+store-requires c κs =
+    let b = bounds (c .before) in
+    let at = c .before .before in
+    let few = start-of at .pre .0 .few in
+    (omega (arith, first-level at), (omega (arith, second-level at), omega (arith, b .upper-within)))
 
-mul-t-3 : tie.Need-mul-t-3 Inv-levels μ-levels Inv-others μ-others Inv-pairs μ-pairs
-mul-t-3 c = search needs
+store-requires-2 : tie.Need-store-requires-2 Inv-others μ-others Inv-pairs μ-pairs
+store-requires-2 c κs =
+    let b = bounds (c .before .before .before) in
+    let at = c .before .before .before .before in
+    let few = start-of at .pre .0 .few in
+    (omega (arith, first-level at), (omega (arith, second-level at), omega (arith, b .lower-within)))
 
-index-1-t-3 : tie.Need-index-1-t-3 Inv-levels μ-levels Inv-others μ-others Inv-pairs μ-pairs
-index-1-t-3 c = search needs
-
-index-2-t-3 : tie.Need-index-2-t-3 Inv-levels μ-levels Inv-others μ-others Inv-pairs μ-pairs
-index-2-t-3 c = search needs
-
-add-j-2 : tie.Need-add-j-2 Inv-levels μ-levels Inv-others μ-others Inv-pairs μ-pairs
+add-j-2 : tie.Need-add-j-2 Inv-others μ-others Inv-pairs μ-pairs
 add-j-2 c = search needs
 
-others-less : tie.Need-others-less Inv-levels μ-levels Inv-others μ-others Inv-pairs μ-pairs
+others-less : tie.Need-others-less Inv-others μ-others Inv-pairs μ-pairs
 others-less c = search needs
 
-others-again : tie.Need-others-again Inv-levels μ-levels Inv-others μ-others Inv-pairs μ-pairs
+others-again : tie.Need-others-again Inv-others μ-others Inv-pairs μ-pairs
 others-again c =
-    let o = c .before .before .before .before .before .before .before in (
+    let at = c .before .before .before .before .before in
+    let inv = at .before .before .before .others .inv in
+    let less = at .before .if1 .left in
+    let here = second-level at in (
       search needs,
       (
         search needs,
         (
-          search needs,
-          pair-next _ _ (few (o .before .before .before))
-              _ _ _ _ (o .others .inv .0)
-              (c .before .before .before .before .before .before .others-test .taken)
-              (least-is (c .before) (c .if2 .left))
-              (c .if2 .left)
-              (o .others .inv .1 .1 .1),
+          (ap (λ m. m + 1) (inv .1 .1 .0 .0) ∙ sym (next-number _ _ _ (inv .0)), (omega arith, inv .1 .1 .0 .1 .1)),
+          λ t u w.
+              next _ _ (start-of at .pre .0 .few) _ _ _ _ _ (inv .1 .1 .1 t u w) _ _ _ _ (inv .0) here (inv .1 .1 .0 .0)
+              (bounds (c .before .before .before .before)) _ _
+              (c .before .before .store .ensures)
+              (c .store2 .ensures),
         ),
       ),
     )
 
-add-i : tie.Need-add-i Inv-levels μ-levels Inv-others μ-others Inv-pairs μ-pairs
+add-i : tie.Need-add-i Inv-others μ-others Inv-pairs μ-pairs
 add-i c = search needs
 
-pairs-less : tie.Need-pairs-less Inv-levels μ-levels Inv-others μ-others Inv-pairs μ-pairs
+pairs-less : tie.Need-pairs-less Inv-others μ-others Inv-pairs μ-pairs
 pairs-less c = search needs
 
-pairs-again : tie.Need-pairs-again Inv-levels μ-levels Inv-others μ-others Inv-pairs μ-pairs
-pairs-again c = (
-  search needs,
-  (
-    search needs,
-    row-next _ _ (few (c .before .before .before .before)) _ _ _ (c .others-test .left) (c .before .others .inv .1 .1 .1),
-  ),
-)
+pairs-again : tie.Need-pairs-again Inv-others μ-others Inv-pairs μ-pairs
+pairs-again c =
+    let all = c .before .others .inv in
+    let row = c .before .before in (
+      search needs,
+      (
+        (all .1 .1 .0 .0 ∙ ap (pairNumber _ _) (le-antisymm (all .1 .0) (c .others-test .left)) ∙ next-row _ _, all .1 .1 .0 .1),
+        all .1 .1 .1 _ _ (row .before .pairs .inv .1 .1),
+      ),
+    )
 
-returns : tie.Need-returns Inv-levels μ-levels Inv-others μ-others Inv-pairs μ-pairs
+returns : tie.Need-returns Inv-others μ-others Inv-pairs μ-pairs
 returns c =
-    subst
-    (Swept _ _ _)
-    (sym (c .before .pairs .inv .1 .0))
-    (finish _ _ (few (c .before .before)) _ _ (c .pairs-test .left) (c .before .pairs .inv .1 .1))
+    let entry = c .before .before .before .before .before in
+    let inv = c .before .pairs .inv in
+    let same = le-antisymm (inv .0) (c .pairs-test .left) in
+    let all : c .before .pairs .taken ≡ levelPairs (entry .args .b .count) = inv .1 .0 .0 ∙ ap (λ i. pairNumber (entry .args .b .count) i (i + 1)) same ∙ last-row _ in
+    ends _ _ (entry .pre .0 .few) _ _ _ _ _ (inv .1 .1) _ (inv .1 .0 .1 .0) (omega arith) (inr (omega arith)) _ (inv .1 .0 .1 .1)
 
-returns-2 : tie.Need-returns-2 Inv-levels μ-levels Inv-others μ-others Inv-pairs μ-pairs
+returns-2 : tie.Need-returns-2 Inv-others μ-others Inv-pairs μ-pairs
 returns-2 c =
-    let o = c .before .before .before .before .before .before .before in
-    stop _ _ (few (o .before .before .before))
-    _ _ _ _ (o .others .inv .0)
-    (c .before .before .before .before .before .before .others-test .taken)
-    (none-is (c .before) (c .if2 .taken))
-    (o .others .inv .1 .1 .1)
+    let at = c .before .before in
+    let entry = at .before .before .before .before .before .before in
+    let inv = at .others .inv in
+    let within = number-within _ _ _ (inv .0) (c .before .others-test .taken) in
+    ends _ _ (entry .pre .0 .few) _ _ _ _ _ (inv .1 .1 .1 _ _ (at .before .before .pairs .inv .1 .1)) _ (inv .1 .1 .0 .1 .0)
+    (omega (arith, inv .1 .1 .0 .0, within)) (inl (c .if1 .taken)) _ (inv .1 .1 .0 .1 .1)
+
+returns-3 : tie.Need-returns-3 Inv-others μ-others Inv-pairs μ-pairs
+returns-3 c =
+    let at = c .before .before .before .before .before .before in
+    let inv = at .before .before .before .others .inv in
+    let lacks =
+    not-found _ _ _ (start-of at .pre .0) (below-is at) _ _ (first-level at) (second-level at) _ _
+    (c .before .before .before .least-upper .ensures)
+    (c .before .least-upper2 .ensures)
+    (⊎-elim (λ q. inl (q .taken)) (λ q. inr (leb-true _ _ (q .1 .taken))) (c .if3 .came))
+    in
+    stops _ _ (start-of at .pre .0 .few) _ _ _ _ _ (inv .1 .1 .1 _ _ (at .before .before .before .before .before .pairs .inv .1 .1)) _
+    (inv .1 .1 .0 .1 .0) _ _ (inv .0) (second-level at) (inv .1 .1 .0 .0) (at .before .if1 .left) lacks
 
 pub sweep-spec : {M : Type 1} → statement M
 sweep-spec =
     tie.close
     (tie.spec
-    Inv-levels
-    μ-levels
     Inv-others
     μ-others
     Inv-pairs
     μ-pairs
+    converse-rows-requires
     pairs-holds
-    cast-t
-    mul-t
-    index-1-t
-    index-2-t
+    mul-related
+    array-read-related
+    mul-related-2
+    array-read-related-2
     add-j
     others-holds
-    mul-uppers
-    element-copy-out-uppers
-    mul-uppers-2
-    element-copy-out-uppers-2
-    lowest-requires
-    levels-holds
-    mul-if1
-    element-copy-out-if1
-    add-k
-    levels-less
-    levels-again
+    add-taken
+    has-requires
+    least-upper-requires
+    least-upper-requires-2
     mul-place
     add-place
-    cast-t-2
-    mul-t-2
-    index-1-t-2
-    index-2-t-2
-    cast-t-3
-    mul-t-3
-    index-1-t-3
-    index-2-t-3
+    mul-has
+    array-read-has
+    has-requires-2
+    store-requires
+    store-requires-2
     add-j-2
     others-less
     others-again
@@ -277,4 +261,5 @@ sweep-spec =
     pairs-less
     pairs-again
     returns
-    returns-2)
+    returns-2
+    returns-3)
