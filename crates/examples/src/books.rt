@@ -6,6 +6,9 @@ use pairs::table::PairTable;
 ghost use Prim.Native.Nat.{_<_, _≤_};
 ghost use Rattle.book.specs.LevelBook.{mostLevels};
 
+// What the tables have everywhere that are handed to a sweep of the first pairs: no level.
+const MARK: u8 = 99;
+
 // The levels that a table keeps for level i and each level.
 fn say_row(t: &PairTable, n: usize, i: usize)
     requires { ⌜ (i < n) × (n ≤ mostLevels) ⌝ }
@@ -29,14 +32,20 @@ fn say_table(title: &[u8], t: &PairTable, n: usize)
     }
 }
 
+fn say_tables(join: PairTable, meet: PairTable, n: usize)
+    requires { ⌜ n ≤ mostLevels ⌝ }
+{
+    say_table(b"\njoins\n", &join, n);
+    say_table(b"meets\n", &meet, n);
+}
+
 fn say_book(b: Book, join: PairTable, meet: PairTable)
     requires { ⌜ b .count ≤ mostLevels ⌝ }
 {
     say(b"levels ", b.count);
     say(b" bottom ", lattice::bottom_of(b));
     say(b" top ", lattice::top_of(b));
-    say_table(b"\njoins\n", &join, b.count);
-    say_table(b"meets\n", &meet, b.count);
+    say_tables(join, meet, b.count);
 }
 
 pub fn show(file: &[u8]) {
@@ -54,4 +63,19 @@ pub fn show(file: &[u8]) {
         return;
     }
     say_book(read.book, join, meet);
+}
+
+// What a sweep of the first `most` pairs gives, and what it leaves in tables of marks.
+pub fn show_first(file: &[u8], most: usize) {
+    let read = order::load(file);
+    if 0 < read.refusal.number {
+        text::say_refusal(read.refusal.number, read.refusal.place);
+        return;
+    }
+    let mut join = [[MARK; Book::MAX_LEVELS]; Book::MAX_LEVELS];
+    let mut meet = [[MARK; Book::MAX_LEVELS]; Book::MAX_LEVELS];
+    let swept = pairs::sweep(read.book, most, &mut join, &mut meet);
+    say(b"taken ", swept.taken);
+    say(b" place ", swept.place);
+    say_tables(join, meet, read.book.count);
 }

@@ -15,6 +15,13 @@ fn say(word: &[u8], n: usize) {
     io::print_decimal(STDOUT_FILENO, n as u64);
 }
 
+// The number of pairs, and a level book.
+fn show_first(bytes: &[u8]) {
+    if 0 < bytes.len() {
+        books::show_first(&bytes[1..], prelude::wide(bytes[0]));
+    }
+}
+
 // A line's first byte says what it is.
 fn take_line(line: &[u8])
     requires { ⌜ 0 < length (now line) ⌝ }
@@ -24,6 +31,7 @@ fn take_line(line: &[u8])
     let file = &bytes[0..n];
     match line[0] {
         b'b' => books::show(file),
+        b'f' => show_first(file),
         b's' => scripts::show(file),
         _ => {}
     }

@@ -4,11 +4,12 @@ use mathlib.Core.Bool.{true}
 use borrow.Author.Tests.{eq-eqb, ne-eqb}
 use denote.Ref.{now}
 use Rattle.prelude.specs.Refusals.{passes}
-use Rattle.book.specs.LevelBook.{mostLevels}
+use Rattle.book.specs.LevelBook.{atOrBelow}
 use Rattle.book.specs.Load.{bookOf}
 use Rattle.lattice.specs.Refusals as books
 use Rattle.lattice.proofs.Loads.{order-refused, book-read, in-order, pairs-refused, joins-kept, meets-kept}
-use Rattle.pairs.proofs.Stores.{new-square}
+use Rattle.pairs.proofs.Numbers.{pairs-fit}
+use Rattle.pairs.proofs.Pairs.{Paired, paired}
 use Rattle.flow.specs.Flow.{levelsOf, lattice, Ordered, Joins, Meets}
 use Rattle.flow.proofs.Theorems.{books-ordered}
 use Rattle.checker.specs.Contracts.{Prepares}
@@ -30,15 +31,41 @@ returns c =
     subst (Prepares _ _ _ _) (sym (c .refused-with .ensures))
     (refused-by (by-book _ _ (order-refused _ _ (read .load .ensures) some) (ne-eqb _ 0 some)) (ne-eqb _ 0 some))
 
--- the book that is read, in order
-abbrev read-at : (c : tie.After-meet) → tie.After-load
-read-at c = c .before .before .before .before
+new-table-requires : tie.Need-new-table-requires
+new-table-requires c κs = tt
 
-first-lacking-requires : tie.Need-first-lacking-requires
-first-lacking-requires c κs = (
-  in-order _ _ (read-at c .load .ensures) (c .before .before .if1 .left),
-  (new-square mostLevels 0, new-square mostLevels 0),
+new-table-requires-2 : tie.Need-new-table-requires-2
+new-table-requires-2 c κs = tt
+
+-- past refusals 1 and 2, and the book that is read
+abbrev past : (c : tie.After-meet) → tie.Else1
+past c = c .before .before .before .before
+
+abbrev read-at : (c : tie.After-meet) → tie.After-load
+read-at c = past c .before .before
+
+sweep-requires : tie.Need-sweep-requires
+sweep-requires c κs = (
+  in-order _ _ (read-at c .load .ensures) (past c .if1 .left),
+  (c .before .before .before .new-table .ensures .0, c .before .before .new-table2 .ensures .0),
 )
+
+-- what is found of its pairs
+found :
+    (c : tie.After-sweep) →
+    Paired
+    (atOrBelow (read-at (c .before) .load .result .book .rows))
+    (read-at (c .before) .load .result .book .count)
+    (c .sweep .last .1 .1 .0)
+    (c .sweep .last .1 .1 .1 .0)
+    (c .sweep .result .place)
+found c =
+    let m = c .before in
+    let ordered = in-order _ _ (read-at m .load .ensures) (past m .if1 .left) in
+    paired _ _ _ ordered (pairs-fit _ (ordered .few)) _ _ _ _ _
+    (m .before .before .before .new-table .ensures .1)
+    (m .before .before .new-table2 .ensures .1)
+    (c .sweep .ensures)
 
 lack-refusal-requires : tie.Need-lack-refusal-requires
 lack-refusal-requires c κs = tt
@@ -49,7 +76,7 @@ lack-is :
 lack-is c =
     let m = c .before .before in
     c .lack-refusal .ensures
-    ∙ pairs-refused _ _ (read-at m .load .ensures) (m .before .before .if1 .left) (c .before .first-lacking .ensures)
+    ∙ pairs-refused _ _ (read-at m .load .ensures) (past m .if1 .left) (found (c .before))
 
 refused-with-requires-2 : tie.Need-refused-with-requires-2
 refused-with-requires-2 c κs = tt
@@ -71,18 +98,18 @@ book-is :
     ≡ bookOf (now (read-at (c .before .before .before .before) .before .before .before .args .b))
 book-is c =
     let m = c .before .before .before .before in
-    book-read _ _ (read-at m .load .ensures) (m .before .before .if1 .left)
+    book-read _ _ (read-at m .load .ensures) (past m .if1 .left)
 
 prepare-script-requires : tie.Need-prepare-script-requires
 prepare-script-requires c κs =
     let m = c .before .before .before .before in
-    let found = c .before .before .before .first-lacking .ensures in
-    let joins = joins-kept _ _ (read-at m .load .ensures) (m .before .before .if1 .left) found (right c) in
-    let meets = meets-kept _ _ (read-at m .load .ensures) (m .before .before .if1 .left) found (right c) in (
+    let swept = c .before .before .before in
+    let joins = joins-kept _ _ (read-at m .load .ensures) (past m .if1 .left) (found swept) (right c) in
+    let meets = meets-kept _ _ (read-at m .load .ensures) (past m .if1 .left) (found swept) (right c) in (
       subst (λ b. Ordered (levelsOf b)) (sym (book-is c)) (books-ordered _ (right c)),
       (
-        subst (λ b. Joins (levelsOf b) (c .before .before .before .first-lacking .last .1 .0)) (sym (book-is c)) joins,
-        subst (λ b. Meets (levelsOf b) (c .before .before .before .first-lacking .last .1 .1 .0)) (sym (book-is c)) meets,
+        subst (λ b. Joins (levelsOf b) (swept .sweep .last .1 .1 .0)) (sym (book-is c)) joins,
+        subst (λ b. Meets (levelsOf b) (swept .sweep .last .1 .1 .1 .0)) (sym (book-is c)) meets,
       ),
     )
 
@@ -94,4 +121,4 @@ returns-3 c =
 pub prepare-spec : {M : Type 1} → statement M
 prepare-spec =
     tie.close
-    (tie.spec load-requires refused-with-requires returns first-lacking-requires lack-refusal-requires refused-with-requires-2 returns-2 prepare-script-requires returns-3)
+    (tie.spec load-requires refused-with-requires returns new-table-requires new-table-requires-2 sweep-requires lack-refusal-requires refused-with-requires-2 returns-2 prepare-script-requires returns-3)
