@@ -86,8 +86,9 @@ pub fn prepare(b: &[u8], s: &[u8]) -> Prepared
     if read.refusal.number != 0 {
         return refused_with(read.refusal);
     }
-    let mut join = table::new_table();
-    let mut meet = table::new_table();
+    let new = table::new_table();
+    let mut join = new;
+    let mut meet = new;
     // All pairs: there are no more of them than places.
     let swept = pairs::sweep(read.book, Book::PLACES, &mut join, &mut meet);
     let lack = pairs::lack_refusal(swept.place);

@@ -1,6 +1,6 @@
 -- Both levels of a pair, as the sweep finds them in the rows of an order and in those of the order upside down.
-use mathlib.Core.Path.{_≡_, sym, ap, _∙_, subst}
-use mathlib.Core.Bool.{true, false, _||_, or-true}
+use mathlib.Core.Path.{_≡_, sym, ap, _∙_}
+use mathlib.Core.Bool.{true, false, _||_, or-true, or-false}
 use mathlib.Core.List.{List}
 use mathlib.Core.Logic.{_⊎_, ⊎-elim}
 use Prim.Native.Nat.{ℕ, _≤_, _<_}
@@ -13,7 +13,7 @@ use Rattle.prelude.specs.Search.{lesser}
 use Rattle.prelude.specs.Sets.{has}
 use Rattle.prelude.proofs.Searches.{lesser-left, lesser-right}
 use Rattle.prelude.proofs.Sets.{has-either}
-use Rattle.order.specs.Order.{Relation, leastUpper, greatestLower}
+use Rattle.order.specs.Order.{Relation, converse, leastUpper, greatestLower}
 use Rattle.order.specs.Rows.{InOrder, converseRows}
 use Rattle.order.proofs.Duals.{upside-down}
 use Rattle.book.specs.LevelBook.{mostLevels, atOrBelow}
@@ -31,25 +31,29 @@ module _ (rs below : List ℕ) (n : ℕ) (w : InOrder rs n) (turned : below ≡ 
   abbrev R : Relation
   R = atOrBelow rs
 
-  -- i is at or below j
-  pub in-order : has (getD rs i 0) j ≡ true → Bounds R n i j j i
-  in-order h =
-      let p = upper-and-lower R n (w .order) i j hi hj h in
-      record { upper = sym (p .0); lower = sym (p .1); upper-within = hj; lower-within = hi }
-
-  -- one of the two is at or below the other, and it is not i
-  pub in-converse : has (bitOr (getD rs i 0) (getD below i 0)) j ≡ true → has (getD rs i 0) j ≡ false → Bounds R n i j i j
-  in-converse either not-there =
-      let few = w .few in
-      let there : has (getD below i 0) j ≡ true = rw not-there at (sym (has-either (getD rs i 0) (getD below i 0) j) ∙ either) in
-      let back : R j i ≡ true = sym (upside-down rs n i j (omega arith) hj) ∙ subst (λ b. has (getD b i 0) j ≡ true) turned there in
-      let p = upper-and-lower R n (w .order) j i hj hi back in
+  -- j is at or below i
+  pub in-converse : has (getD rs j 0) i ≡ true → Bounds R n i j i j
+  in-converse h =
+      let p = upper-and-lower R n (w .order) j i hj hi h in
       record {
         upper = sym (p .0) ∙ least-swap R n j i;
-        lower = sym (p .1) ∙ least-swap (λ a b. R b a) n j i;
+        lower = sym (p .1) ∙ least-swap (converse R) n j i;
         upper-within = hi;
         lower-within = hj;
       }
+
+  -- one of the two is at or below the other, and it is not j
+  pub in-order : has (bitOr (getD rs i 0) (getD below i 0)) j ≡ true → has (getD rs j 0) i ≡ false → Bounds R n i j j i
+  in-order either not-back =
+      let few = w .few in
+      let back : has (getD below i 0) j ≡ false =
+      ap (λ b. has (getD b i 0) j) turned ∙ upside-down rs n i j (omega arith) hj ∙ not-back
+      in
+      let there : R i j ≡ true =
+      rw (back, or-false (has (getD rs i 0) j)) at (sym (has-either (getD rs i 0) (getD below i 0) j) ∙ either)
+      in
+      let p = upper-and-lower R n (w .order) i j hi hj there in
+      record { upper = sym (p .0); lower = sym (p .1); upper-within = hj; lower-within = hi }
 
   -- what a search in each of the rows ends with
   module _ (u l : ℕ) (above : lesser u n ≡ leastUpper (atOrBelow rs) n i j) (under : lesser l n ≡ leastUpper (atOrBelow below) n i j) where

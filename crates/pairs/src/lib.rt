@@ -23,7 +23,8 @@ pub struct Swept {
 }
 
 // The least common upper level of i and j; n or more if they have none. In an order it is the level whose row is what the
-// rows of the two share, and no level below the lowest of these can be it.
+// rows of the two share, and no level below the lowest of these can be it. In the order upside down it is the greatest common
+// lower level, so that one search serves both.
 fn least_upper(rows: &[u16; Book::MAX_LEVELS], n: usize, i: usize, j: usize) -> usize
     requires { ⌜ InOrder (now rows) n × ((i < n) × (j < n)) ⌝ }
     ensures { λ r. ⌜ lesser r n ≡ leastUpper (atOrBelow (now (rows .entry))) n i j ⌝ }
@@ -40,14 +41,14 @@ fn least_upper(rows: &[u16; Book::MAX_LEVELS], n: usize, i: usize, j: usize) -> 
 }
 
 // Takes up the first `most` pairs i < j of a book in order, by i, then by j, up to the first that lacks its upper or its lower
-// level. Each of the others gets both, in `join` and in `meet`, at both of its entries. No other entry changes.
+// level. Each of the others gets both, in `join` and in `meet`, at both of its entries; no other entry changes. Of two levels in
+// order the upper one is the join and the lower one the meet; only for two that stand side by side is there a search.
 pub fn sweep(b: Book, most: usize, join: &mut PairTable, meet: &mut PairTable) -> Swept
     requires { ⌜ InOrder (b .rows) (b .count) × (Square mostLevels (now join) × Square mostLevels (now meet)) ⌝ }
     ensures { λ r. ⌜ Sweeps (atOrBelow (b .rows)) (b .count) most (now (join .entry)) (now (meet .entry)) (now (join .exit)) (now (meet .exit)) r ⌝ }
 {
     let n = b.count;
     let rows = b.rows;
-    // The meet of a pair is its join in the order upside down, so that one search serves both.
     let below = converse::converse_rows(&rows, n);
     let mut taken: usize = 0;
     let mut place = Book::PLACES;
@@ -60,7 +61,6 @@ pub fn sweep(b: Book, most: usize, join: &mut PairTable, meet: &mut PairTable) -
                 break 'pairs;
             }
             taken += 1;
-            // Of two levels of which i is at or below j, the one is the meet and the other the join.
             let mut upper = j;
             let mut lower = i;
             if !sets::has(related, j) {
@@ -70,7 +70,7 @@ pub fn sweep(b: Book, most: usize, join: &mut PairTable, meet: &mut PairTable) -
                     place = Book::MAX_LEVELS * i + j;
                     break 'pairs;
                 }
-            } else if !sets::has(rows[i], j) {
+            } else if sets::has(rows[j], i) {
                 upper = i;
                 lower = j;
             }

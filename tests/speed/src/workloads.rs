@@ -89,8 +89,18 @@ pub fn checks() -> Vec<Check> {
         check("check: 16 levels, subsets, one node", subsets(), smallest()),
         check("check: 16 levels, chain, one node", chain(), smallest()),
         check(
+            "check: 16 levels, chain from the top, one node",
+            from_the_top(&chain()),
+            smallest(),
+        ),
+        check(
             "check: 16 levels, antichain, one node",
             antichain(),
+            smallest(),
+        ),
+        check(
+            "check: 16 levels, refused at the last pair",
+            refused_last(),
             smallest(),
         ),
         check("check: 16 levels, largest file", subsets(), largest()),
@@ -153,6 +163,25 @@ fn antichain() -> Vec<u8> {
         _ => 1 << i | 1 << 15,
     };
     book(&(0..16).map(above).collect::<Vec<u16>>())
+}
+
+/// A chain of 14 levels below two that stand side by side, with no level above them.
+fn refused_last() -> Vec<u8> {
+    let above = |i: u16| match i {
+        14 | 15 => 1 << i,
+        _ => u16::MAX << i,
+    };
+    book(&(0..16).map(above).collect::<Vec<u16>>())
+}
+
+/// The book of 16 levels with its levels numbered the other way round.
+fn from_the_top(bytes: &[u8]) -> Vec<u8> {
+    let row = |i: usize| u16::from_be_bytes([bytes[2 * i + 1], bytes[2 * i + 2]]);
+    book(
+        &(0..16)
+            .map(|i| row(15 - i).reverse_bits())
+            .collect::<Vec<u16>>(),
+    )
 }
 
 /// The script of one nil.

@@ -34,12 +34,9 @@ returns c =
 new-table-requires : tie.Need-new-table-requires
 new-table-requires c κs = tt
 
-new-table-requires-2 : tie.Need-new-table-requires-2
-new-table-requires-2 c κs = tt
-
 -- past refusals 1 and 2, and the book that is read
 abbrev past : (c : tie.After-meet) → tie.Else1
-past c = c .before .before .before .before
+past c = c .before .before .before
 
 abbrev read-at : (c : tie.After-meet) → tie.After-load
 read-at c = past c .before .before
@@ -47,7 +44,7 @@ read-at c = past c .before .before
 sweep-requires : tie.Need-sweep-requires
 sweep-requires c κs = (
   in-order _ _ (read-at c .load .ensures) (past c .if1 .left),
-  (c .before .before .before .new-table .ensures .0, c .before .before .new-table2 .ensures .0),
+  (c .before .before .new-table .ensures .0, c .before .before .new-table .ensures .0),
 )
 
 -- what is found of its pairs
@@ -63,8 +60,8 @@ found c =
     let m = c .before in
     let ordered = in-order _ _ (read-at m .load .ensures) (past m .if1 .left) in
     paired _ _ _ ordered (pairs-fit _ (ordered .few)) _ _ _ _ _
-    (m .before .before .before .new-table .ensures .1)
-    (m .before .before .new-table2 .ensures .1)
+    (m .before .before .new-table .ensures .1)
+    (m .before .before .new-table .ensures .1)
     (c .sweep .ensures)
 
 lack-refusal-requires : tie.Need-lack-refusal-requires
@@ -121,4 +118,4 @@ returns-3 c =
 pub prepare-spec : {M : Type 1} → statement M
 prepare-spec =
     tie.close
-    (tie.spec load-requires refused-with-requires returns new-table-requires new-table-requires-2 sweep-requires lack-refusal-requires refused-with-requires-2 returns-2 prepare-script-requires returns-3)
+    (tie.spec load-requires refused-with-requires returns new-table-requires sweep-requires lack-refusal-requires refused-with-requires-2 returns-2 prepare-script-requires returns-3)

@@ -130,14 +130,18 @@ bounds c =
     ⊎-elim
     (λ q.
     rw (q .7, q .8)
-    (searched _ _ _ w (below-is at) _ _ (first-level at) (second-level at) _ _ (q .2 .ensures) (q .4 .ensures) (q .5 .left) (leb-false _ _ (q .6 .left))))
+    (searched _ _ _ w (below-is at) _ _ (first-level at) (second-level at) _ _ (q .2 .ensures) (q .4 .ensures)
+    (q .5 .left)
+    (leb-false _ _ (q .6 .left))))
     (⊎-elim
     (λ q.
     rw (q .3, q .4)
-    (in-converse _ _ _ w (below-is at) _ _ (first-level at) (second-level at) (sym (at .has .ensures) ∙ not-false _ (q .0 .left)) (sym (q .1 .ensures) ∙ not-true _ (q .2 .taken))))
+    (in-converse _ _ _ w (below-is at) _ _ (first-level at) (second-level at) (sym (q .1 .ensures) ∙ q .2 .taken)))
     (λ q.
     rw (q .3, q .4)
-    (in-order _ _ _ w (below-is at) _ _ (first-level at) (second-level at) (sym (q .1 .ensures) ∙ not-false _ (q .2 .left)))))
+    (in-order _ _ _ w (below-is at) _ _ (first-level at) (second-level at)
+    (sym (at .has .ensures) ∙ not-false _ (q .0 .left))
+    (sym (q .1 .ensures) ∙ q .2 .left))))
     (c .if2 .came)
 
 store-requires : tie.Need-store-requires Inv-others μ-others Inv-pairs μ-pairs
