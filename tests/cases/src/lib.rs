@@ -11,6 +11,7 @@ mod rng;
 mod shapes;
 pub mod text;
 pub mod tree;
+mod two_levels;
 
 use damage::{Draft, Sort};
 use file::{File, SESSION};
@@ -130,6 +131,7 @@ fn draft(rng: &mut Rng) -> Draft {
         5 => shapes::largest(rng, &lattice, careless),
         6..=20 => grown((2, 8), (1, 5)),
         21..=24 => grown((41, 150), (2, 40)),
+        25..=27 => two_levels::script(rng, &lattice),
         _ => grown((5, 40), (1, 10)),
     };
     let mut draft = with_inputs(rng, lattice, script);

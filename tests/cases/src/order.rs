@@ -44,14 +44,19 @@ impl Order {
         Order::new(self.count(), |i, j| self.at_most(j, i))
     }
 
+    /// The pairs i < j of this partial order that lack a common upper or a common lower level.
+    pub fn lacking_pairs(&self) -> Vec<(usize, usize)> {
+        let converse = self.converse();
+        let lacks = |&(i, j): &(usize, usize)| {
+            self.least_upper(i, j).is_none() || converse.least_upper(i, j).is_none()
+        };
+        let pairs = self.levels().flat_map(|j| (0..j).map(move |i| (i, j)));
+        pairs.filter(lacks).collect()
+    }
+
     /// Whether this partial order is a lattice.
     pub fn is_lattice(&self) -> bool {
-        let converse = self.converse();
-        self.levels().all(|i| {
-            let has_both =
-                |j| self.least_upper(i, j).is_some() && converse.least_upper(i, j).is_some();
-            (0..i).all(has_both)
-        })
+        self.lacking_pairs().is_empty()
     }
 
     /// The same order under other level numbers: level i becomes level `number[i]`.
@@ -61,6 +66,16 @@ impl Order {
             old[to] = from;
         }
         Order::new(self.count(), |i, j| self.at_most(old[i], old[j]))
+    }
+
+    /// The rows of a level book.
+    pub fn read(book: &[u8]) -> Order {
+        let rows = book.get(1..).unwrap_or_default().chunks_exact(2);
+        Order {
+            rows: rows
+                .map(|row| u16::from_be_bytes([row[0], row[1]]))
+                .collect(),
+        }
     }
 
     /// The level book: one byte for the count, two bytes for each row.
@@ -122,7 +137,18 @@ impl Lattice {
     }
 }
 
-/// A random lattice under random level numbers.
+/// The levels of a shape get other numbers: from low to high, as shapes are made, from high to low, or at
+/// random.
+pub fn numbered(rng: &mut Rng, shape: &Order) -> Order {
+    let numbers: Vec<usize> = match rng.below(4) {
+        0 => (0..shape.count()).collect(),
+        1 => (0..shape.count()).rev().collect(),
+        _ => rng.permutation(shape.count()),
+    };
+    shape.renumbered(&numbers)
+}
+
+/// A random lattice, numbered in any way.
 pub fn lattice(rng: &mut Rng) -> Lattice {
     let shape = match rng.below(12) {
         0 => chain(1),
@@ -136,7 +162,7 @@ pub fn lattice(rng: &mut Rng) -> Lattice {
         10 => stacked(&side_by_side(rng.between(2, 3)), &chain(rng.between(2, 5))),
         _ => closure_system(rng),
     };
-    Lattice::of(shape.renumbered(&rng.permutation(shape.count())))
+    Lattice::of(numbered(rng, &shape))
 }
 
 /// A random lattice of two levels or more, mostly of few.
@@ -149,7 +175,7 @@ pub fn some_levels(rng: &mut Rng) -> Lattice {
         6 => pentagon(),
         _ => powerset(rng.between(3, 4)),
     };
-    Lattice::of(shape.renumbered(&rng.permutation(shape.count())))
+    Lattice::of(numbered(rng, &shape))
 }
 
 pub fn chain(count: usize) -> Order {
@@ -221,6 +247,33 @@ mod tests {
             assert!(lattice.order.is_lattice());
             assert!((0..lattice.count()).all(|i| lattice.at_most(lattice.bottom, i)));
             assert!((0..lattice.count()).all(|i| lattice.at_most(i, lattice.top)));
+        }
+    }
+
+    #[test]
+    fn a_book_reads_back() {
+        let mut rng = Rng::new(9);
+        for _ in 0..100 {
+            let order = lattice(&mut rng).order;
+            assert_eq!(Order::read(&order.book()), order);
+        }
+    }
+
+    #[test]
+    fn shapes_go_from_low_to_high() {
+        let mut rng = Rng::new(10);
+        let shapes = [
+            chain(4),
+            powerset(3),
+            product(&chain(2), &chain(3)),
+            side_by_side(3),
+            pentagon(),
+            stacked(&side_by_side(2), &chain(2)),
+            closure_system(&mut rng),
+        ];
+        for shape in shapes {
+            let pairs = shape.levels().flat_map(|i| (0..i).map(move |j| (i, j)));
+            assert!(pairs.into_iter().all(|(i, j)| !shape.at_most(i, j)));
         }
     }
 

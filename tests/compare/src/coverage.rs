@@ -1,10 +1,12 @@
 //! What the compared cases reached. A comparison that reaches too little of something fails.
 
+use crate::books;
 use crate::divisions;
 use crate::emissions;
 use crate::floors;
 use crate::lists;
 use crate::outcome::Outcome;
+use crate::pair_levels;
 use cases::damage::{self, Sort};
 use cases::file::File;
 use cases::Made;
@@ -22,6 +24,8 @@ pub struct Coverage {
 enum Topic {
     Cases,
     Refusal,
+    Book,
+    PairLevels,
     FlowAt,
     Ending,
     Run,
@@ -131,6 +135,18 @@ impl Coverage {
         }
     }
 
+    /// Counts the sorts of a book.
+    pub fn record_book(&mut self, sorts: Vec<String>) {
+        sorts
+            .into_iter()
+            .for_each(|sort| self.count(Topic::Book, sort));
+    }
+
+    /// Counts the pairs that show in the levels of a script.
+    pub fn record_pair_levels(&mut self, reached: [bool; pair_levels::NOTES.len()]) {
+        self.count_notes(Topic::PairLevels, &pair_levels::NOTES, &reached);
+    }
+
     /// Counts what the list of a run brought about.
     pub fn record_list(&mut self, reached: [bool; lists::NOTES.len()]) {
         self.count_notes(Topic::List, &lists::NOTES, &reached);
@@ -196,6 +212,11 @@ impl Coverage {
             all.push((Topic::Cases, note.to_string(), FLOOR));
         }
         all.extend((1..=15).map(|number| (Topic::Refusal, format!("{number:2}"), FLOOR)));
+        let books = books::floors().into_iter();
+        all.extend(books.map(|(sort, floor)| (Topic::Book, sort, floor)));
+        all.extend(
+            pair_levels::NOTES.map(|(note, floor)| (Topic::PairLevels, note.to_string(), floor)),
+        );
         let needs = [1, 2, 3, 4, 5, 8, 9, 10].map(|kind: usize| KINDS[kind]);
         all.extend(needs.map(|kind| (Topic::FlowAt, kind.to_string(), SORT_FLOOR)));
         all.extend(ENDINGS.map(|ending| (Topic::Ending, ending.to_string(), FLOOR)));
@@ -262,6 +283,8 @@ fn title(topic: Topic) -> &'static str {
     match topic {
         Topic::Cases => "cases",
         Topic::Refusal => "refusal",
+        Topic::Book => "level book",
+        Topic::PairLevels => "levels of a script",
         Topic::FlowAt => "refusal 11 at",
         Topic::Ending => "ending",
         Topic::Run => "run",

@@ -3,6 +3,7 @@
 #![deny(unsafe_code)]
 
 mod book;
+pub mod books;
 pub mod checks;
 pub mod coverage;
 pub mod demand_three;
@@ -17,6 +18,7 @@ pub mod guarded;
 pub mod lists;
 pub mod long_runs;
 pub mod outcome;
+pub mod pair_levels;
 mod raw;
 pub mod report;
 pub mod shrink;

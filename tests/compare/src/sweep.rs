@@ -1,5 +1,6 @@
 //! The comparison: the library against the reference on seeded cases.
 
+use crate::books;
 use crate::coverage::{self, declares_in_a_loop, Coverage};
 use crate::difference::{compare, show, Difference};
 use crate::divisions;
@@ -7,6 +8,7 @@ use crate::emissions;
 use crate::engine::{Engine, Raw, Reference, Wrapper};
 use crate::lists;
 use crate::outcome::{outcome, wrong_out, Outcome};
+use crate::pair_levels;
 use crate::shrink::shrink;
 use crate::tightest;
 use cases::file::File;
@@ -60,6 +62,10 @@ pub fn one(seed: u64, coverage: &mut Coverage) -> Result<(), Difference> {
         coverage.extra(coverage::ENTERED_AGAIN);
     }
     coverage.record(&made, &outcome);
+    coverage.record_book(books::reached(&made.case, &outcome));
+    if outcome.accepted() {
+        coverage.record_pair_levels(pair_levels::reached(&made.case, &outcome));
+    }
     record_list(seed, &made.case, &outcome, coverage).map_err(difference)?;
     record_divisions(seed, &made.case, &outcome, coverage).map_err(difference)?;
     record_emissions(&made.case, &outcome, &mut rng, coverage);

@@ -1,6 +1,6 @@
 //! A second interpreter of station scripts, written from the papers and not from
 //! the code: the scope paper (called 01 in the comments), the changes of its rules
-//! (called 02: (a), (b) and (c)) and report RR-5594 (called the report). Where 01
+//! (called 02: (a) to (d)) and report RR-5594 (called the report). Where 01
 //! leaves refusals 4 to 10 and 13 open it takes the readings of docs/DECISIONS.md.
 //! It checks a script file against a level book, runs it by rewriting trees by the
 //! report's Figures 1 to 4, and derives the types of Figure 5 by brute force. A
@@ -21,6 +21,7 @@ mod instant;
 mod levels;
 mod log;
 mod moves;
+mod order;
 #[cfg(test)]
 mod properties;
 mod reach;
@@ -28,6 +29,9 @@ mod refusal;
 mod runner;
 mod shape;
 mod suspension;
+mod sweep;
+#[cfg(test)]
+mod sweep_contract;
 mod tree;
 mod typing;
 mod uses;

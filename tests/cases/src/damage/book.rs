@@ -1,7 +1,7 @@
 //! Refusals 1 to 3: wrong level books.
 
 use super::{Draft, Sort};
-use crate::order::{chain, powerset, side_by_side, stacked, Order, MOST_LEVELS};
+use crate::order::{chain, numbered, powerset, side_by_side, stacked, Order, MOST_LEVELS};
 use crate::rng::Rng;
 
 pub const SORTS: &[Sort] = &[
@@ -74,6 +74,28 @@ pub const SORTS: &[Sort] = &[
             false => put_order(draft, rng, &order),
         }
     }),
+    Sort::new(3, "two parts without a common level", |draft, rng| {
+        let order = two_parts(rng);
+        put_order(draft, rng, &order)
+    }),
+    Sort::new(3, "the first pair lacks a level", |draft, rng| {
+        let order = match rng.below(3) {
+            0 => without_top(rng),
+            1 => without_top(rng).converse(),
+            _ => partial_order(rng),
+        };
+        put(draft, lacking_first(rng, &order)?.book())
+    }),
+    Sort::new(
+        3,
+        "only the last pair lacks its upper level",
+        |draft, rng| put(draft, two_tops_last(rng).book()),
+    ),
+    Sort::new(
+        3,
+        "only the last pair lacks its lower level",
+        |draft, rng| put(draft, two_tops_last(rng).converse().book()),
+    ),
 ];
 
 fn put(draft: &mut Draft, book: Vec<u8>) -> Option<()> {
@@ -81,12 +103,9 @@ fn put(draft: &mut Draft, book: Vec<u8>) -> Option<()> {
     Some(())
 }
 
-/// Puts the book of an order, under random level numbers.
+/// Puts the book of an order, numbered in any way.
 fn put_order(draft: &mut Draft, rng: &mut Rng, order: &Order) -> Option<()> {
-    put(
-        draft,
-        order.renumbered(&rng.permutation(order.count())).book(),
-    )
+    put(draft, numbered(rng, order).book())
 }
 
 /// A book that says n, with n rows, each above the row before where 16 bits say so.
@@ -149,6 +168,42 @@ fn without_top(rng: &mut Rng) -> Order {
     Order::new(top, |i, j| whole.at_most(i, j))
 }
 
+/// A lattice, numbered in any way, below two levels side by side, which are the last.
+fn two_tops_last(rng: &mut Rng) -> Order {
+    let below = match rng.below(3) {
+        0 => chain(often_most(rng, 1, MOST_LEVELS - 2)),
+        1 => powerset(rng.between(1, 3)),
+        _ => side_by_side(often_most(rng, 2, MOST_LEVELS - 4)),
+    };
+    stacked(&numbered(rng, &below), &Order::new(2, |i, j| i == j))
+}
+
+/// Two chains, and nothing between them.
+fn two_parts(rng: &mut Rng) -> Order {
+    let count = often_most(rng, 2, MOST_LEVELS);
+    let cut = rng.between(1, count - 1);
+    Order::new(count, |i, j| i <= j && (i < cut) == (j < cut))
+}
+
+/// A number from `low` to `most`, in one of four cases `most`.
+fn often_most(rng: &mut Rng, low: usize, most: usize) -> usize {
+    match rng.chance(1, 4) {
+        true => most,
+        false => rng.between(low, most),
+    }
+}
+
+/// The order under numbers by which a pair that lacks a level comes first; none if it has no such pair.
+fn lacking_first(rng: &mut Rng, order: &Order) -> Option<Order> {
+    let (one, other) = rng.pick(&order.lacking_pairs())?;
+    let mut number = rng.permutation(order.count());
+    for (level, first) in [(one, 0), (other, 1)] {
+        let holder = number.iter().position(|&n| n == first)?;
+        number.swap(level, holder);
+    }
+    Some(order.renumbered(&number))
+}
+
 /// 0 below 1 and 2, both below 3 and 4, both below 5.
 fn crossed() -> Order {
     let rank = [0, 1, 1, 2, 2, 3];
@@ -168,4 +223,32 @@ fn partial_order(rng: &mut Rng) -> Order {
         }
     }
     order
+}
+
+#[cfg(test)]
+mod tests {
+    use super::*;
+
+    #[test]
+    fn only_the_last_pair_lacks_a_level() {
+        let mut rng = Rng::new(12);
+        for _ in 0..500 {
+            let order = two_tops_last(&mut rng);
+            let last = (order.count() - 2, order.count() - 1);
+            assert!(last.1 < MOST_LEVELS && order.least_upper(last.0, last.1).is_none());
+            assert_eq!(order.lacking_pairs(), [last]);
+            assert_eq!(order.converse().lacking_pairs(), [last]);
+        }
+    }
+
+    #[test]
+    fn the_first_pair_lacks_a_level() {
+        let mut rng = Rng::new(13);
+        for _ in 0..500 {
+            let order = without_top(&mut rng);
+            let first = lacking_first(&mut rng, &order).map(|order| order.lacking_pairs());
+            assert!(first.is_some_and(|pairs| pairs.contains(&(0, 1))));
+        }
+        assert!(lacking_first(&mut rng, &chain(4)).is_none());
+    }
 }

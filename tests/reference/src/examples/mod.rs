@@ -1,13 +1,14 @@
 //! The examples of the papers as data: 01's peg list, the report's programs, one
 //! small file for each row of 01's table, runs with lists for the sentences of 02
-//! (a), divisions for those of 02 (b), and emissions for those of 02 (c). Expected
-//! answers were typed from the papers, not computed. Where a paper gives a program
-//! and its behaviour in words, the steps were counted by hand by the rules of
-//! Figures 1 to 4.
+//! (a), divisions for those of 02 (b), emissions for those of 02 (c), and level
+//! books for those of 02 (d). Expected answers were typed from the papers, not
+//! computed. Where a paper gives a program and its behaviour in words, the steps
+//! were counted by hand by the rules of Figures 1 to 4.
 //!
 //! A program that the report shows to be insecure is refused with its levels;
 //! where its behaviour is stated, a second example runs it with all levels low.
 
+mod books;
 mod emissions;
 mod inputs;
 mod listed;
@@ -55,6 +56,7 @@ pub fn all() -> Vec<Example> {
     all.extend(table::all());
     all.extend(inputs::all());
     all.extend(emissions::all());
+    all.extend(books::all());
     all
 }
 
