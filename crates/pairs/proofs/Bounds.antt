@@ -1,6 +1,6 @@
 -- Both levels of a pair, as the sweep finds them in the rows of an order and in those of the order upside down.
 use mathlib.Core.Path.{_≡_, sym, ap, _∙_}
-use mathlib.Core.Bool.{true, false, _||_, or-true, or-false}
+use mathlib.Core.Bool.{true, false, or-false}
 use mathlib.Core.List.{List}
 use mathlib.Core.Logic.{_⊎_, ⊎-elim}
 use Prim.Native.Nat.{ℕ, _≤_, _<_}
@@ -11,6 +11,7 @@ use lib.Bits.{bitOr}
 use borrow.Author.Tests.{eq-eqb}
 use Rattle.prelude.specs.Search.{lesser}
 use Rattle.prelude.specs.Sets.{has}
+use Rattle.prelude.proofs.Bools.{or-first, or-true}
 use Rattle.prelude.proofs.Searches.{lesser-left, lesser-right}
 use Rattle.prelude.proofs.Sets.{has-either}
 use Rattle.order.specs.Order.{Relation, converse, leastUpper, greatestLower}
@@ -76,5 +77,5 @@ module _ (rs below : List ℕ) (n : ℕ) (w : InOrder rs n) (turned : below ≡ 
     pub not-found : (n ≤ u) ⊎ (n ≤ l) → lacksOne R n i j ≡ true
     not-found =
         ⊎-elim
-        (λ p. rw (eq-eqb (leastUpper R n i j) n (sym above ∙ lesser-right u n p)))
-        (λ p. rw (eq-eqb (greatestLower R n i j) n (sym under′ ∙ lesser-right l n p)) (or-true (eqb (leastUpper R n i j) n)))
+        (λ p. or-first _ _ (eq-eqb (leastUpper R n i j) n (sym above ∙ lesser-right u n p)))
+        (λ p. or-true (eqb (leastUpper R n i j) n) _ (eq-eqb (greatestLower R n i j) n (sym under′ ∙ lesser-right l n p)))

@@ -1,6 +1,6 @@
 -- Refusal 3: the pair that stands at a place, and the pair that lacks a level.
-use mathlib.Core.Path.{_≡_, refl, sym, _∙_}
-use mathlib.Core.Bool.{Bool, true, false, _&&_, _||_}
+use mathlib.Core.Path.{_≡_, sym, ap, _∙_}
+use mathlib.Core.Bool.{true, _&&_, _||_, and-or-distrib-left}
 use Prim.Native.Nat.{ℕ, _+_, _*_, _/_, _%_, _≤_, _<_}
 use native.Mathlib.Omega.{arith}
 use lib.Dec.{eqb, ltb}
@@ -27,12 +27,9 @@ pub lacks-there :
 lacks-there R n p =
     let i : ℕ = p / mostLevels in
     let j : ℕ = p % mostLevels in
-    common (ltb i j) (ltb j n) (eqb (leastUpper R n i j) n) (eqb (greatestLower R n i j) n)
-  where
-    common : (a b x y : Bool) → ((a && (b && x)) || (a && (b && y))) ≡ (a && (b && (x || y)))
-    common true true x y = refl
-    common true false x y = refl
-    common false b x y = refl
+    sym
+    (ap (λ b. ltb i j && b) (and-or-distrib-left (ltb j n) (eqb (leastUpper R n i j) n) (eqb (greatestLower R n i j) n))
+    ∙ and-or-distrib-left (ltb i j) _ _)
 
 -- i < j are a pair of n levels that lacks a level
 pub record Lacking (R : Relation) (n i j : ℕ) : Type 0 where

@@ -127,7 +127,7 @@ module _ (R : Relation) (n : ℕ) (few : n ≤ mostLevels) where
         all-or-k =
             elim (decLt (firstLacking R n) (mostLevels * mostLevels)) [
               | yes l ↦
-                  rw (lt-ltb _ _ l) (lesser-left k (suc (refusedNumber R n)) (omega (arith, not-yet l .1)) ∙ not-yet l .0)
+                  rw (lt-ltb _ _ l) (lesser-left k _ (omega (arith, not-yet l .1)) ∙ not-yet l .0)
               | no l ↦
                   rw (le-ltb (firstLacking R n) (mostLevels * mostLevels) (omega arith))
                   (⊎-elim
@@ -178,7 +178,7 @@ module _ (R : Relation) (n : ℕ) (few : n ≤ mostLevels) where
         one-more : takenUp R n k ≡ m + 1
         one-more =
             rw (lt-ltb (firstLacking R n) (mostLevels * mostLevels) (omega (arith, this-place)), this-number)
-            (lesser-right k (suc m) (omega arith) ∙ omega arith)
+            (lesser-right k _ (omega arith) ∙ omega arith)
 
         refused : placeWithin R n k ≡ mostLevels * i + j
         refused = rw (this-number, lt-ltb m k more) this-place

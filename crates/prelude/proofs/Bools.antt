@@ -46,12 +46,6 @@ pub or-second : (a b : Bool) → a ≡ false → (a || b) ≡ b
 or-second true b h = absurd (true≢false h)
 or-second false b h = refl
 
-pub or-swap : (a b : Bool) → (a || b) ≡ (b || a)
-or-swap true true = refl
-or-swap true false = refl
-or-swap false true = refl
-or-swap false false = refl
-
 -- the first two of three tests change places
 pub and-swap : (a b c : Bool) → (a && (b && c)) ≡ (b && (a && c))
 and-swap true true c = refl

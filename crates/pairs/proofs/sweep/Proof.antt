@@ -11,7 +11,7 @@ use Rattle.book.specs.LevelBook.{mostLevels, atOrBelow}
 use Rattle.order.specs.Rows.{InOrder, converseRows}
 use Rattle.order.proofs.Duals.{converse-in-order}
 use Rattle.pairs.specs.Sweeping.{levelPairs, pairNumber}
-use Rattle.pairs.proofs.Numbers.{first-number, next-number, next-row, last-row, number-within}
+use Rattle.pairs.proofs.Numbers.{first-number, next-number, next-row, last-row, number-within, pairs-fit}
 use Rattle.pairs.proofs.Bounds.{Bounds, in-order, in-converse, searched, not-found}
 use Rattle.pairs.proofs.Sweeps.{Upto, start, next, ends, stops}
 use Rattle.pairs.proofs.sweep.Statement.{statement}
@@ -67,7 +67,12 @@ others-holds : tie.Need-others-holds Inv-others μ-others Inv-pairs μ-pairs
 others-holds c = (search needs, (search needs, (c .before .pairs .inv .1 .0, λ t u w. w)))
 
 add-taken : tie.Need-add-taken Inv-others μ-others Inv-pairs μ-pairs
-add-taken c = search needs
+add-taken c =
+    let at = c .before .before in
+    let inv = at .others .inv in
+    let few = at .before .before .before .before .before .before .pre .0 .few in
+    let within = number-within _ _ _ (inv .0) (c .before .others-test .taken) in
+    record { fits = omega (arith, inv .1 .1 .0 .0, within, pairs-fit _ few) }
 
 has-requires : tie.Need-has-requires Inv-others μ-others Inv-pairs μ-pairs
 has-requires c κs = search needs
