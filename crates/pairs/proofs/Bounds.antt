@@ -17,7 +17,7 @@ use Rattle.prelude.proofs.Sets.{has-either}
 use Rattle.order.specs.Order.{Relation, converse, leastUpper, greatestLower}
 use Rattle.order.specs.Rows.{InOrder, converseRows}
 use Rattle.order.proofs.Duals.{upside-down}
-use Rattle.book.specs.LevelBook.{mostLevels, atOrBelow}
+use Rattle.book.specs.LevelBook.{atOrBelow}
 use Rattle.pairs.specs.Sweeping.{lacksOne}
 use Rattle.pairs.proofs.Orders.{least-swap, least-same, upper-and-lower}
 

@@ -1,5 +1,5 @@
 -- The numbers of the pairs: they count the pairs before, each pair has its own, and there are n(n - 1)/2 of them.
-use mathlib.Core.Path.{_≡_, sym, ap, ap₂, _∙_}
+use mathlib.Core.Path.{_≡_, sym, ap, _∙_}
 use Prim.Native.Nat.{ℕ, zero, suc, _+_, _*_, _-_, _≤_, _<_}
 use native.Mathlib.Nat.{mul-suc, suc-mul, zero-mul, le-refl, mul-le-mul}
 use native.Mathlib.Decide.{decLt}

@@ -1,6 +1,6 @@
 -- A sweep over all pairs, of new tables: the place of refusal 3, and both levels of every pair where there is none.
 use mathlib.Core.Path.{_≡_, refl, sym, ap, _∙_, subst}
-use mathlib.Core.Bool.{true, false, cond, not, _||_, or-true}
+use mathlib.Core.Bool.{true, false, not, _||_, or-true}
 use mathlib.Core.List.{List}
 use Prim.Native.Nat.{ℕ, _+_, _*_, _≤_, _<_}
 use native.Mathlib.Decide.{decLt}
@@ -9,7 +9,7 @@ use lib.Dec.{ltb}
 use borrow.Author.Tests.{lt-ltb, le-ltb, eq-eqb}
 use Rattle.prelude.proofs.Bools.{and-intro, by-cases}
 use Rattle.prelude.proofs.Searches.{first-within, first-at-end, lesser-right}
-use Rattle.order.specs.Order.{Relation, converse, leastUpper, greatestLower, PartialOrder}
+use Rattle.order.specs.Order.{Relation, converse, leastUpper, greatestLower}
 use Rattle.order.specs.Rows.{InOrder}
 use Rattle.order.proofs.Duals.{dual}
 use Rattle.book.specs.LevelBook.{mostLevels, atOrBelow}

@@ -1,6 +1,5 @@
 -- `least_upper`: no level below k is the least common upper one (`Rows`).
-use mathlib.Core.Path.{_≡_}
-use Prim.Native.Nat.{ℕ, _-_}
+use Prim.Native.Nat.{_-_}
 use borrow.Author.Count.{below-more}
 use borrow.Author.Needs.{needs}
 use Rattle.prelude.proofs.Searches.{NoneBelow}

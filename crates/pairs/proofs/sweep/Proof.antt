@@ -5,7 +5,7 @@ use mathlib.Core.Logic.{_⊎_, inl, inr, ⊎-elim}
 use Prim.Native.Nat.{ℕ, _+_, _*_, _-_, _≤_, _<_}
 use native.Mathlib.Nat.{le-antisymm}
 use native.Mathlib.Omega.{arith}
-use borrow.Author.Tests.{leb-true, leb-false, not-true, not-false}
+use borrow.Author.Tests.{leb-true, leb-false, not-false}
 use borrow.Author.Needs.{needs}
 use Rattle.book.specs.LevelBook.{mostLevels, atOrBelow}
 use Rattle.order.specs.Rows.{InOrder, converseRows}

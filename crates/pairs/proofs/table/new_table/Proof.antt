@@ -1,5 +1,4 @@
 -- `new_table`: the levels below i are kept for themselves, and 0 for all else.
-use mathlib.Core.Path.{_≡_}
 use Prim.Native.Nat.{_-_}
 use borrow.Author.Needs.{needs}
 use Rattle.book.specs.LevelBook.{mostLevels}
