@@ -1,19 +1,17 @@
 -- Both levels of a pair, as the sweep finds them in the rows of an order and in those of the order upside down.
 use mathlib.Core.Path.{_≡_, sym, ap, _∙_}
-use mathlib.Core.Bool.{true, false, or-false}
+use mathlib.Core.Bool.{true}
 use mathlib.Core.List.{List}
 use mathlib.Core.Logic.{_⊎_, ⊎-elim}
 use Prim.Native.Nat.{ℕ, _≤_, _<_}
 use native.Mathlib.Omega.{arith}
 use lib.Dec.{eqb}
 use lib.ListN.{getD}
-use lib.Bits.{bitOr}
 use borrow.Author.Tests.{eq-eqb}
 use Rattle.prelude.specs.Search.{lesser}
 use Rattle.prelude.specs.Sets.{has}
 use Rattle.prelude.proofs.Bools.{or-first, or-true}
 use Rattle.prelude.proofs.Searches.{lesser-left, lesser-right}
-use Rattle.prelude.proofs.Sets.{has-either}
 use Rattle.order.specs.Order.{Relation, converse, leastUpper, greatestLower}
 use Rattle.order.specs.Rows.{InOrder, converseRows}
 use Rattle.order.proofs.Duals.{upside-down}
@@ -43,17 +41,10 @@ module _ (rs below : List ℕ) (n : ℕ) (w : InOrder rs n) (turned : below ≡ 
         lower-within = hj;
       }
 
-  -- one of the two is at or below the other, and it is not j
-  pub in-order : has (bitOr (getD rs i 0) (getD below i 0)) j ≡ true → has (getD rs j 0) i ≡ false → Bounds R n i j j i
-  in-order either not-back =
-      let few = w .few in
-      let back : has (getD below i 0) j ≡ false =
-      ap (λ b. has (getD b i 0) j) turned ∙ upside-down rs n i j (omega arith) hj ∙ not-back
-      in
-      let there : R i j ≡ true =
-      rw (back, or-false (has (getD rs i 0) j)) at (sym (has-either (getD rs i 0) (getD below i 0) j) ∙ either)
-      in
-      let p = upper-and-lower R n (w .order) i j hi hj there in
+  -- i is at or below j
+  pub in-order : has (getD rs i 0) j ≡ true → Bounds R n i j j i
+  in-order h =
+      let p = upper-and-lower R n (w .order) i j hi hj h in
       record { upper = sym (p .0); lower = sym (p .1); upper-within = hj; lower-within = hi }
 
   -- what a search in each of the rows ends with

@@ -54,7 +54,6 @@ pub fn sweep(b: Book, most: usize, join: &mut PairTable, meet: &mut PairTable) -
     let mut place = Book::PLACES;
     let mut i: usize = 0;
     'pairs: while i < n {
-        let related = rows[i] | below[i];
         let mut j = i + 1;
         'others: while j < n {
             if most <= taken {
@@ -63,16 +62,16 @@ pub fn sweep(b: Book, most: usize, join: &mut PairTable, meet: &mut PairTable) -
             taken += 1;
             let mut upper = j;
             let mut lower = i;
-            if !sets::has(related, j) {
+            if sets::has(rows[j], i) {
+                upper = i;
+                lower = j;
+            } else if !sets::has(rows[i], j) {
                 upper = least_upper(&rows, n, i, j);
                 lower = least_upper(&below, n, i, j);
                 if n <= upper || n <= lower {
                     place = Book::MAX_LEVELS * i + j;
                     break 'pairs;
                 }
-            } else if sets::has(rows[j], i) {
-                upper = i;
-                lower = j;
             }
             table::store(join, i, j, upper);
             table::store(meet, i, j, lower);

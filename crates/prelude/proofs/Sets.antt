@@ -1,14 +1,14 @@
 -- Sets as numbers: what two sets share, and the set that a test makes.
 use mathlib.Core.Path.{_≡_, refl, sym, ap, _∙_, subst}
-use mathlib.Core.Bool.{Bool, true, false, cond, not, _&&_, _||_, true≢false, false≢true}
-use Prim.Native.Nat.{ℕ, zero, suc, _+_, _*_, _-_, _/_, _%_, _^_, _≤_, _<_, min, max}
-use native.Mathlib.Nat.{zero-div, div-one, suc-mul, zero-lt-suc, pow-suc, zero-min, zero-max, max-le, min-le-left, le-of-suc-le-suc, mod-lt, mod-eq-of-lt, mod-one, mul-add-mod-self-right}
+use mathlib.Core.Bool.{Bool, true, false, cond, not, _&&_, true≢false, false≢true}
+use Prim.Native.Nat.{ℕ, zero, suc, _+_, _*_, _-_, _/_, _%_, _^_, _≤_, _<_, min}
+use native.Mathlib.Nat.{zero-div, div-one, suc-mul, zero-lt-suc, pow-suc, zero-min, min-le-left, le-of-suc-le-suc, mod-lt, mod-eq-of-lt, mod-one, mul-add-mod-self-right}
 use native.Mathlib.Decide.{decLt, ℕ-discrete}
 use native.Mathlib.Omega.{arith}
 use lib.Dec.{eqb, ltb}
 use lib.Count.{trailingZeros, under}
 use lib.Pow.{pow-pos, ones-lt, ones-split, split, high, low, field, shr-shr, mod-mod-pow, mod-pow-add}
-use lib.Bits.{bitAnd, bitOr, and-shr, and-step, or-shr, or-step}
+use lib.Bits.{bitAnd, and-shr, and-step}
 use borrow.Author.Tests.{ltb-false, eqb-true, eq-eqb, ne-eqb, not-true, not-false}
 use Rattle.prelude.specs.Search.{first}
 use Rattle.prelude.specs.Sets.{has, IsSet, outside, setOf}
@@ -34,25 +34,6 @@ least-digit (suc zero) zero h k = refl
 least-digit (suc zero) (suc zero) h k = refl
 least-digit (suc zero) (suc (suc e)) h k = absurd (omega arith)
 least-digit (suc (suc d)) e h k = absurd (omega arith)
-
--- a digit of a disjunction
-digit-or : (a b y : ℕ) → bitOr a b / 2 ^ y % 2 ≡ max (a / 2 ^ y % 2) (b / 2 ^ y % 2)
-digit-or a b y =
-    let small : max (a / 2 ^ y % 2) (b / 2 ^ y % 2) ≤ 1 = max-le (omega (arith, digit-lt a y)) (omega (arith, digit-lt b y)) in
-    ap (λ n. n % 2) (or-shr a b y ∙ or-step (a / 2 ^ y) (b / 2 ^ y))
-    ∙ mul-add-mod-self-right (bitOr (a / 2 ^ y / 2) (b / 2 ^ y / 2)) 2 (max (a / 2 ^ y % 2) (b / 2 ^ y % 2))
-    ∙ mod-eq-of-lt (omega (arith, small))
-
-greatest-digit : (d e : ℕ) → d < 2 → e < 2 → eqb (max d e) 1 ≡ (eqb d 1 || eqb e 1)
-greatest-digit zero e h k = ap (λ n. eqb n 1) (zero-max e)
-greatest-digit (suc zero) zero h k = refl
-greatest-digit (suc zero) (suc zero) h k = refl
-greatest-digit (suc zero) (suc (suc e)) h k = absurd (omega arith)
-greatest-digit (suc (suc d)) e h k = absurd (omega arith)
-
--- one of two sets has it
-pub has-either : (a b y : ℕ) → has (bitOr a b) y ≡ (has a y || has b y)
-has-either a b y = ap (λ n. eqb n 1) (digit-or a b y) ∙ greatest-digit _ _ (digit-lt a y) (digit-lt b y)
 
 -- both sets have it
 pub has-both : (a b y : ℕ) → has (bitAnd a b) y ≡ (has a y && has b y)

@@ -15,7 +15,7 @@ mod tests;
 
 use std::hint::black_box;
 
-use workloads::{Check, Workload};
+use workloads::Workload;
 
 fn main() {
     let arguments: Vec<String> = std::env::args().skip(1).collect();
@@ -40,15 +40,12 @@ fn tables() {
             measure::whole_run(&name, &call).map(|time| time * 1e6),
         );
     }
-    heading("Calls", "microseconds per call");
-    for Check { name, book, script } in workloads::checks() {
-        row(
-            name,
-            measure::check(name, &book, &script).map(|time| time * 1e6),
-        );
+    heading("Calls", "nanoseconds per call");
+    for check in workloads::checks() {
+        row(check.name, measure::check(&check).map(|time| time * 1e9));
     }
     for Workload { name, call } in workloads::starts() {
-        row(&name, measure::start(&name, &call).map(|time| time * 1e6));
+        row(&name, measure::start(&name, &call).map(|time| time * 1e9));
     }
     heading("Growth", "nanoseconds per step");
     for Workload { name, call } in workloads::growth() {

@@ -4,7 +4,7 @@ use std::hint::black_box;
 
 use crate::plain::{Arguments, Variant};
 use crate::timing::in_turn;
-use crate::workloads::Call;
+use crate::workloads::{Call, Check};
 use crate::{library, plain};
 
 /// Calls in one timed run of what is too short to be timed alone.
@@ -114,9 +114,15 @@ fn timed_run(call: &Call, limit: u32, calls: u32) -> [f64; RUN_SIDES] {
 }
 
 /// Seconds for a call of check.
-pub fn check(name: &str, book: &[u8], script: &[u8]) -> [f64; CHECK_SIDES] {
+pub fn check(check: &Check) -> [f64; CHECK_SIDES] {
+    let Check {
+        name,
+        book,
+        script,
+        refusal,
+    } = check;
     let out = agreed_check(name, book, script);
-    assert_eq!(out[..2], [0, 0], "{name}: refused");
+    assert_eq!(out[0], *refusal, "{name}: refused");
     let times: [f64; CHECK_SIDES] = in_turn(|side| {
         for _ in 0..CALLS {
             black_box(check_on(side, black_box(book), black_box(script)));

@@ -91,6 +91,7 @@ fn damaged_books_agree() {
             name,
             mut book,
             script,
+            ..
         } in checks()
         {
             (0..=rng.below(3)).for_each(|_| rng.damage(&mut book));

@@ -33,6 +33,8 @@ pub struct Check {
     pub name: &'static str,
     pub book: Vec<u8>,
     pub script: Vec<u8>,
+    /// The number of the refusal that it gets, or 0.
+    pub refusal: u32,
 }
 
 impl Workload {
@@ -83,27 +85,25 @@ pub fn waits() -> Vec<Workload> {
 
 /// The cost of a book is that of a check with a script of one node.
 pub fn checks() -> Vec<Check> {
-    let check = |name, book, script| Check { name, book, script };
+    let accepted = |name, book, script| Check {
+        name,
+        book,
+        script,
+        refusal: 0,
+    };
+    let of_book = |name, book| accepted(name, book, smallest());
+    let falling = from_the_top(&chain());
     vec![
-        check("check: 2 levels, one node", two_levels(), smallest()),
-        check("check: 16 levels, subsets, one node", subsets(), smallest()),
-        check("check: 16 levels, chain, one node", chain(), smallest()),
-        check(
-            "check: 16 levels, chain from the top, one node",
-            from_the_top(&chain()),
-            smallest(),
-        ),
-        check(
-            "check: 16 levels, antichain, one node",
-            antichain(),
-            smallest(),
-        ),
-        check(
-            "check: 16 levels, refused at the last pair",
-            refused_last(),
-            smallest(),
-        ),
-        check("check: 16 levels, largest file", subsets(), largest()),
+        of_book("check: 2 levels, one node", two_levels()),
+        of_book("check: 16 levels, subsets, one node", subsets()),
+        of_book("check: 16 levels, chain, one node", chain()),
+        of_book("check: 16 levels, falling chain, one node", falling),
+        of_book("check: 16 levels, antichain, one node", antichain()),
+        Check {
+            refusal: 3,
+            ..of_book("check: 16 levels, refused at the last pair", refused_last())
+        },
+        accepted("check: 16 levels, largest file", subsets(), largest()),
     ]
 }
 

@@ -22,14 +22,14 @@ abbrev Between : ℕ → ℕ → ℕ → ℕ → ℕ → ℕ → Type 0
 Between most n i j taken place = (taken ≡ pairNumber n i j) × ((taken ≤ most) × (place ≡ mostLevels * mostLevels))
 
 abbrev Inv-others : tie.InvT-others
-Inv-others most join₀ meet₀ n rows below taken₀ place₀ i related j₀ join meet taken place j =
+Inv-others most join₀ meet₀ n rows below taken₀ place₀ i j₀ join meet taken place j =
     (i < j)
     × ((j ≤ n)
     × (Between most n i j taken place
     × ((t u : List (List ℕ)) → Upto (atOrBelow rows) n taken₀ t u join₀ meet₀ → Upto (atOrBelow rows) n taken t u join meet)))
 
 abbrev μ-others : tie.MeasureT-others
-μ-others most join₀ meet₀ n rows below taken₀ place₀ i related j₀ join meet taken place j = n - j
+μ-others most join₀ meet₀ n rows below taken₀ place₀ i j₀ join meet taken place j = n - j
 
 abbrev Inv-pairs : tie.InvT-pairs
 Inv-pairs most join₀ meet₀ n rows below taken₀ place₀ i₀ join meet taken place i =
@@ -48,18 +48,6 @@ pairs-holds c =
       ((sym (first-number _), (search needs, refl)), start _ _ _ _ (entry .pre .1 .0) (entry .pre .1 .1)),
     )
 
-mul-related : tie.Need-mul-related Inv-others μ-others Inv-pairs μ-pairs
-mul-related c = search needs
-
-array-read-related : tie.Need-array-read-related Inv-others μ-others Inv-pairs μ-pairs
-array-read-related c = search needs
-
-mul-related-2 : tie.Need-mul-related-2 Inv-others μ-others Inv-pairs μ-pairs
-mul-related-2 c = search needs
-
-array-read-related-2 : tie.Need-array-read-related-2 Inv-others μ-others Inv-pairs μ-pairs
-array-read-related-2 c = search needs
-
 add-j : tie.Need-add-j Inv-others μ-others Inv-pairs μ-pairs
 add-j c = search needs
 
@@ -74,8 +62,23 @@ add-taken c =
     let within = number-within _ _ _ (inv .0) (c .before .others-test .taken) in
     record { fits = omega (arith, inv .1 .1 .0 .0, within, pairs-fit _ few) }
 
+mul-has : tie.Need-mul-has Inv-others μ-others Inv-pairs μ-pairs
+mul-has c = search needs
+
+array-read-has : tie.Need-array-read-has Inv-others μ-others Inv-pairs μ-pairs
+array-read-has c = search needs
+
 has-requires : tie.Need-has-requires Inv-others μ-others Inv-pairs μ-pairs
 has-requires c κs = search needs
+
+mul-has-2 : tie.Need-mul-has-2 Inv-others μ-others Inv-pairs μ-pairs
+mul-has-2 c = search needs
+
+array-read-has-2 : tie.Need-array-read-has-2 Inv-others μ-others Inv-pairs μ-pairs
+array-read-has-2 c = search needs
+
+has-requires-2 : tie.Need-has-requires-2 Inv-others μ-others Inv-pairs μ-pairs
+has-requires-2 c κs = search needs
 
 -- at a pair that is taken up: its two levels, under the order
 module _ (c : tie.After-has Inv-others μ-others Inv-pairs μ-pairs) where
@@ -93,12 +96,12 @@ module _ (c : tie.After-has Inv-others μ-others Inv-pairs μ-pairs) where
 
 least-upper-requires : tie.Need-least-upper-requires Inv-others μ-others Inv-pairs μ-pairs
 least-upper-requires c κs =
-    let at = c .before .before in
+    let at = c .before .before .before .before in
     (start-of at .pre .0, (first-level at, second-level at))
 
 least-upper-requires-2 : tie.Need-least-upper-requires-2 Inv-others μ-others Inv-pairs μ-pairs
 least-upper-requires-2 c κs =
-    let at = c .before .before .before .before in
+    let at = c .before .before .before .before .before .before in
     let entry = start-of at in (
       subst (λ b. InOrder b (entry .args .b .count)) (sym (below-is at)) (converse-in-order (entry .args .b .rows) (entry .args .b .count) (entry .pre .0)),
       (first-level at, second-level at),
@@ -109,15 +112,6 @@ mul-place c = search needs
 
 add-place : tie.Need-add-place Inv-others μ-others Inv-pairs μ-pairs
 add-place c = search needs
-
-mul-has : tie.Need-mul-has Inv-others μ-others Inv-pairs μ-pairs
-mul-has c = search needs
-
-array-read-has : tie.Need-array-read-has Inv-others μ-others Inv-pairs μ-pairs
-array-read-has c = search needs
-
-has-requires-2 : tie.Need-has-requires-2 Inv-others μ-others Inv-pairs μ-pairs
-has-requires-2 c κs = search needs
 
 -- both levels of the pair: found by a search, or the pair's own
 bounds :
@@ -134,19 +128,18 @@ bounds c =
     let w = start-of at .pre .0 in
     ⊎-elim
     (λ q.
-    rw (q .7, q .8)
-    (searched _ _ _ w (below-is at) _ _ (first-level at) (second-level at) _ _ (q .2 .ensures) (q .4 .ensures)
-    (q .5 .left)
-    (leb-false _ _ (q .6 .left))))
+    rw (q .1, q .2)
+    (in-converse _ _ _ w (below-is at) _ _ (first-level at) (second-level at) (sym (at .has .ensures) ∙ q .0 .taken)))
     (⊎-elim
     (λ q.
-    rw (q .3, q .4)
-    (in-converse _ _ _ w (below-is at) _ _ (first-level at) (second-level at) (sym (q .1 .ensures) ∙ q .2 .taken)))
+    rw (q .9, q .10)
+    (searched _ _ _ w (below-is at) _ _ (first-level at) (second-level at) _ _ (q .4 .ensures) (q .6 .ensures)
+    (q .7 .left)
+    (leb-false _ _ (q .8 .left))))
     (λ q.
     rw (q .3, q .4)
     (in-order _ _ _ w (below-is at) _ _ (first-level at) (second-level at)
-    (sym (at .has .ensures) ∙ not-false _ (q .0 .left))
-    (sym (q .1 .ensures) ∙ q .2 .left))))
+    (sym (q .1 .ensures) ∙ not-false _ (q .2 .left)))))
     (c .if2 .came)
 
 store-requires : tie.Need-store-requires Inv-others μ-others Inv-pairs μ-pairs
@@ -225,13 +218,13 @@ returns-2 c =
 
 returns-3 : tie.Need-returns-3 Inv-others μ-others Inv-pairs μ-pairs
 returns-3 c =
-    let at = c .before .before .before .before .before .before in
+    let at = c .before .before .before .before .before .before .before .before in
     let inv = at .before .before .before .others .inv in
     let lacks =
     not-found _ _ _ (start-of at .pre .0) (below-is at) _ _ (first-level at) (second-level at) _ _
     (c .before .before .before .least-upper .ensures)
     (c .before .least-upper2 .ensures)
-    (⊎-elim (λ q. inl (q .taken)) (λ q. inr (leb-true _ _ (q .1 .taken))) (c .if3 .came))
+    (⊎-elim (λ q. inl (q .taken)) (λ q. inr (leb-true _ _ (q .1 .taken))) (c .if4 .came))
     in
     stops _ _ (start-of at .pre .0 .few) _ _ _ _ _ (inv .1 .1 .1 _ _ (at .before .before .before .before .before .pairs .inv .1 .1)) _
     (inv .1 .1 .0 .1 .0) _ _ (inv .0) (second-level at) (inv .1 .1 .0 .0) (at .before .if1 .left) lacks
@@ -246,21 +239,19 @@ sweep-spec =
     μ-pairs
     converse-rows-requires
     pairs-holds
-    mul-related
-    array-read-related
-    mul-related-2
-    array-read-related-2
     add-j
     others-holds
     add-taken
+    mul-has
+    array-read-has
     has-requires
+    mul-has-2
+    array-read-has-2
+    has-requires-2
     least-upper-requires
     least-upper-requires-2
     mul-place
     add-place
-    mul-has
-    array-read-has
-    has-requires-2
     store-requires
     store-requires-2
     add-j-2
