@@ -1,4 +1,5 @@
-// Level books: the levels, the bottom and the top, the tables of joins and meets.
+// Level books: the levels, the bottom and the top, the tables of joins and meets; and what a sweep over their first pairs
+// leaves.
 use crate::say;
 use book::Book;
 use pairs::table;

@@ -8,7 +8,6 @@ use native.Mathlib.Nat.{le-antisymm}
 use native.Mathlib.Omega.{arith}
 use borrow.Author.Tests.{eq-eqb, ne-eqb, lt-ltb}
 use Rattle.prelude.specs.Refusals.{passes}
-use Rattle.prelude.proofs.Searches.{first-within}
 use Rattle.book.specs.declared.LoadedBook.{LoadedBook}
 use Rattle.book.specs.LevelBook.{mostLevels, count, rows, atOrBelow}
 use Rattle.order.specs.Order.{leastUpper, greatestLower}
@@ -18,7 +17,8 @@ use Rattle.order.specs.Load as orders-load
 use Rattle.book.specs.Load.{bookOf}
 use Rattle.order.proofs.Loads.{passing-order}
 use Rattle.pairs.specs.Table.{Keeps}
-use Rattle.pairs.specs.Refusals.{firstLacking, lackRefusal}
+use Rattle.pairs.specs.Refusals.{lackRefusal}
+use Rattle.pairs.proofs.Lacks.{within-places}
 use Rattle.pairs.proofs.Pairs.{Paired}
 use Rattle.lattice.specs.Refusals.{refusal, isAccepted}
 
@@ -56,11 +56,10 @@ module _ (s : List ℕ) (r : LoadedBook) (read : r ≡ orders-load.loaded s) whe
 
       module _ (right : isAccepted s ≡ true) where
         most : p ≡ mostLevels * mostLevels
-        unfolding firstLacking
         most =
             elim (decLt p (mostLevels * mostLevels)) [
               | yes l ↦ absurd (false≢true (rw (lt-ltb p (mostLevels * mostLevels) l) at (ap passes pairs-refused ∙ right)))
-              | no l ↦ le-antisymm (rw (paired .first-place) (first-within _ _)) (omega arith)
+              | no l ↦ le-antisymm (rw (paired .first-place) (within-places _ _)) (omega arith)
             ]
 
         pub joins-kept : Keeps join (count s) (leastUpper (atOrBelow (rows s)) (count s))

@@ -6,7 +6,7 @@ use native.Mathlib.Omega.{arith}
 use lib.Dec.{eqb, ltb}
 use borrow.Author.Tests.{lt-ltb, ltb-true}
 use Rattle.prelude.proofs.Bools.{and-left, and-right}
-use Rattle.prelude.proofs.Searches.{first-holds}
+use Rattle.prelude.proofs.Searches.{first-holds, first-within}
 use Rattle.order.specs.Order.{Relation, converse, leastUpper, greatestLower}
 use Rattle.book.specs.LevelBook.{mostLevels}
 use Rattle.pairs.specs.Refusals.{lacksUpper, firstLacking}
@@ -50,6 +50,11 @@ lacking-pair R n p e =
       within = ltb-true j n (and-left (ltb j n) _ rest);
       lacks = and-right (ltb j n) _ rest;
     }
+
+-- where no pair lacks a level the place is past all
+pub within-places : (R : Relation) (n : ℕ) → firstLacking R n ≤ mostLevels * mostLevels
+unfolding firstLacking
+within-places R n = first-within _ _
 
 -- the pair of refusal 3
 pub refused-pair :

@@ -1,6 +1,6 @@
 -- A sweep over all pairs, of new tables: the place of refusal 3, and both levels of every pair where there is none.
 use mathlib.Core.Path.{_≡_, refl, sym, ap, _∙_, subst}
-use mathlib.Core.Bool.{true, false, not, _||_, or-true}
+use mathlib.Core.Bool.{true, false, not, or-true}
 use mathlib.Core.List.{List}
 use Prim.Native.Nat.{ℕ, _+_, _*_, _≤_, _<_}
 use native.Mathlib.Decide.{decLt}
@@ -8,17 +8,17 @@ use native.Mathlib.Omega.{arith}
 use lib.Dec.{ltb}
 use borrow.Author.Tests.{lt-ltb, le-ltb, eq-eqb}
 use Rattle.prelude.proofs.Bools.{and-intro, by-cases}
-use Rattle.prelude.proofs.Searches.{first-within, first-at-end, lesser-right}
+use Rattle.prelude.proofs.Searches.{first-at-end, lesser-right}
 use Rattle.order.specs.Order.{Relation, converse, leastUpper, greatestLower}
 use Rattle.order.specs.Rows.{InOrder}
 use Rattle.order.proofs.Duals.{dual}
 use Rattle.book.specs.LevelBook.{mostLevels, atOrBelow}
 use Rattle.pairs.specs.declared.Swept.{Swept}
-use Rattle.pairs.specs.Refusals.{lacksUpper, firstLacking}
+use Rattle.pairs.specs.Refusals.{firstLacking}
 use Rattle.pairs.specs.Table.{kept, Keeps, newLevel}
 use Rattle.pairs.specs.Sweeping.{levelPairs, pairNumber, lacksOne, refusedNumber, takenUp, placeWithin, isFound, keptAfter, Sweeps}
 use Rattle.pairs.proofs.Orders.{least-above}
-use Rattle.pairs.proofs.Lacks.{refused-pair, lacks-at}
+use Rattle.pairs.proofs.Lacks.{within-places, refused-pair, lacks-at}
 use Rattle.pairs.proofs.Numbers.{number-within}
 
 -- What is found of all pairs: the place of refusal 3; where no pair lacks a level, both are kept for every pair.
@@ -30,7 +30,6 @@ pub record Paired (R : Relation) (n : ℕ) (join meet : List (List ℕ)) (place 
 module _ (R : Relation) (n k : ℕ) (few : n ≤ mostLevels) (enough : levelPairs n ≤ k) where
   -- the place is that of refusal 3
   any-place : placeWithin R n k ≡ firstLacking R n
-  unfolding firstLacking
   any-place =
       elim (decLt (firstLacking R n) (mostLevels * mostLevels)) [
         | yes l ↦
@@ -41,7 +40,7 @@ module _ (R : Relation) (n k : ℕ) (few : n ≤ mostLevels) (enough : levelPair
             (λ p. p ≡ firstLacking R n)
             (ltb (refusedNumber R n) k)
             (λ e. refl)
-            (λ e. omega (arith, first-within (λ p. lacksUpper R n p || lacksUpper (converse R) n p) (mostLevels * mostLevels)))
+            (λ e. omega (arith, within-places R n))
       ]
 
   module _ (none : firstLacking R n ≡ mostLevels * mostLevels) where

@@ -10,14 +10,14 @@ use native.Mathlib.Omega.{arith}
 use lib.Dec.{ltb}
 use borrow.Author.Tests.{lt-ltb, le-ltb, ltb-true, ne-eqb, not-true}
 use Rattle.prelude.proofs.Bools.{fails, and-intro, and-left, and-right, same-truth, by-cases}
-use Rattle.prelude.proofs.Searches.{first-is, first-within, lesser-left, lesser-right}
+use Rattle.prelude.proofs.Searches.{first-is, lesser-left, lesser-right}
 use Rattle.order.specs.Order.{Relation, converse, leastUpper, greatestLower}
 use Rattle.book.specs.LevelBook.{mostLevels}
 use Rattle.pairs.specs.Refusals.{lacksUpper, firstLacking}
 use Rattle.pairs.specs.Table.{Square, stored}
 use Rattle.pairs.specs.Sweeping.{levelPairs, pairNumber, lacksOne, refusedNumber, takenUp, placeWithin, isFound, Sweeps}
 use Rattle.pairs.proofs.Orders.{least-swap}
-use Rattle.pairs.proofs.Lacks.{quotient, remainder, Lacking, lacking-pair, refused-pair, lacks-at}
+use Rattle.pairs.proofs.Lacks.{quotient, remainder, Lacking, lacking-pair, within-places, refused-pair, lacks-at}
 use Rattle.pairs.proofs.Numbers.{earlier-row, earlier-here, number-within, one-number}
 use Rattle.pairs.proofs.Bounds.{Bounds}
 use Rattle.pairs.proofs.Fills.{isTaken, taken-order, taken-within, taken-number, is-taken, none-taken, Filled, filled-none, filled-next}
@@ -126,8 +126,7 @@ module _ (R : Relation) (n : ℕ) (few : n ≤ mostLevels) where
         all-or-k : takenUp R n k ≡ m
         all-or-k =
             elim (decLt (firstLacking R n) (mostLevels * mostLevels)) [
-              | yes l ↦
-                  rw (lt-ltb _ _ l) (lesser-left k _ (omega (arith, not-yet l .1)) ∙ not-yet l .0)
+              | yes l ↦ rw (lt-ltb _ _ l) (lesser-left k _ (omega (arith, not-yet l .1)) ∙ not-yet l .0)
               | no l ↦
                   rw (le-ltb (firstLacking R n) (mostLevels * mostLevels) (omega arith))
                   (⊎-elim
@@ -137,7 +136,6 @@ module _ (R : Relation) (n : ℕ) (few : n ≤ mostLevels) where
             ]
 
         no-refusal : placeWithin R n k ≡ mostLevels * mostLevels
-        unfolding firstLacking
         no-refusal =
             elim (decLt (firstLacking R n) (mostLevels * mostLevels)) [
               | yes l ↦ rw (le-ltb (refusedNumber R n) k (not-yet l .1))
@@ -145,7 +143,7 @@ module _ (R : Relation) (n : ℕ) (few : n ≤ mostLevels) where
                   by-cases
                   (λ p. p ≡ mostLevels * mostLevels)
                   (ltb (refusedNumber R n) k)
-                  (λ e. omega (arith, first-within (λ p. lacksUpper R n p || lacksUpper (converse R) n p) (mostLevels * mostLevels)))
+                  (λ e. omega (arith, within-places R n))
                   (λ e. refl)
             ]
 
@@ -169,8 +167,7 @@ module _ (R : Relation) (n : ℕ) (few : n ≤ mostLevels) where
 
         this-place : firstLacking R n ≡ mostLevels * i + j
         unfolding firstLacking
-        this-place =
-            first-is _ _ _ (omega arith) (lacks-at R n i j few h l ∙ lacks) sooner
+        this-place = first-is _ _ _ (omega arith) (lacks-at R n i j few h l ∙ lacks) sooner
 
         this-number : refusedNumber R n ≡ m
         this-number = rw (this-place, quotient i j (omega arith), remainder i j (omega arith)) (sym e)

@@ -1,5 +1,5 @@
 -- 02 (d): "find the common upper and lower level of each pair in one sweep over the pairs i < j". What the sweep leaves, held to
--- the first k pairs, for every k, every relation of n levels and all tables handed in.
+-- the first k pairs, for every k, every order of n levels and all tables handed in.
 use mathlib.Core.Path.{_≡_}
 use mathlib.Core.Bool.{Bool, cond, not, _&&_, _||_}
 use mathlib.Core.List.{List}
