@@ -6,6 +6,7 @@ use pairs::table;
 use pairs::table::PairTable;
 ghost use Prim.Native.Nat.{_<_, _≤_};
 ghost use Rattle.book.specs.LevelBook.{mostLevels};
+ghost use Rattle.order.specs.Rows.{InOrder};
 
 // What the tables have everywhere that are handed to a sweep of the first pairs: no level.
 const MARK: u8 = 99;
@@ -49,34 +50,43 @@ fn say_book(b: Book, join: PairTable, meet: PairTable)
     say_tables(join, meet, b.count);
 }
 
-pub fn show(file: &[u8]) {
-    let read = order::load(file);
-    if 0 < read.refusal.number {
-        text::say_refusal(read.refusal.number, read.refusal.place);
-        return;
-    }
+// All of a book in order, or refusal 3.
+fn show_all(b: Book)
+    requires { ⌜ InOrder (b .rows) (b .count) ⌝ }
+{
     let mut join = table::new_table();
     let mut meet = table::new_table();
-    let swept = pairs::sweep(read.book, Book::PLACES, &mut join, &mut meet);
+    let swept = pairs::sweep(b, Book::PLACES, &mut join, &mut meet);
     let lack = pairs::lack_refusal(swept.place);
     if 0 < lack.number {
         text::say_refusal(lack.number, lack.place);
         return;
     }
-    say_book(read.book, join, meet);
+    say_book(b, join, meet);
 }
 
-// What a sweep of the first `most` pairs gives, and what it leaves in tables of marks.
-pub fn show_first(file: &[u8], most: usize) {
+// What a sweep over the first `most` pairs of a book in order gives, and what it leaves in tables of marks.
+fn show_first(b: Book, most: usize)
+    requires { ⌜ InOrder (b .rows) (b .count) ⌝ }
+{
+    let mut join = [[MARK; Book::MAX_LEVELS]; Book::MAX_LEVELS];
+    let mut meet = [[MARK; Book::MAX_LEVELS]; Book::MAX_LEVELS];
+    let swept = pairs::sweep(b, most, &mut join, &mut meet);
+    say(b"taken ", swept.taken);
+    say(b" place ", swept.place);
+    say_tables(join, meet, b.count);
+}
+
+// A level book: all of it, or its first `most` pairs alone.
+pub fn show(file: &[u8], all: bool, most: usize) {
     let read = order::load(file);
     if 0 < read.refusal.number {
         text::say_refusal(read.refusal.number, read.refusal.place);
         return;
     }
-    let mut join = [[MARK; Book::MAX_LEVELS]; Book::MAX_LEVELS];
-    let mut meet = [[MARK; Book::MAX_LEVELS]; Book::MAX_LEVELS];
-    let swept = pairs::sweep(read.book, most, &mut join, &mut meet);
-    say(b"taken ", swept.taken);
-    say(b" place ", swept.place);
-    say_tables(join, meet, read.book.count);
+    if all {
+        show_all(read.book);
+    } else {
+        show_first(read.book, most);
+    }
 }

@@ -18,7 +18,7 @@ fn say(word: &[u8], n: usize) {
 // The number of pairs, and a level book.
 fn show_first(bytes: &[u8]) {
     if 0 < bytes.len() {
-        books::show_first(&bytes[1..], prelude::wide(bytes[0]));
+        books::show(&bytes[1..], false, prelude::wide(bytes[0]));
     }
 }
 
@@ -30,7 +30,7 @@ fn take_line(line: &[u8])
     let n = hex::read(line, &mut bytes, 0);
     let file = &bytes[0..n];
     match line[0] {
-        b'b' => books::show(file),
+        b'b' => books::show(file, true, 0),
         b'f' => show_first(file),
         b's' => scripts::show(file),
         _ => {}

@@ -5,9 +5,8 @@ use mathlib.Core.List.{List}
 use Prim.Native.Nat.{ℕ, _+_, _*_, _≤_, _<_}
 use native.Mathlib.Decide.{decLt}
 use native.Mathlib.Omega.{arith}
-use lib.Dec.{ltb}
 use borrow.Author.Tests.{lt-ltb, le-ltb, eq-eqb}
-use Rattle.prelude.proofs.Bools.{and-intro, by-cases}
+use Rattle.prelude.proofs.Bools.{and-intro}
 use Rattle.prelude.proofs.Searches.{first-at-end, lesser-right}
 use Rattle.order.specs.Order.{Relation, converse, leastUpper, greatestLower}
 use Rattle.order.specs.Rows.{InOrder}
@@ -34,13 +33,11 @@ module _ (R : Relation) (n k : ℕ) (few : n ≤ mostLevels) (enough : levelPair
       elim (decLt (firstLacking R n) (mostLevels * mostLevels)) [
         | yes l ↦
             let q = refused-pair R n l in
-            rw (lt-ltb (refusedNumber R n) k (omega (arith, number-within n _ _ (q .order) (q .within))))
-        | no l ↦
-            by-cases
-            (λ p. p ≡ firstLacking R n)
-            (ltb (refusedNumber R n) k)
-            (λ e. refl)
-            (λ e. omega (arith, within-places R n))
+            rw (
+              lt-ltb _ _ l,
+              lt-ltb (refusedNumber R n) k (omega (arith, number-within n _ _ (q .order) (q .within))),
+            )
+        | no l ↦ rw (le-ltb (firstLacking R n) (mostLevels * mostLevels) (omega arith)) (omega (arith, within-places R n))
       ]
 
   module _ (none : firstLacking R n ≡ mostLevels * mostLevels) where

@@ -1,5 +1,5 @@
 -- The sweep over the pairs: what holds when the first m pairs are taken up, and what it comes to in the end.
-use mathlib.Core.Path.{_≡_, refl, sym, ap, _∙_, subst}
+use mathlib.Core.Path.{_≡_, sym, ap, _∙_, subst}
 use mathlib.Core.Bool.{true, false, not, _||_, true≢false}
 use mathlib.Core.List.{List}
 use mathlib.Core.Logic.{_⊎_, ⊎-elim}
@@ -8,16 +8,16 @@ use native.Mathlib.Nat.{le-refl}
 use native.Mathlib.Decide.{ℕ-discrete, decLt}
 use native.Mathlib.Omega.{arith}
 use lib.Dec.{ltb}
-use borrow.Author.Tests.{lt-ltb, le-ltb, ltb-true, ne-eqb, not-true}
-use Rattle.prelude.proofs.Bools.{fails, and-intro, and-left, and-right, same-truth, by-cases}
+use borrow.Author.Tests.{lt-ltb, ltb-true, ne-eqb, not-true}
+use Rattle.prelude.proofs.Bools.{fails, and-intro, and-left, and-right, same-truth}
 use Rattle.prelude.proofs.Searches.{first-is, lesser-left, lesser-right}
 use Rattle.order.specs.Order.{Relation, converse, leastUpper, greatestLower}
 use Rattle.book.specs.LevelBook.{mostLevels}
 use Rattle.pairs.specs.Refusals.{lacksUpper, firstLacking}
 use Rattle.pairs.specs.Table.{Square, stored}
-use Rattle.pairs.specs.Sweeping.{levelPairs, pairNumber, lacksOne, refusedNumber, takenUp, placeWithin, isFound, Sweeps}
+use Rattle.pairs.specs.Sweeping.{levelPairs, pairNumber, lacksOne, refusedNumber, isRefused, takenUp, placeWithin, isFound, Sweeps}
 use Rattle.pairs.proofs.Orders.{least-swap}
-use Rattle.pairs.proofs.Lacks.{quotient, remainder, Lacking, lacking-pair, within-places, refused-pair, lacks-at}
+use Rattle.pairs.proofs.Lacks.{quotient, remainder, Lacking, lacking-pair, refused-pair, lacks-at}
 use Rattle.pairs.proofs.Numbers.{earlier-row, earlier-here, number-within, one-number}
 use Rattle.pairs.proofs.Bounds.{Bounds}
 use Rattle.pairs.proofs.Fills.{isTaken, taken-order, taken-within, taken-number, is-taken, none-taken, Filled, filled-none, filled-next}
@@ -115,37 +115,27 @@ module _ (R : Relation) (n : ℕ) (few : n ≤ mostLevels) where
     module _ (k : ℕ) (held : m ≤ k) where
       -- the sweep has taken up k pairs, or all, and none of them lacks a level
       module _ (within : m ≤ levelPairs n) (done : (k ≤ m) ⊎ (levelPairs n ≤ m)) where
-        not-yet : firstLacking R n < mostLevels * mostLevels → (k ≡ m) × (k ≤ refusedNumber R n)
-        not-yet l =
-            let q = refused-pair R n l in
+        not-refused : isRefused R n k ≡ false
+        not-refused =
+            fails _ (λ t.
+            let q = refused-pair R n (ltb-true (firstLacking R n) (mostLevels * mostLevels) (and-left _ _ t)) in
             let late : m ≤ refusedNumber R n = lacks-late _ _ q in
             let early : refusedNumber R n < levelPairs n = number-within n _ _ (q .order) (q .within) in
-            let same : k ≡ m = ⊎-elim (λ x. omega arith) (λ x. absurd (omega arith)) done in
-            (same, omega arith)
+            let first : refusedNumber R n < k =
+            ltb-true (refusedNumber R n) k (and-right (ltb (firstLacking R n) (mostLevels * mostLevels)) _ t)
+            in
+            ⊎-elim (λ x. omega arith) (λ x. omega arith) done)
 
         all-or-k : takenUp R n k ≡ m
         all-or-k =
-            elim (decLt (firstLacking R n) (mostLevels * mostLevels)) [
-              | yes l ↦ rw (lt-ltb _ _ l) (lesser-left k _ (omega (arith, not-yet l .1)) ∙ not-yet l .0)
-              | no l ↦
-                  rw (le-ltb (firstLacking R n) (mostLevels * mostLevels) (omega arith))
-                  (⊎-elim
-                  (λ x. lesser-left k (levelPairs n) (omega arith) ∙ omega arith)
-                  (λ x. lesser-right k (levelPairs n) (omega arith) ∙ omega arith)
-                  done)
-            ]
+            rw not-refused
+            (⊎-elim
+            (λ x. lesser-left k (levelPairs n) (omega arith) ∙ omega arith)
+            (λ x. lesser-right k (levelPairs n) (omega arith) ∙ omega arith)
+            done)
 
         no-refusal : placeWithin R n k ≡ mostLevels * mostLevels
-        no-refusal =
-            elim (decLt (firstLacking R n) (mostLevels * mostLevels)) [
-              | yes l ↦ rw (le-ltb (refusedNumber R n) k (not-yet l .1))
-              | no l ↦
-                  by-cases
-                  (λ p. p ≡ mostLevels * mostLevels)
-                  (ltb (refusedNumber R n) k)
-                  (λ e. omega (arith, within-places R n))
-                  (λ e. refl)
-            ]
+        no-refusal = rw not-refused
 
         pub ends : (place : ℕ) → place ≡ mostLevels * mostLevels → Sweeps R n k join meet join′ meet′ (record { taken = m; place = place })
         ends place e = left-by k m place (sym all-or-k) (e ∙ sym no-refusal) (found-is k m all-or-k (le-refl m) (λ a b h l x y. x))
@@ -172,13 +162,17 @@ module _ (R : Relation) (n : ℕ) (few : n ≤ mostLevels) where
         this-number : refusedNumber R n ≡ m
         this-number = rw (this-place, quotient i j (omega arith), remainder i j (omega arith)) (sym e)
 
+        is-refused : isRefused R n k ≡ true
+        is-refused =
+            and-intro _ _
+            (lt-ltb (firstLacking R n) (mostLevels * mostLevels) (omega (arith, this-place)))
+            (lt-ltb (refusedNumber R n) k (omega (arith, this-number)))
+
         one-more : takenUp R n k ≡ m + 1
-        one-more =
-            rw (lt-ltb (firstLacking R n) (mostLevels * mostLevels) (omega (arith, this-place)), this-number)
-            (lesser-right k _ (omega arith) ∙ omega arith)
+        one-more = rw is-refused (omega (arith, this-number))
 
         refused : placeWithin R n k ≡ mostLevels * i + j
-        refused = rw (this-number, lt-ltb m k more) this-place
+        refused = rw is-refused this-place
 
         pub stops : Sweeps R n k join meet join′ meet′ (record { taken = m + 1; place = mostLevels * i + j })
         stops =

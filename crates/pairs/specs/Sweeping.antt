@@ -29,13 +29,17 @@ lacksOne R n i j = eqb (leastUpper R n i j) n || eqb (greatestLower R n i j) n
 abbrev pub refusedNumber : Relation → ℕ → ℕ
 refusedNumber R n = pairNumber n (firstLacking R n / mostLevels) (firstLacking R n % mostLevels)
 
+-- the pair that refusal 3 names is one of the first k
+abbrev pub isRefused : Relation → ℕ → ℕ → Bool
+isRefused R n k = ltb (firstLacking R n) (mostLevels * mostLevels) && ltb (refusedNumber R n) k
+
 -- "the number taken up: the lesser of k and n(n − 1)/2, or at refusal 3 those before the refused pair and one more"
 abbrev pub takenUp : Relation → ℕ → ℕ → ℕ
-takenUp R n k = lesser k (cond (ltb (firstLacking R n) (mostLevels * mostLevels)) (suc (refusedNumber R n)) (levelPairs n))
+takenUp R n k = cond (isRefused R n k) (refusedNumber R n + 1) (lesser k (levelPairs n))
 
--- the place of refusal 3 if its pair is one of the first k, else 256
+-- the place of refusal 3, or 256
 abbrev pub placeWithin : Relation → ℕ → ℕ → ℕ
-placeWithin R n k = cond (ltb (refusedNumber R n) k) (firstLacking R n) (mostLevels * mostLevels)
+placeWithin R n k = cond (isRefused R n k) (firstLacking R n) (mostLevels * mostLevels)
 
 -- "finds both levels of each it takes up that has them": i < j are such a pair
 abbrev pub isFound : Relation → ℕ → ℕ → ℕ → ℕ → Bool

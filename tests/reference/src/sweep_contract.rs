@@ -5,6 +5,7 @@
 use crate::order::{Level, Order, MOST_LEVELS};
 use crate::sweep::{pair_count, sweep, Swept, Table, Tables};
 use crate::{Fault, Rules};
+use cases::Rng;
 
 /// For every two levels the level that they have in common, where there is one.
 type Common = [[Option<Level>; MOST_LEVELS]; MOST_LEVELS];
@@ -128,19 +129,6 @@ fn swept(rules: Rules, order: &Order, k: usize) -> (Swept, Tables) {
     (swept, tables)
 }
 
-/// A small generator (splitmix64).
-struct Random(u64);
-
-impl Random {
-    fn below(&mut self, n: usize) -> usize {
-        self.0 = self.0.wrapping_add(0x9E37_79B9_7F4A_7C15);
-        let mut z = self.0;
-        z = (z ^ (z >> 30)).wrapping_mul(0xBF58_476D_1CE4_E5B9);
-        z = (z ^ (z >> 27)).wrapping_mul(0x94D0_49BB_1331_11EB);
-        ((z ^ (z >> 31)) % n as u64) as usize
-    }
-}
-
 /// Sets by inclusion, under numbers in the order of the list.
 fn by_inclusion(sets: &[u32]) -> Order {
     let row = |a: &u32| {
@@ -153,7 +141,7 @@ fn by_inclusion(sets: &[u32]) -> Order {
 /// An order of at most 16 levels: some sets by inclusion. Closed under
 /// intersection and with a set that holds all others, they have both levels of
 /// every pair; without one of them, or not closed, they may lack some.
-fn some_order(random: &mut Random) -> Order {
+fn some_order(random: &mut Rng) -> Order {
     let closed = random.below(3) > 0;
     let mut sets: Vec<u32> = vec![0xFF];
     for _ in 0..random.below(MOST_LEVELS) {
@@ -177,7 +165,7 @@ fn some_order(random: &mut Random) -> Order {
 
 /// Sets in ascending order become levels from low to high, from high to low or
 /// numbered at random.
-fn numbered(random: &mut Random, mut sets: Vec<u32>) -> Order {
+fn numbered(random: &mut Rng, mut sets: Vec<u32>) -> Order {
     match random.below(4) {
         0 => {}
         1 => sets.reverse(),
@@ -189,7 +177,7 @@ fn numbered(random: &mut Random, mut sets: Vec<u32>) -> Order {
 /// 'By its contract', for every k up to two more than there are pairs.
 #[test]
 fn the_sweep_keeps_its_contract() {
-    let mut random = Random(4);
+    let mut random = Rng::new(4);
     let mut seen = [[0; 2]; MOST_LEVELS + 1];
     for _ in 0..1000 {
         let order = some_order(&mut random);
@@ -209,7 +197,7 @@ fn the_sweep_keeps_its_contract() {
 /// their upper level only, their lower level only, and neither.
 #[test]
 fn the_place_is_that_of_the_refused_pair() {
-    let mut random = Random(5);
+    let mut random = Rng::new(5);
     let mut seen = [[0; 2]; 2];
     for _ in 0..1000 {
         let order = some_order(&mut random);
@@ -256,7 +244,7 @@ const FAULTS: [Fault; 17] = [
 fn planted_faults_break_the_contract() {
     for fault in FAULTS {
         let rules = Rules { fault: Some(fault) };
-        let mut random = Random(6);
+        let mut random = Rng::new(6);
         let mut breaks = || {
             let order = some_order(&mut random);
             let contract = Contract::of(&order);

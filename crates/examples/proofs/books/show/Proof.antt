@@ -1,4 +1,4 @@
--- `show`: new tables are square, and a book in order has few enough levels.
+-- `show`: past refusals 1 and 2 the book is in order.
 use native.Mathlib.Omega.{arith}
 use borrow.Author.Needs.{needs}
 use Rattle.order.specs.Rows.{InOrder}
@@ -15,32 +15,17 @@ say-refusal-requires c κs = search needs
 returns : tie.Need-returns
 returns c = search needs
 
--- past refusals 1 and 2
 ordered : (c : tie.Else1) → InOrder (c .before .before .load .result .book .rows) (c .before .before .load .result .book .count)
 ordered c = in-order _ _ (c .before .before .load .ensures) (omega arith)
 
-new-table-requires : tie.Need-new-table-requires
-new-table-requires c κs = search needs
+show-all-requires : tie.Need-show-all-requires
+show-all-requires c κs = ordered (c .before)
 
-new-table-requires-2 : tie.Need-new-table-requires-2
-new-table-requires-2 c κs = search needs
-
-sweep-requires : tie.Need-sweep-requires
-sweep-requires c κs =
-    let tables = c .before .before in
-    (ordered (tables .before .before), (tables .before .new-table .ensures .0, tables .new-table2 .ensures .0))
-
-lack-refusal-requires : tie.Need-lack-refusal-requires
-lack-refusal-requires c κs = search needs
-
-say-refusal-requires-2 : tie.Need-say-refusal-requires-2
-say-refusal-requires-2 c κs = search needs
+show-first-requires : tie.Need-show-first-requires
+show-first-requires c κs = ordered (c .before)
 
 returns-2 : tie.Need-returns-2
 returns-2 c = search needs
-
-say-book-requires : tie.Need-say-book-requires
-say-book-requires c κs = ordered (c .before .before .before .before .before .before .before .before) .few
 
 returns-3 : tie.Need-returns-3
 returns-3 c = search needs
@@ -52,11 +37,7 @@ show-spec =
     load-requires
     say-refusal-requires
     returns
-    new-table-requires
-    new-table-requires-2
-    sweep-requires
-    lack-refusal-requires
-    say-refusal-requires-2
+    show-all-requires
+    show-first-requires
     returns-2
-    say-book-requires
     returns-3)
