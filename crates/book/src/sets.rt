@@ -1,10 +1,10 @@
 // Sets of levels as numbers: bit j says that level j is in the set.
 ghost use mathlib.Core.Path.{_≡_};
-ghost use mathlib.Core.Bool.{true};
+ghost use mathlib.Core.Bool.{true, _||_};
 ghost use Prim.Native.Nat.{_-_, _/_, _^_, _<_, _≤_};
-ghost use lib.Dec.{ltb};
+ghost use lib.Dec.{eqb, ltb};
 ghost use Rattle.prelude.specs.Search.{first};
-ghost use Rattle.prelude.specs.Sets.{has, outside};
+ghost use Rattle.prelude.specs.Sets.{has, IsSet, outside};
 ghost use Rattle.book.specs.LevelBook.{mostLevels};
 
 // Level j is in the set.
@@ -13,6 +13,21 @@ pub fn has(set: u16, j: usize) -> bool
     ensures { λ r. ⌜ r ≡ has set j ⌝ }
 {
     (set >> j) % 2 == 1
+}
+
+// The set of level j alone.
+pub fn only(j: usize) -> u16
+    requires { ⌜ j < mostLevels ⌝ }
+    ensures { λ r. ⌜ IsSet mostLevels (eqb j) r ⌝ }
+{
+    1 << j
+}
+
+// The levels of two sets together.
+pub fn union(set: u16, other: u16) -> u16
+    ensures { λ r. ⌜ IsSet mostLevels (λ j. has set j || has other j) r ⌝ }
+{
+    set | other
 }
 
 // The smallest level of the set, or the most levels of a book.

@@ -13,7 +13,8 @@ use Rattle.layout.specs.Layout.{nameCount}
 use Rattle.layout.specs.Entries.{nameOf, partOf}
 use Rattle.tree.specs.Tree.{namesOf, expressionOf}
 use Rattle.layout.proofs.Layouts.{names-are, expressions-are}
-use Rattle.tree.proofs.Views.{code-range, UsesExpression, ExpressionView, aConstant, aRegister, aBinary, aNegated, expression-view}
+use Rattle.tree.proofs.Views.{UsesExpression, ExpressionView, expression-view}
+use Rattle.tree.proofs.ExpressionKinds.{constant-is, register-is, operand-is, negated-is, binary-is}
 use Rattle.flow.specs.Flow.{Levels, lattice, Ready, Joins, LevelAt}
 use Rattle.flow.proofs.BookLevels.{bottom-is, bottom-inside, join-kept, join-inside}
 
@@ -21,46 +22,25 @@ module _ (𝓛 : Lattice ℕ) (s : List ℕ) where
   abbrev pub levelOf : ℕ → ℕ
   levelOf e = expLevel 𝓛 (namesOf s) (expressionOf s e)
 
-  module _ (e : ℕ) where
-    constant-view : ExpressionView s e → partOf s e .kind ≡ 0 → levelOf e ≡ 𝓛 .bottom
+  module _ (e : ℕ) (view : ExpressionView s e) where
+    constant-level : partOf s e .kind ≡ 0 → levelOf e ≡ 𝓛 .bottom
     unfolding expLevel
-    constant-view (aConstant k q) n = ap (expLevel 𝓛 (namesOf s)) q
-    constant-view (aRegister k q u) n = absurd (omega arith)
-    constant-view (aBinary o k q u v) n = absurd (omega (arith, code-range o))
-    constant-view (aNegated k q u) n = absurd (omega arith)
+    constant-level n = ap (expLevel 𝓛 (namesOf s)) (constant-is s e view n .1)
 
-    register-view :
-        ExpressionView s e → partOf s e .kind ≡ 1 →
-        (partOf s e .a < nameCount s) × (levelOf e ≡ nameOf s (partOf s e .a) .level)
+    register-level :
+        partOf s e .kind ≡ 1 → (partOf s e .a < nameCount s) × (levelOf e ≡ nameOf s (partOf s e .a) .level)
     unfolding expLevel
-    register-view (aConstant k q) n = absurd (omega arith)
-    register-view (aRegister k q u) n = (u .known, ap (expLevel 𝓛 (namesOf s)) q)
-    register-view (aBinary o k q u v) n = absurd (omega (arith, code-range o))
-    register-view (aNegated k q u) n = absurd (omega arith)
+    register-level n = let r = register-is s e view n in (r .0 .known, ap (expLevel 𝓛 (namesOf s)) (r .1))
 
-    operand-view :
-        ExpressionView s e → (partOf s e .kind ≡ 0 → ⊥) → (partOf s e .kind ≡ 1 → ⊥) →
-        UsesExpression s e (partOf s e .a)
-    operand-view (aConstant k q) m n = absurd (m k)
-    operand-view (aRegister k q u) m n = absurd (n k)
-    operand-view (aBinary o k q u v) m n = u
-    operand-view (aNegated k q u) m n = u
-
-    negated-view : ExpressionView s e → partOf s e .kind ≡ 8 → levelOf e ≡ levelOf (partOf s e .a)
+    negated-level : partOf s e .kind ≡ 8 → levelOf e ≡ levelOf (partOf s e .a)
     unfolding expLevel
-    negated-view (aConstant k q) n = absurd (omega arith)
-    negated-view (aRegister k q u) n = absurd (omega arith)
-    negated-view (aBinary o k q u v) n = absurd (omega (arith, code-range o))
-    negated-view (aNegated k q u) n = ap (expLevel 𝓛 (namesOf s)) q
+    negated-level n = ap (expLevel 𝓛 (namesOf s)) (negated-is s e view n)
 
-    binary-view :
-        ExpressionView s e → (partOf s e .kind ≡ 0 → ⊥) → (partOf s e .kind ≡ 1 → ⊥) → (partOf s e .kind ≡ 8 → ⊥) →
+    binary-level :
+        (partOf s e .kind ≡ 0 → ⊥) → (partOf s e .kind ≡ 1 → ⊥) → (partOf s e .kind ≡ 8 → ⊥) →
         UsesExpression s e (partOf s e .b) × (levelOf e ≡ 𝓛 .join (levelOf (partOf s e .a)) (levelOf (partOf s e .b)))
     unfolding expLevel
-    binary-view (aConstant k q) l m n = absurd (l k)
-    binary-view (aRegister k q u) l m n = absurd (m k)
-    binary-view (aBinary o k q u v) l m n = (v, ap (expLevel 𝓛 (namesOf s)) q)
-    binary-view (aNegated k q u) l m n = absurd (n k)
+    binary-level l m n = let r = binary-is s e view l m n in (r .0, ap (expLevel 𝓛 (namesOf s)) (r .1 .1))
 
 -- what is known where expression e has been read: its part
 pub record ReadExpression (s : List ℕ) (c : Script) (l : Levels) (e : ℕ) (p : Part) : Type 0 where
@@ -79,13 +59,13 @@ module _ {s : List ℕ} {c : Script} {l : Levels} {e : ℕ} {p : Part} (read : R
   pub at-constant : p .kind ≡ 0 → LevelAt l s e (l .bottom)
   at-constant n =
       record {
-        same = bottom-is (read .ready .ordered) ∙ sym (constant-view (lattice l) s e view (kind-is ∙ n));
+        same = bottom-is (read .ready .ordered) ∙ sym (constant-level (lattice l) s e view (kind-is ∙ n));
         inside = bottom-inside (read .ready .ordered);
       }
 
   module _ (n : p .kind ≡ 1) where
     register : (partOf s e .a < nameCount s) × (levelOf (lattice l) s e ≡ nameOf s (partOf s e .a) .level)
-    register = register-view (lattice l) s e view (kind-is ∙ n)
+    register = register-level (lattice l) s e view (kind-is ∙ n)
 
     pub register-known : p .a < c .names
     register-known = omega (arith, register .0, ap (λ q. q .a) (read .same), names-are (read .ready .laid))
@@ -102,7 +82,7 @@ module _ {s : List ℕ} {c : Script} {l : Levels} {e : ℕ} {p : Part} (read : R
   module _ (m : p .kind ≡ 0 → ⊥) (n : p .kind ≡ 1 → ⊥) where
     pub first-operand : (p .a < e) × (p .a < c .expressions)
     first-operand =
-        let u = operand-view (lattice l) s e view (λ k. m (sym kind-is ∙ k)) (λ k. n (sym kind-is ∙ k)) in
+        let u = operand-is s e view (λ k. m (sym kind-is ∙ k)) (λ k. n (sym kind-is ∙ k)) in
         let same = ap (λ q. q .a) (read .same) in
         (omega (arith, u .part .before, same), omega (arith, u .known, same, expressions-are (read .ready .laid)))
 
@@ -111,7 +91,7 @@ module _ {s : List ℕ} {c : Script} {l : Levels} {e : ℕ} {p : Part} (read : R
       record {
         same =
             a .same ∙ ap (λ q. levelOf (lattice l) s (q .a)) (read .same)
-            ∙ sym (negated-view (lattice l) s e view (kind-is ∙ n));
+            ∙ sym (negated-level (lattice l) s e view (kind-is ∙ n));
         inside = a .inside;
       }
 
@@ -121,7 +101,7 @@ module _ {s : List ℕ} {c : Script} {l : Levels} {e : ℕ} {p : Part} (read : R
         × (levelOf (lattice l) s e
         ≡ lattice l .join (levelOf (lattice l) s (partOf s e .a)) (levelOf (lattice l) s (partOf s e .b)))
     binary =
-        binary-view (lattice l) s e view (λ k. l₀ (sym kind-is ∙ k)) (λ k. l₁ (sym kind-is ∙ k))
+        binary-level (lattice l) s e view (λ k. l₀ (sym kind-is ∙ k)) (λ k. l₁ (sym kind-is ∙ k))
         (λ k. l₈ (sym kind-is ∙ k))
 
     pub second-operand : (p .b < e) × (p .b < c .expressions)

@@ -109,16 +109,6 @@ module _ {s : List ℕ} {c : Script} {l : Levels} (ready : Ready s c l) (k : ℕ
   abbrev second : ℕ
   second = secondChild (partOf s (node s k))
 
-  pub first-view : Children s k → (count ≡ 0 → ⊥) → first < k
-  first-view (none n q) m = absurd (m n)
-  first-view (one n q a) m = omega (arith, a .before)
-  first-view (two n q a b) m = omega (arith, a .before)
-
-  pub second-view : Children s k → (count ≡ 0 → ⊥) → (count ≡ 1 → ⊥) → second < k
-  second-view (none n q) l m = absurd (l n)
-  second-view (one n q a) l m = absurd (m n)
-  second-view (two n q a b) l m = omega (arith, b .before)
-
   pub parts-none :
       Children s k → count ≡ 0 →
       PartsAt l s k (record { write = l .top; test = l .bottom; failing = c .nodes }) true

@@ -15,8 +15,8 @@ use Rattle.flow.specs.declared.nodes.Own.{Own}
 use Rattle.flow.specs.Nodes.{pairNeed, testFrom, bothFrom, flowFrom, OwnWithin, FlowWithin}
 use Rattle.flow.specs.Flow.{Levels, lattice, Ready, Walks, IsNodeAt, OwnOf, FlowAt}
 use Rattle.flow.proofs.BookLevels.{own-index, flow-index, test-index, flow-same}
-use Rattle.flow.proofs.Shapes.{Children, children}
-use Rattle.flow.proofs.NodeFlows.{PartsAt, first-view, second-view, parts-none, parts-one, parts-two, flow-at}
+use Rattle.flow.proofs.Shapes.{Children, children, first-below, second-below}
+use Rattle.flow.proofs.NodeFlows.{PartsAt, parts-none, parts-one, parts-two, flow-at}
 
 -- what is known where node k has been read: its part, what it brings itself, and how many children it has
 pub record Read
@@ -60,7 +60,7 @@ module _
 
     pub first-asks : (m ≡ 0 → ⊥) → Asks i
     first-asks n =
-        asks i (omega (arith, first-same, first-view ready k (read .at .known) shape (λ z. n (count-is ∙ z))))
+        asks i (omega (arith, first-same, first-below s k shape (λ z. n (count-is ∙ z))))
 
     pub one-parts : m ≡ 1 → {f : Flow} → FlowAt l s i f → PartsAt l s k f true
     one-parts z {f} a =
@@ -77,7 +77,7 @@ module _
           (omega (
             arith,
             second-same,
-            second-view ready k (read .at .known) shape (λ z. n₀ (count-is ∙ z)) (λ z. n₁ (count-is ∙ z)),
+            second-below s k shape (λ z. n₀ (count-is ∙ z)) (λ z. n₁ (count-is ∙ z)),
           ))
 
       pub two-parts :

@@ -85,6 +85,17 @@ module _ (s : List ℕ) (k : ℕ) where
   children-view (aWhen e q x p) = has-one 9 e refl (ap childrenOf q) (p .field)
   children-view (aParallel e q p r) = has-two 10 e refl (ap childrenOf q) (p .field) (r .field)
 
+  -- children have smaller numbers
+  pub first-below : Children → (childCount (part .kind) ≡ 0 → ⊥) → firstChild part < k
+  first-below (none n q) m = absurd (m n)
+  first-below (one n q a) m = omega (arith, a .before)
+  first-below (two n q a b) m = omega (arith, a .before)
+
+  pub second-below : Children → (childCount (part .kind) ≡ 0 → ⊥) → (childCount (part .kind) ≡ 1 → ⊥) → secondChild part < k
+  second-below (none n q) l m = absurd (l n)
+  second-below (one n q a) l m = absurd (m n)
+  second-below (two n q a b) l m = omega (arith, b .before)
+
   kind-view : NodeView s k → part .kind ≡ kindOf (processOf s k)
   unfolding kindOf
   kind-view (aNil e q) = e ∙ sym (ap kindOf q)

@@ -3,7 +3,7 @@ mod expressions; // expressions.rt: the level of an expression
 mod own; // own.rt: what a node brings itself
 mod walk; // walk.rt: the walk over the nodes
 pub mod nodes; // nodes.rt: what a node has, from what its children have
-mod groups; // groups.rt: the groups of kinds that the levels tell apart
+pub mod groups; // groups.rt: the groups of kinds that the levels tell apart
 
 use crate::nodes::Flow;
 use book::Book;

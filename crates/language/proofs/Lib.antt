@@ -13,4 +13,5 @@ pub mod Safe
 pub mod Lockstep
 pub mod Noninterference
 pub mod Flows
+pub mod RequiredFlows
 pub mod Theorems

@@ -4,6 +4,7 @@ pub mod Shapes
 pub mod NameKinds
 pub mod Scope
 pub mod Levels
+pub mod RequiredFlows
 pub mod Steps
 pub mod Calls
 pub mod Suspension

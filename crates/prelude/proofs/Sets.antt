@@ -1,14 +1,14 @@
--- Sets as numbers: what two sets share, and the set that a test makes.
+-- Sets as numbers: what two sets share and have together, and the set that a test makes.
 use mathlib.Core.Path.{_≡_, refl, sym, ap, _∙_, subst}
-use mathlib.Core.Bool.{Bool, true, false, cond, not, _&&_, true≢false, false≢true}
-use Prim.Native.Nat.{ℕ, zero, suc, _+_, _*_, _-_, _/_, _%_, _^_, _≤_, _<_, min}
-use native.Mathlib.Nat.{zero-div, div-one, suc-mul, zero-lt-suc, pow-suc, zero-min, min-le-left, le-of-suc-le-suc, mod-lt, mod-eq-of-lt, mod-one, mul-add-mod-self-right}
+use mathlib.Core.Bool.{Bool, true, false, cond, not, _&&_, _||_, true≢false, false≢true}
+use Prim.Native.Nat.{ℕ, zero, suc, _+_, _*_, _-_, _/_, _%_, _^_, _≤_, _<_, min, max}
+use native.Mathlib.Nat.{zero-div, div-one, suc-mul, zero-lt-suc, pow-suc, zero-min, min-le-left, zero-max, max-le, max-eq-left, le-of-suc-le-suc, mod-lt, mod-eq-of-lt, mod-one, div-eq-of-lt, div-self, mul-mod-left, mul-add-mod-self-right}
 use native.Mathlib.Decide.{decLt, ℕ-discrete}
 use native.Mathlib.Omega.{arith}
 use lib.Dec.{eqb, ltb}
 use lib.Count.{trailingZeros, under}
-use lib.Pow.{pow-pos, ones-lt, ones-split, split, high, low, field, shr-shr, mod-mod-pow, mod-pow-add}
-use lib.Bits.{bitAnd, and-shr, and-step}
+use lib.Pow.{pow-pos, pow-lt, pow-add, shl-shr, ones-lt, ones-split, split, high, low, field, shr-shr, mod-mod-pow, mod-pow-add}
+use lib.Bits.{bitAnd, and-shr, and-step, bitOr, or-shr, or-step}
 use borrow.Author.Tests.{ltb-false, eqb-true, eq-eqb, ne-eqb, not-true, not-false}
 use Rattle.prelude.specs.Search.{first}
 use Rattle.prelude.specs.Sets.{has, IsSet, outside, setOf}
@@ -38,6 +38,53 @@ least-digit (suc (suc d)) e h k = absurd (omega arith)
 -- both sets have it
 pub has-both : (a b y : ℕ) → has (bitAnd a b) y ≡ (has a y && has b y)
 has-both a b y = ap (λ n. eqb n 1) (digit-and a b y) ∙ least-digit _ _ (digit-lt a y) (digit-lt b y)
+
+-- a digit of a disjunction
+digit-or : (a b y : ℕ) → bitOr a b / 2 ^ y % 2 ≡ max (a / 2 ^ y % 2) (b / 2 ^ y % 2)
+digit-or a b y =
+    ap (λ n. n % 2) (or-shr a b y ∙ or-step (a / 2 ^ y) (b / 2 ^ y))
+    ∙ mul-add-mod-self-right (bitOr (a / 2 ^ y / 2) (b / 2 ^ y / 2)) 2 (max (a / 2 ^ y % 2) (b / 2 ^ y % 2))
+    ∙ mod-eq-of-lt (omega (arith, max-le {k = 1} (bit a) (bit b)))
+  where
+    bit : (n : ℕ) → n / 2 ^ y % 2 ≤ 1
+    bit n = le-of-suc-le-suc (mod-lt (n / 2 ^ y) two-pos)
+
+greatest-digit : (d e : ℕ) → d < 2 → e < 2 → eqb (max d e) 1 ≡ (eqb d 1 || eqb e 1)
+greatest-digit zero e h k = ap (λ n. eqb n 1) (zero-max e)
+greatest-digit (suc zero) e h k = ap (λ n. eqb n 1) (max-eq-left (le-of-suc-le-suc k))
+greatest-digit (suc (suc d)) e h k = absurd (omega arith)
+
+-- one of two sets has it
+pub has-either : (a b y : ℕ) → has (bitOr a b) y ≡ (has a y || has b y)
+has-either a b y = ap (λ n. eqb n 1) (digit-or a b y) ∙ greatest-digit _ _ (digit-lt a y) (digit-lt b y)
+
+-- a digit of a power of two
+digit-same : (x y : ℕ) → x ≡ y → 2 ^ x / 2 ^ y % 2 ≡ 1
+digit-same x y e = rw (e, div-self (pow-pos y))
+
+digit-other : (x y : ℕ) → (x ≡ y → ⊥) → 2 ^ x / 2 ^ y % 2 ≡ 0
+digit-other x y h =
+    elim (decLt x y) [
+      | yes l ↦ ap (λ k. k % 2) (div-eq-of-lt (pow-lt l))
+      | no l ↦
+          elim (decLt y x) [
+            | yes u ↦
+                let k : ℕ = x - suc y in
+                ap (λ n. 2 ^ n / 2 ^ y % 2) {x = x} {y = suc k + y} (omega arith)
+                ∙ ap (λ n. n / 2 ^ y % 2) (pow-add 2 (suc k) y)
+                ∙ ap (λ n. n % 2) (shl-shr (2 ^ suc k) y ∙ pow-suc 2 k)
+                ∙ mul-mod-left (2 ^ k) 2
+            | no u ↦ absurd (h (omega arith))
+          ]
+    ]
+
+-- the set of one number
+pub has-one : (x y : ℕ) → has (2 ^ x) y ≡ eqb x y
+has-one x y =
+    elim (ℕ-discrete x y) [
+      | yes e ↦ ap (λ n. eqb n 1) (digit-same x y e) ∙ sym (eq-eqb x y e)
+      | no e ↦ ap (λ n. eqb n 1) (digit-other x y e) ∙ sym (ne-eqb x y e)
+    ]
 
 same-digit : (d e : ℕ) → d < 2 → e < 2 → eqb d 1 ≡ eqb e 1 → d ≡ e
 same-digit zero zero h k q = refl
@@ -292,3 +339,9 @@ module _ (f : ℕ → Bool) where
       back : (b : Bool) → eqb (digit b % 2) 1 ≡ b
       back true = refl
       back false = refl
+
+-- two tests that agree make the same set
+pub set-same : (f g : ℕ → Bool) (n : ℕ) → ((y : ℕ) → y < n → f y ≡ g y) → setOf f n ≡ setOf g n
+set-same f g n same =
+    same-set (setOf f n) (setOf g n) n (set-lt f n) (set-lt g n)
+    (λ y l. set-is f n y l ∙ same y l ∙ sym (set-is g n y l))

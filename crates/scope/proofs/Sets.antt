@@ -1,62 +1,18 @@
 -- A set of names as a number: the set with one name more.
 use mathlib.Core.Path.{_≡_, sym, ap, _∙_}
-use mathlib.Core.Bool.{Bool, true, false, _&&_, _||_}
-use Prim.Native.Nat.{ℕ, suc, _+_, _-_, _/_, _%_, _^_, _≤_, _<_, max}
-use native.Mathlib.Nat.{zero-lt-suc, pow-suc, max-le, max-zero, max-eq-right, le-of-suc-le-suc, mod-lt, mod-eq-of-lt, div-eq-of-lt, zero-div, div-self, mul-add-mod-self-right, mul-mod-left}
+use mathlib.Core.Bool.{Bool, true, false, _&&_, _||_, or-comm}
+use Prim.Native.Nat.{ℕ, _+_, _^_, _≤_, _<_}
 use native.Mathlib.Decide.{decLt, ℕ-discrete}
 use native.Mathlib.Omega.{arith}
 use lib.Dec.{eqb, ltb}
-use lib.Pow.{pow-pos, pow-lt, pow-add, shl-shr}
-use lib.Bits.{bitOr, or-shr, or-step}
+use lib.Bits.{bitOr}
 use borrow.Author.Tests.{eq-eqb, ne-eqb, lt-ltb, le-ltb}
 use Rattle.prelude.specs.Sets.{has, IsSet}
-
-two-pos : 0 < 2
-two-pos = zero-lt-suc 1
-
--- a digit of a disjunction
-digit-or : (a b y : ℕ) → bitOr a b / 2 ^ y % 2 ≡ max (a / 2 ^ y % 2) (b / 2 ^ y % 2)
-digit-or a b y =
-    ap (λ n. n % 2) (or-shr a b y ∙ or-step (a / 2 ^ y) (b / 2 ^ y))
-    ∙ mul-add-mod-self-right (bitOr (a / 2 ^ y / 2) (b / 2 ^ y / 2)) 2 (max (a / 2 ^ y % 2) (b / 2 ^ y % 2))
-    ∙ mod-eq-of-lt (omega (arith, max-le {k = 1} (bit a) (bit b)))
-  where
-    bit : (n : ℕ) → n / 2 ^ y % 2 ≤ 1
-    bit n = le-of-suc-le-suc (mod-lt (n / 2 ^ y) two-pos)
-
--- a digit of a power of two
-digit-same : (x y : ℕ) → x ≡ y → 2 ^ x / 2 ^ y % 2 ≡ 1
-digit-same x y e = rw (e, div-self (pow-pos y))
-
-digit-other : (x y : ℕ) → (x ≡ y → ⊥) → 2 ^ x / 2 ^ y % 2 ≡ 0
-digit-other x y h =
-    elim (decLt x y) [
-      | yes l ↦ ap (λ k. k % 2) (div-eq-of-lt (pow-lt l))
-      | no l ↦
-          elim (decLt y x) [
-            | yes u ↦
-                let k : ℕ = x - suc y in
-                ap (λ n. 2 ^ n / 2 ^ y % 2) {x = x} {y = suc k + y} (omega arith)
-                ∙ ap (λ n. n / 2 ^ y % 2) (pow-add 2 (suc k) y)
-                ∙ ap (λ n. n % 2) (shl-shr (2 ^ suc k) y ∙ pow-suc 2 k)
-                ∙ mul-mod-left (2 ^ k) 2
-            | no u ↦ absurd (h (omega arith))
-          ]
-    ]
+use Rattle.prelude.proofs.Sets.{has-zero, has-either, has-one}
 
 -- the set with name x
 pub has-more : (set x y : ℕ) → has (bitOr set (2 ^ x)) y ≡ (eqb x y || has set y)
-has-more set x y =
-    elim (ℕ-discrete x y) [
-      | yes e ↦
-          ap (λ n. eqb n 1)
-          (digit-or set (2 ^ x) y ∙ ap (max _) (digit-same x y e)
-          ∙ max-eq-right (le-of-suc-le-suc (mod-lt (set / 2 ^ y) two-pos)))
-          ∙ sym (ap (λ b. b || has set y) (eq-eqb x y e))
-      | no e ↦
-          ap (λ n. eqb n 1) (digit-or set (2 ^ x) y ∙ ap (max _) (digit-other x y e) ∙ max-zero _)
-          ∙ sym (ap (λ b. b || has set y) (ne-eqb x y e))
-    ]
+has-more set x y = has-either set (2 ^ x) y ∙ ap (λ b. has set y || b) (has-one x y) ∙ or-comm (has set y) (eqb x y)
 
 -- a loop that collects the names of which f holds: none of them, with name x, without it, all
 abbrev pub upTo : ℕ → (ℕ → Bool) → ℕ → Bool
@@ -64,7 +20,7 @@ upTo x f y = ltb y x && f y
 
 module _ (f : ℕ → Bool) where
   pub collect-none : (n : ℕ) → IsSet n (upTo 0 f) 0
-  collect-none n y h = ap (λ k. eqb (k % 2) 1) (zero-div (2 ^ y)) ∙ sym (ap (λ b. b && f y) (le-ltb y 0 (omega arith)))
+  collect-none n y h = has-zero y ∙ sym (ap (λ b. b && f y) (le-ltb y 0 (omega arith)))
 
   -- name y is passed with x just if it is before
   other : (x y : ℕ) → (x ≡ y → ⊥) → upTo x f y ≡ upTo (x + 1) f y

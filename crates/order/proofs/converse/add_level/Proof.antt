@@ -11,6 +11,7 @@ use borrow.Author.Needs.{needs}
 use Rattle.prelude.specs.Table.{table}
 use Rattle.prelude.proofs.Tables.{fill-none, fill-more, fill-all}
 use Rattle.book.specs.LevelBook.{mostLevels}
+use Rattle.book.proofs.Shifts.{shifted-one}
 use Rattle.order.proofs.converse.add_level.Statement.{statement}
 use Rattle.order.proofs.converse.add_level.Tie as tie
 
@@ -25,10 +26,6 @@ Inv-loop below₀ row i own j₀ below j =
 
 abbrev μ-loop : tie.MeasureT-loop
 μ-loop below₀ row i own j₀ below j = mostLevels - j
-
--- the shifted 1
-own-is : (i : ℕ) → i < mostLevels → 1 * 2 ^ i % 2 ^ mostLevels ≡ 2 ^ i
-own-is i h = shl-exact 1 i mostLevels (le-refl 2) (omega arith) ∙ one-mul _
 
 -- a set of levels below i, with level i or not, fits
 fits : (x d i : ℕ) → x < 2 ^ i → d < 2 → i < mostLevels → x + d * 2 ^ i < 2 ^ mostLevels
@@ -54,7 +51,7 @@ module _ (c : tie.In-loop Inv-loop μ-loop) where
   stored =
       ap₂ (λ x y. x + c .before .before .args .row / 2 ^ c .before .loop .j % 2 * y)
       (c .before .loop .inv .1 .1 .1 (c .before .loop .j) (omega arith))
-      (own-is (c .before .before .args .i) (c .before .before .pre .0))
+      (shifted-one (c .before .before .args .i) (c .before .before .pre .0))
 
   next-fits :
       next (c .before .before .args .below .now) (c .before .before .args .row) (c .before .before .args .i) (c .before .loop .j)
@@ -82,7 +79,7 @@ shr-below c = search needs
 mul-below : tie.Need-mul-below Inv-loop μ-loop
 mul-below c =
     record {
-      fits = rw (own-is (c .before .before .args .i) (c .before .before .pre .0)) (omega (arith, next-fits c));
+      fits = rw (shifted-one (c .before .before .args .i) (c .before .before .pre .0)) (omega (arith, next-fits c));
     }
 
 mul-below-2 : tie.Need-mul-below-2 Inv-loop μ-loop

@@ -2,18 +2,16 @@
 use mathlib.Core.Path.{_≡_, refl, sym, ap, _∙_}
 use mathlib.Core.Bool.{Bool, true, false, _&&_}
 use mathlib.Core.List.{List}
-use Prim.Native.Nat.{ℕ, _-_, _^_, _<_, _≤_}
+use Prim.Native.Nat.{ℕ, _-_, _^_, _<_}
 use native.Mathlib.Decide.{ℕ-discrete}
 use native.Mathlib.Omega.{arith}
 use lib.ListN.{getD}
-use lib.Pow.{pow-pos}
 use borrow.Author.Needs.{needs}
-use Rattle.prelude.specs.Search.{first}
 use Rattle.prelude.specs.Sets.{has, outside}
 use Rattle.prelude.proofs.Bools.{and-intro}
-use Rattle.prelude.proofs.Searches.{first-holds, any-some, any-none}
-use Rattle.prelude.proofs.Sets.{has-zero, smallest-below, smallest-same, out-other, out-le}
-use Rattle.book.specs.LevelBook.{mostLevels}
+use Rattle.prelude.proofs.Searches.{any-some, any-none}
+use Rattle.prelude.proofs.Sets.{has-zero, out-other}
+use Rattle.book.proofs.Lowest.{next-below, next-in, next-less}
 use Rattle.order.proofs.disorder.any_fault.Statement.{statement}
 use Rattle.order.proofs.disorder.any_fault.Tie as tie
 
@@ -28,20 +26,6 @@ Inv-loop rows n others left₀ left = (left < 2 ^ n) × Left rows n others left
 
 abbrev μ-loop : tie.MeasureT-loop
 μ-loop rows n others left₀ left = left
-
--- the smallest of the levels that are left
-module _ (left n j : ℕ) (few : n ≤ mostLevels) (below : left < 2 ^ n) (some : left ≡ 0 → ⊥) (e : j ≡ first (has left) mostLevels) where
-  next-is : j ≡ first (has left) n
-  next-is = e ∙ smallest-same left n below some mostLevels few
-
-  next-below : j < n
-  next-below = omega (arith, next-is, smallest-below left n below some)
-
-  next-in : has left j ≡ true
-  next-in = ap (has left) next-is ∙ first-holds (has left) n (smallest-below left n below some)
-
-less : (left j : ℕ) → has left j ≡ true → left - 2 ^ j < left
-less left j own = omega (arith, out-le left j own, pow-pos j)
 
 -- it shows no fault
 left-more :
@@ -100,14 +84,14 @@ without-requires c κs =
     let l = c .before .before .before in (omega (arith, low l .0, l .before .before .before .pre .0), low l .1)
 
 loop-less : tie.Need-loop-less Inv-loop μ-loop
-loop-less c = rw (c .without .ensures) (less _ _ (low (c .before .before .before .before) .1))
+loop-less c = rw (c .without .ensures) (next-less _ _ (low (c .before .before .before .before) .1))
 
 loop-again : tie.Need-loop-again Inv-loop μ-loop
 loop-again c =
     let l = c .before .before .before .before in
     let start = l .before .before .before in
     rw (c .without .ensures) (
-      omega (arith, less (l .before .before .loop .left) (l .lowest .result) (low l .1), l .before .before .loop .inv .0),
+      omega (arith, next-less (l .before .before .loop .left) (l .lowest .result) (low l .1), l .before .before .loop .inv .0),
       left-more (start .args .rows .now) (start .args .n) _ _ _ (low l .1) (sym (c .before .before .any-outside .ensures) ∙ c .before .if1 .left)
           (l .before .before .loop .inv .1),
     )
