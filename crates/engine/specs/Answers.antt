@@ -1,19 +1,23 @@
--- 01, 'Calls': what the two calls answer, and what run leaves in the values and the log, for every input.
+-- 01, 'Calls', and 02 (e): what the calls answer, and what run leaves in the values and the log, for every input.
 use mathlib.Core.Bool.{cond}
 use mathlib.Core.List.{List, _++_}
 use Prim.Native.Nat.{ℕ, _*_, _/_}
 use lib.IntN.{ℤ}
-use lib.ListN.{length, drop}
+use lib.ListN.{length, drop, replicate}
 use Rattle.prelude.specs.declared.Refusal.{Refusal}
 use Rattle.prelude.specs.Refusals.{passes}
+use Rattle.book.specs.LevelBook.{mostLevels}
 use Rattle.lattice.specs.Lattice.{bookLattice}
 use Rattle.language.specs.Levels.{writeLevel, testLevel}
 use Rattle.language.specs.Calls.{Run, starts, readable, run, endingNumber, words}
 use Rattle.inputs.specs.Lists.{listed}
+use Rattle.script.specs.Refusals as scripts
 use Rattle.tree.specs.Tree.{namesOf, tree}
+use Rattle.requirements.specs.Flows.{flowsOf}
 use Rattle.results.specs.declared.Verdict.{Verdict}
 use Rattle.results.specs.declared.RunResult.{RunResult}
-use Rattle.results.specs.Results.{verdictBy, refusedResult, resultBy}
+use Rattle.results.specs.declared.Flows.{Flows}
+use Rattle.results.specs.Results.{verdictBy, refusedResult, resultBy, flowsBy}
 use Rattle.checker.specs.Refusals.{checkRefusal}
 use Rattle.arguments.specs.Refusals.{runRefusal}
 
@@ -27,6 +31,19 @@ verdict b s =
     (writeLevel (bookLattice b) (namesOf s) (tree s))
     (testLevel (bookLattice b) (namesOf s) (tree s)))
     (verdictBy (checkRefusal b s) 0 0)
+
+-- 02 (e): rows 4 to 10 with 'no book here: 6 takes levels to 15', the levels of a full book
+abbrev pub fileRefusal : List ℕ → Refusal
+fileRefusal s = scripts.refusal s mostLevels
+
+-- 'For a file that passes 4 to 10 .. give for each level the set of other levels to which data must be let flow.' Of a
+-- file that is refused every set is empty.
+unfoldable pub flowsFound : List ℕ → Flows
+flowsFound s =
+    cond
+    (passes (fileRefusal s))
+    (flowsBy (fileRefusal s) (flowsOf s))
+    (flowsBy (fileRefusal s) (replicate mostLevels 0))
 
 -- The run of a script under a book, for a reader: its step limit, the signals that its list names for each instant, and a
 -- log that has room for a line in each four words.

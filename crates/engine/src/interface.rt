@@ -1,11 +1,14 @@
-// The two calls for C. A slice is a pointer and then a length in elements. An `out` of another length than 4 or 6 is left
-// untouched, and nothing else happens.
+// The calls for C. A slice is a pointer and then a length in elements. With an `out` of another length than 4, 6 or 2, or
+// `flows` of another than the most levels, nothing happens: every buffer is left untouched.
+use book::Book;
+use results::words::put_flows;
 use results::words::put_result;
 use results::words::put_verdict;
 ghost use mathlib.Core.Path.{_≡_};
-ghost use Rattle.engine.specs.Answers.{verdict, left};
-ghost use Rattle.results.specs.Words.{verdictWords, resultWords};
-ghost use Rattle.engine.specs.Interface.{whereAsked};
+ghost use Rattle.engine.specs.Answers.{verdict, flowsFound, left};
+ghost use Rattle.results.specs.Words.{verdictWords, resultWords, flowsWords};
+ghost use Rattle.engine.specs.Interface.{whereAsked, whereBothAsked};
+ghost use Rattle.book.specs.LevelBook.{mostLevels};
 
 // `out` becomes number, place, W, T.
 #[no_mangle]
@@ -40,4 +43,20 @@ pub extern "C" fn station_run(
     }
     let r = crate::run(book, script, reader, values, limit, list, log);
     put_result(r, out);
+}
+
+// `flows` becomes a set for each level, `out` number, place.
+#[no_mangle]
+pub extern "C" fn station_flows(script: &[u8], flows: &mut [u32], out: &mut [u32])
+    ensures { λ _. ⌜ now (flows .exit) ≡ whereBothAsked 2 (now (out .entry)) mostLevels (now (flows .entry)) (flowsFound (now (script .entry)) .to) (now (flows .entry)) ⌝ }
+    ensures { λ _. ⌜ now (out .exit) ≡ whereBothAsked 2 (now (out .entry)) mostLevels (now (flows .entry)) (flowsWords (flowsFound (now (script .entry)))) (now (out .entry)) ⌝ }
+{
+    if out.len() != 2 {
+        return;
+    }
+    if flows.len() != Book::MAX_LEVELS {
+        return;
+    }
+    let f = crate::flows(script);
+    put_flows(f, flows, out);
 }

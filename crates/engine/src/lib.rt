@@ -1,16 +1,17 @@
-// The two calls on a level book and a script file. They take any bytes and numbers.
+// The calls on a level book and a script file, or on a script file alone. They take any bytes and numbers.
 pub mod interface; // interface.rt: the calls for C
 
 use book::Book;
 use layout::Script;
 use moves::counts::Counts;
+use results::Flows;
 use results::RunResult;
 use results::Verdict;
 use results::refused_result;
 use results::result_of;
 use runner::Ran;
 ghost use mathlib.Core.Path.{_≡_};
-ghost use Rattle.engine.specs.Answers.{verdict, left};
+ghost use Rattle.engine.specs.Answers.{verdict, flowsFound, left};
 ghost use Rattle.engine.specs.Contracts.{CanStart, runFor, Returns};
 
 // Checks a script under a book.
@@ -24,6 +25,25 @@ pub fn check(book: &[u8], script: &[u8]) -> Verdict
         write: p.write as u32,
         test: p.test as u32,
     }
+}
+
+// Finds the flows between levels that a script needs, whatever the book: for each level the set of the other levels to
+// which data must be let flow. Names may have the levels of a full book.
+pub fn flows(script: &[u8]) -> Flows
+    ensures { λ r. ⌜ r ≡ flowsFound (now (script .entry)) ⌝ }
+{
+    let read = script::load(script, Book::MAX_LEVELS);
+    let number = read.refusal.number;
+    let place = read.refusal.place;
+    if number != 0 {
+        return Flows {
+            number,
+            place,
+            to: [0u16; Book::MAX_LEVELS],
+        };
+    }
+    let to = requirements::find_flows(script, read.script);
+    Flows { number, place, to }
 }
 
 // Runs a script that no row of the table refuses, from its start. Owned names are then 0.

@@ -7,7 +7,7 @@ use native.Mathlib.Nat.{le-antisymm, le-of-suc-le-suc, not-suc-le-zero, eq-or-lt
 use native.Mathlib.Numerals.{add-one}
 use native.Mathlib.Omega.{arith}
 use lib.ListN.{getD, length, take, set, length-append, List·getD-append}
-use lib.Seq.{take-suc-set, take-all, getD-at}
+use lib.Seq.{take-suc-set, take-all, getD-at, ext-getD}
 use Rattle.prelude.specs.Table.{table}
 
 module _ {ℓ} {A : Type ℓ} (f : ℕ → A) where
@@ -44,3 +44,9 @@ unfolding table
 table-same f g zero same = refl
 table-same f g (suc n) same =
     ap₂ (λ l v. l ++ (v ∷ [])) (table-same f g n (λ k l. same k (omega arith))) (same n (omega arith))
+
+-- a list is the table of its elements
+pub table-of {ℓ} : {A : Type ℓ} (d : A) (l : List A) (n : ℕ) → length l ≡ n → table (λ i. getD l i d) n ≡ l
+table-of d l n e =
+    ext-getD d (table (λ i. getD l i d) n) l (length-table (λ i. getD l i d) n ∙ sym e)
+    (λ i h. table-at (λ i. getD l i d) n i d (omega (arith, h, length-table (λ i. getD l i d) n)))

@@ -5,6 +5,12 @@ use Prim.Native.Nat.{ℕ}
 use native.Mathlib.Omega.{arith}
 use lib.ListN.{length, set}
 
+pub two-stored : (l : List ℕ) → length l ≡ 2 → (a b : ℕ) → set (set l 0 a) 1 b ≡ a ∷ b ∷ []
+two-stored [] e a b = absurd (omega (arith, e))
+two-stored (s ∷ []) e a b = absurd (omega (arith, e))
+two-stored (s ∷ t ∷ []) e a b = refl
+two-stored (s ∷ t ∷ u ∷ l) e a b = absurd (omega (arith, e))
+
 pub four-stored :
     (l : List ℕ) → length l ≡ 4 → (a b c d : ℕ) → set (set (set (set l 0 a) 1 b) 2 c) 3 d ≡ a ∷ b ∷ c ∷ d ∷ []
 four-stored [] e a b c d = absurd (omega (arith, e))

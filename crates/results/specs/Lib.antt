@@ -1,3 +1,3 @@
--- What the two calls answer, and the words of it for C.
+-- What the calls answer, and the words of it for C.
 pub mod Results
 pub mod Words

@@ -1,9 +1,11 @@
 -- 'Check returns number, place, W, T.' 'Run returns how it ended, steps, instants, lines.' 'A refusal's other returned
--- numbers are 0; 0 means not refused.'
+-- numbers are 0; 0 means not refused.' 02 (e): 'for each level the set of other levels'.
+use mathlib.Core.List.{List}
 use Prim.Native.Nat.{ℕ}
 use Rattle.prelude.specs.declared.Refusal.{Refusal}
 use Rattle.results.specs.declared.Verdict.{Verdict}
 use Rattle.results.specs.declared.RunResult.{RunResult}
+use Rattle.results.specs.declared.Flows.{Flows}
 
 abbrev pub verdictBy : Refusal → ℕ → ℕ → Verdict
 verdictBy r w t = record { number = r .number; place = r .place; write = w; test = t }
@@ -15,3 +17,6 @@ refusedResult r =
 abbrev pub resultBy : ℕ → ℕ → ℕ → ℕ → RunResult
 resultBy ending steps instants lines =
     record { number = 0; place = 0; ending = ending; steps = steps; instants = instants; lines = lines }
+
+abbrev pub flowsBy : Refusal → List ℕ → Flows
+flowsBy r to = record { number = r .number; place = r .place; to = to }

@@ -3,9 +3,14 @@ use mathlib.Core.List.{List, [], _∷_}
 use Prim.Native.Nat.{ℕ}
 use Rattle.results.specs.declared.Verdict.{Verdict}
 use Rattle.results.specs.declared.RunResult.{RunResult}
+use Rattle.results.specs.declared.Flows.{Flows}
 
 abbrev pub verdictWords : Verdict → List ℕ
 verdictWords v = v .number ∷ v .place ∷ v .write ∷ v .test ∷ []
 
 abbrev pub resultWords : RunResult → List ℕ
 resultWords r = r .number ∷ r .place ∷ r .ending ∷ r .steps ∷ r .instants ∷ r .lines ∷ []
+
+-- beside the sets, which are words of a buffer of their own
+abbrev pub flowsWords : Flows → List ℕ
+flowsWords f = f .number ∷ f .place ∷ []

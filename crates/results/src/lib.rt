@@ -1,6 +1,7 @@
-// What the two calls answer, and the words of it for C.
+// What the calls answer, and the words of it for C.
 pub mod words; // words.rt: the answers' words for C
 
+use book::Book;
 use prelude::Refusal;
 ghost use mathlib.Core.Path.{_≡_};
 ghost use Prim.Native.Nat.{_^_, _<_};
@@ -22,6 +23,14 @@ pub struct RunResult {
     pub steps: u32,
     pub instants: u32,
     pub lines: u32,
+}
+
+// What flows answers: number and place of the refusal, and for each level the set of the other levels to which data must
+// be let flow, with bit j for level j.
+pub struct Flows {
+    pub number: u32,
+    pub place: u32,
+    pub to: [u16; Book::MAX_LEVELS],
 }
 
 pub fn refused_result(r: Refusal) -> RunResult

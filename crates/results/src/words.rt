@@ -1,9 +1,12 @@
 // The words of the answers, for C.
+use crate::Flows;
 use crate::RunResult;
 use crate::Verdict;
+use book::Book;
 ghost use mathlib.Core.Path.{_≡_};
 ghost use lib.ListN.{length};
-ghost use Rattle.results.specs.Words.{verdictWords, resultWords};
+ghost use Rattle.book.specs.LevelBook.{mostLevels};
+ghost use Rattle.results.specs.Words.{verdictWords, resultWords, flowsWords};
 
 pub fn put_verdict(v: Verdict, out: &mut [u32])
     requires { ⌜ length (now out) ≡ 4 ⌝ }
@@ -25,4 +28,33 @@ pub fn put_result(r: RunResult, out: &mut [u32])
     out[3] = r.steps;
     out[4] = r.instants;
     out[5] = r.lines;
+}
+
+// A set of levels as a word.
+fn word_of_set(set: u16) -> u32
+    ensures { λ r. ⌜ r ≡ set ⌝ }
+{
+    set as u32
+}
+
+// Puts a set for each level.
+fn put_sets(sets: [u16; Book::MAX_LEVELS], words: &mut [u32])
+    requires { ⌜ length (now words) ≡ mostLevels ⌝ }
+    ensures { λ _. ⌜ now (words .exit) ≡ sets ⌝ }
+{
+    let mut i: usize = 0;
+    while i < Book::MAX_LEVELS {
+        words[i] = word_of_set(sets[i]);
+        i += 1;
+    }
+}
+
+pub fn put_flows(f: Flows, flows: &mut [u32], out: &mut [u32])
+    requires { ⌜ (length (now flows) ≡ mostLevels) × (length (now out) ≡ 2) ⌝ }
+    ensures { λ _. ⌜ (now (flows .exit) ≡ f .to) × (now (out .exit) ≡ flowsWords f) ⌝ }
+{
+    out[0] = f.number;
+    out[1] = f.place;
+    let to = f.to;
+    put_sets(to, flows);
 }
