@@ -2,6 +2,7 @@
 //! and logs; right ones, refused ones and damaged ones.
 #![forbid(unsafe_code)]
 
+pub mod any_levels;
 pub mod damage;
 pub mod file;
 pub mod grow;
@@ -132,6 +133,10 @@ fn draft(rng: &mut Rng) -> Draft {
         6..=20 => grown((2, 8), (1, 5)),
         21..=24 => grown((41, 150), (2, 40)),
         25..=27 => two_levels::script(rng, &lattice),
+        28..=30 => {
+            let nodes = rng.between(2, any_levels::MOST_NODES);
+            any_levels::script(rng, lattice.count(), nodes)
+        }
         _ => grown((5, 40), (1, 10)),
     };
     let mut draft = with_inputs(rng, lattice, script);

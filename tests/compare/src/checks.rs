@@ -3,7 +3,10 @@
 use crate::coverage::Coverage;
 use crate::demand_three::{self, Vary};
 use crate::engine::{Engine, Raw, Reference, Wrapper};
+use crate::needed_books;
+use crate::needed_tally;
 use crate::report::Report;
+use crate::small_books::Books;
 use crate::tally::Tally;
 use crate::{examples, faults, long_runs, small_lists, small_loops, sweep};
 use reference::{Fault, Rules};
@@ -29,6 +32,47 @@ const LEAKS: [(Fault, Vary); 17] = [
     (Fault::ListedTakesStep, Vary::Lists),
     (Fault::RepeatTakesNoStep, Vary::Lists),
 ];
+
+/// Faults of flows, and of check's needs: under each, refusal 11 is not given as 02 (e) says of the
+/// listed pairs.
+const WRONG_NEEDS: [Fault; 33] = [
+    Fault::AssignedFlowUnlisted,
+    Fault::LetFlowUnlisted,
+    Fault::RightOperandUnlisted,
+    Fault::FirstBranchUnlisted,
+    Fault::SecondBranchUnlisted,
+    Fault::WhenFlowUnlisted,
+    Fault::WatchingFlowUnlisted,
+    Fault::WhileConditionUnlisted,
+    Fault::WhileBodyUnlisted,
+    Fault::SequenceListedReversed,
+    Fault::SequenceListedBothWays,
+    Fault::ParallelListedForth,
+    Fault::ParallelListedBack,
+    Fault::BranchTestsForgotten,
+    Fault::ConditionForgotten,
+    Fault::GuardForgotten,
+    Fault::AssignmentIsTest,
+    Fault::LetIsTest,
+    Fault::AssignmentIsNoWrite,
+    Fault::EmissionIsNoWrite,
+    Fault::OwnedIsNoWrite,
+    Fault::LetIsWrite,
+    Fault::LocalIsWrite,
+    Fault::FlowsTransposed,
+    Fault::SecondOperandIgnored,
+    Fault::NilWritesBottom,
+    Fault::LetFlowUnchecked,
+    Fault::IfJoinsWrites,
+    Fault::WatchingFlowUnchecked,
+    Fault::WhenFlowUnchecked,
+    Fault::WhileAgainstConditionOnly,
+    Fault::SequenceReversed,
+    Fault::ParallelOneWay,
+];
+
+/// The number of scripts whose flows are asked for beside every book of few levels.
+const SCRIPTS: u64 = 1000;
 
 /// The most pairs that are tried under a leak.
 const LEAK_PAIRS: u64 = 60_000;
@@ -115,6 +159,39 @@ pub fn leaks(report: &mut Report, seed: u64) {
         breaks(&format!("under '{}'{by}", fault.says()), &engine, vary);
     }
     breaks("with lists that disagree", &Raw, Vary::SeenSignal);
+}
+
+/// What 02 (e) says of flows and check, under every book of few levels: of the library and of the second
+/// interpreter, and not of the second interpreter with a wrong need.
+pub fn needed_books(report: &mut Report, seed: u64) {
+    let books = Books::all();
+    let sweep = |engine: &dyn Engine| needed_books::sweep(engine, &books, SCRIPTS, seed);
+    let reference = Reference(Rules::default());
+    for (name, engine) in [("library", &Raw as &dyn Engine), ("reference", &reference)] {
+        match sweep(engine) {
+            Ok(tally) => {
+                report.table(&tally);
+                let says = format!("holds of {SCRIPTS} scripts under every book of few levels");
+                report.line(&format!("flows and refusal 11, {name}"), Ok(says));
+                let floors = reached(tally.missing(), needed_tally::Tally::FLOORS);
+                report.line(&format!("flows and refusal 11, {name}, coverage"), floors);
+            }
+            Err(violation) => {
+                let says = Err(violation.to_string());
+                report.line(&format!("flows and refusal 11, {name}"), says);
+            }
+        }
+    }
+    for fault in WRONG_NEEDS {
+        let result = match sweep(&Reference(Rules { fault: Some(fault) })) {
+            Err(violation) => Ok(format!("breaks it, seen at script {}", violation.script)),
+            Ok(_) => Err(format!("not seen in {SCRIPTS} scripts")),
+        };
+        report.line(
+            &format!("flows and refusal 11 under '{}'", fault.says()),
+            result,
+        );
+    }
 }
 
 pub fn faults(report: &mut Report, seed: u64) {

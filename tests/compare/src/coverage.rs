@@ -4,6 +4,7 @@ use crate::books;
 use crate::divisions;
 use crate::emissions;
 use crate::floors;
+use crate::flows;
 use crate::lists;
 use crate::outcome::Outcome;
 use crate::pair_levels;
@@ -26,6 +27,7 @@ enum Topic {
     Refusal,
     Book,
     PairLevels,
+    Flows,
     FlowAt,
     Ending,
     Run,
@@ -78,6 +80,8 @@ const NOTES: [(&str, u64); 12] = [
 /// Notes about cases and what was compared beside them.
 pub const PAIRS_COMPARED: &str = "compared with every pair of Figure 5";
 pub const WRONG_OUT: &str = "called with a wrong out";
+pub const WRONG_FLOWS: &str = "called with wrong flows";
+pub const OTHER_LEVELS: &str = "compared again with other levels";
 pub const NEAR_ENDING: &str = "compared again near the ending";
 pub const ENTERED_AGAIN: &str = "a local entered again while its signal was present";
 const ACCEPTED: &str = "accepted";
@@ -147,6 +151,13 @@ impl Coverage {
         self.count_notes(Topic::PairLevels, &pair_levels::NOTES, &reached);
     }
 
+    /// Counts what the flows of a script show.
+    pub fn record_flows(&mut self, notes: Vec<String>) {
+        notes
+            .into_iter()
+            .for_each(|note| self.count(Topic::Flows, note));
+    }
+
     /// Counts what the list of a run brought about.
     pub fn record_list(&mut self, reached: [bool; lists::NOTES.len()]) {
         self.count_notes(Topic::List, &lists::NOTES, &reached);
@@ -205,6 +216,8 @@ impl Coverage {
         for note in [
             PAIRS_COMPARED,
             WRONG_OUT,
+            WRONG_FLOWS,
+            OTHER_LEVELS,
             NEAR_ENDING,
             SEVERAL_FAULTS,
             ENTERED_AGAIN,
@@ -217,6 +230,8 @@ impl Coverage {
         all.extend(
             pair_levels::NOTES.map(|(note, floor)| (Topic::PairLevels, note.to_string(), floor)),
         );
+        let flows = flows::floors().into_iter();
+        all.extend(flows.map(|(note, floor)| (Topic::Flows, note, floor)));
         let needs = [1, 2, 3, 4, 5, 8, 9, 10].map(|kind: usize| KINDS[kind]);
         all.extend(needs.map(|kind| (Topic::FlowAt, kind.to_string(), SORT_FLOOR)));
         all.extend(ENDINGS.map(|ending| (Topic::Ending, ending.to_string(), FLOOR)));
@@ -285,6 +300,7 @@ fn title(topic: Topic) -> &'static str {
         Topic::Refusal => "refusal",
         Topic::Book => "level book",
         Topic::PairLevels => "levels of a script",
+        Topic::Flows => "flows",
         Topic::FlowAt => "refusal 11 at",
         Topic::Ending => "ending",
         Topic::Run => "run",

@@ -35,6 +35,14 @@ pub fn compare(one: &dyn Engine, other: &dyn Engine, case: &Case) -> Result<Outc
             first.check, second.check
         );
     }
+    if first.flows != second.flows {
+        let (one, other) = (&first.flows, &second.flows);
+        says += &format!("\n  flows      {:?} against {:?}", one.out, other.out);
+        says += &format!(
+            "\n  sets       {:04x?} against {:04x?}",
+            one.sets, other.sets
+        );
+    }
     if first.run != second.run {
         says += &format!("\n  run        {:?} against {:?}", first.run, second.run);
     }

@@ -1,12 +1,18 @@
-//! The two calls of the C interface, answered by the library or by the reference.
+//! The three calls of the C interface, answered by the library or by the reference.
 
 use crate::raw;
 use reference::Rules;
 pub use reference::RunArguments;
+pub use station::raw::{CHECK_WORDS, RUN_WORDS};
 
-/// Something that checks and runs scripts. Answers go into `out`, as the C interface has it.
+/// The words of `out` that flows asks for.
+pub const FLOWS_WORDS: usize = 2;
+
+/// Something that checks and runs scripts, and says what they would need. Answers go into `out`, as the C
+/// interface has it.
 pub trait Engine {
     fn check(&self, book: &[u8], script: &[u8], out: &mut [u32]);
+    fn flows(&self, script: &[u8], flows: &mut [u32], out: &mut [u32]);
     fn run(&self, book: &[u8], script: &[u8], arguments: RunArguments, out: &mut [u32]);
 }
 
@@ -18,12 +24,16 @@ impl Engine for Raw {
         raw::check(book, script, out);
     }
 
+    fn flows(&self, script: &[u8], flows: &mut [u32], out: &mut [u32]) {
+        raw::flows(script, flows, out);
+    }
+
     fn run(&self, book: &[u8], script: &[u8], arguments: RunArguments, out: &mut [u32]) {
         raw::run(book, script, arguments, out);
     }
 }
 
-/// The library by its safe wrapper.
+/// The library by its safe wrapper; flows by the C interface.
 pub struct Wrapper;
 
 impl Engine for Wrapper {
@@ -33,6 +43,10 @@ impl Engine for Wrapper {
             Err(refusal) => [refusal.reason.number(), refusal.place, 0, 0],
         };
         put(out, &answer);
+    }
+
+    fn flows(&self, script: &[u8], flows: &mut [u32], out: &mut [u32]) {
+        raw::flows(script, flows, out);
     }
 
     fn run(&self, book: &[u8], script: &[u8], arguments: RunArguments, out: &mut [u32]) {
@@ -64,6 +78,14 @@ impl Engine for Reference {
             out,
             &[answer.number, answer.place, answer.write, answer.test],
         );
+    }
+
+    fn flows(&self, script: &[u8], flows: &mut [u32], out: &mut [u32]) {
+        let answer = reference::flows(self.0, script);
+        if flows.len() == answer.flows.len() && out.len() == FLOWS_WORDS {
+            put(flows, &answer.flows);
+            put(out, &[answer.number, answer.place]);
+        }
     }
 
     fn run(&self, book: &[u8], script: &[u8], arguments: RunArguments, out: &mut [u32]) {

@@ -1,7 +1,8 @@
 //! The papers' examples, against the library by both ways in and against the reference.
 
-use crate::engine::{Engine, Raw, Reference, Wrapper};
+use crate::engine::{Engine, Raw, Reference, Wrapper, CHECK_WORDS, FLOWS_WORDS};
 use crate::outcome::outcome;
+use cases::order::MOST_LEVELS;
 use cases::Case;
 use reference::examples::{Example, ExampleRun};
 use reference::Rules;
@@ -16,6 +17,7 @@ pub fn holds(example: &Example) -> Result<(), String> {
     ];
     for (name, engine) in engines {
         checks(engine, example).map_err(|says| format!("{name}: {says}"))?;
+        flows(engine, example).map_err(|says| format!("{name}: {says}"))?;
         for run in &example.runs {
             runs(engine, example, run).map_err(|says| format!("{name}: {says}"))?;
         }
@@ -24,7 +26,7 @@ pub fn holds(example: &Example) -> Result<(), String> {
 }
 
 fn checks(engine: &dyn Engine, example: &Example) -> Result<(), String> {
-    let mut out = [u32::MAX; 4];
+    let mut out = [u32::MAX; CHECK_WORDS];
     engine.check(&example.book, &example.script, &mut out);
     let answer = example.expected_check;
     equal(
@@ -32,6 +34,16 @@ fn checks(engine: &dyn Engine, example: &Example) -> Result<(), String> {
         &out,
         &[answer.number, answer.place, answer.write, answer.test],
     )
+}
+
+fn flows(engine: &dyn Engine, example: &Example) -> Result<(), String> {
+    let Some(answer) = example.expected_flows else {
+        return Ok(());
+    };
+    let (mut sets, mut out) = ([u32::MAX; MOST_LEVELS], [u32::MAX; FLOWS_WORDS]);
+    engine.flows(&example.script, &mut sets, &mut out);
+    equal("flows", &out, &[answer.number, answer.place])?;
+    equal("sets", &sets, &answer.flows)
 }
 
 fn runs(engine: &dyn Engine, example: &Example, run: &ExampleRun) -> Result<(), String> {

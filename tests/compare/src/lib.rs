@@ -1,5 +1,6 @@
 //! The library against the second interpreter: on seeded cases, on the papers' examples, on pairs of runs
-//! (demand 3), and against the second interpreter with planted faults, each of which must show.
+//! (demand 3), on scripts under every book of few levels (02 (e)), and against the second interpreter
+//! with planted faults, each of which must show.
 #![deny(unsafe_code)]
 
 mod book;
@@ -14,14 +15,19 @@ pub mod engine;
 pub mod examples;
 pub mod faults;
 mod floors;
+mod flow_claims;
+pub mod flows;
 pub mod guarded;
 pub mod lists;
 pub mod long_runs;
+pub mod needed_books;
+pub mod needed_tally;
 pub mod outcome;
 pub mod pair_levels;
 mod raw;
 pub mod report;
 pub mod shrink;
+pub mod small_books;
 pub mod small_lists;
 pub mod small_loops;
 mod smaller_lists;

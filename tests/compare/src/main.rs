@@ -9,6 +9,7 @@ use std::process::ExitCode;
 const USAGE: &str = "\
 compare [cases] [seed]                 the comparison, with a table of what it reached
 compare demand-three [pairs] [seed]    two runs from starts and with lists that agree for a reader
+compare flows [seed]                   what scripts would need, under every book of few levels
 compare faults [seed]                  every planted fault must be found
 compare examples                       the papers' examples
 compare case SEED                      one case again, by the seed that a difference names
@@ -29,6 +30,7 @@ fn main() -> ExitCode {
         "demand-three" => {
             number(1, PAIRS).and_then(|pairs| Ok(demand_three(pairs, number(2, SEED)?)))
         }
+        "flows" => number(1, SEED).map(flows),
         "faults" => number(1, SEED).map(|seed| reported(|report| checks::faults(report, seed))),
         "examples" => Ok(reported(checks::examples)),
         "case" => number(1, SEED).map(one_case),
@@ -78,6 +80,13 @@ fn demand_three(pairs: u64, seed: u64) -> bool {
     })
 }
 
+fn flows(seed: u64) -> bool {
+    reported(|report| {
+        report.tables = true;
+        checks::needed_books(report, seed);
+    })
+}
+
 fn one_case(seed: u64) -> bool {
     println!("{}", sweep::describe(seed));
     match sweep::one(seed, &mut Coverage::default()) {
@@ -99,6 +108,7 @@ fn all() -> bool {
         checks::small_loops(report);
         checks::demand_three(report, PAIRS, SEED);
         checks::leaks(report, SEED);
+        checks::needed_books(report, SEED);
         checks::faults(report, SEED);
     })
 }

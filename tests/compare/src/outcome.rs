@@ -1,7 +1,8 @@
 //! What an engine makes of a case, with every buffer guarded.
 
-use crate::engine::{Engine, RunArguments};
+use crate::engine::{Engine, RunArguments, CHECK_WORDS, FLOWS_WORDS, RUN_WORDS};
 use crate::guarded::Guarded;
+use cases::order::MOST_LEVELS;
 use cases::Case;
 
 const BYTE_GUARD: u8 = 0xc3;
@@ -11,15 +12,36 @@ const VALUE_GUARD: i32 = 0x7ead_beef;
 /// What the words of `out` hold before a call.
 const UNWRITTEN: u32 = 0xdead_c0de;
 
-/// Everything that a caller sees after check and run.
+/// Everything that a caller sees after check, flows and run.
 #[derive(Clone, Debug, PartialEq, Eq)]
 pub struct Outcome {
     /// Number, place, W, T.
     pub check: Vec<u32>,
+    pub flows: Flows,
     /// Number, place, ending, steps, instants, lines.
     pub run: Vec<u32>,
     pub values: Vec<i32>,
     pub log: Vec<u32>,
+}
+
+/// What flows gives: number and place, and a set for each level.
+#[derive(Clone, Debug, PartialEq, Eq)]
+pub struct Flows {
+    pub out: Vec<u32>,
+    pub sets: Vec<u32>,
+}
+
+impl Flows {
+    pub fn refusal(&self) -> u32 {
+        self.out[0]
+    }
+
+    /// The listed pairs: from the first level to the second.
+    pub fn pairs(&self) -> impl Iterator<Item = (usize, usize)> + '_ {
+        let bits = |&set: &u32| (0..u32::BITS as usize).filter(move |j| set >> j & 1 == 1);
+        let sets = self.sets.iter().enumerate();
+        sets.flat_map(move |(i, set)| bits(set).map(move |j| (i, j)))
+    }
 }
 
 impl Outcome {
@@ -81,6 +103,18 @@ impl Buffers {
         Ok(out.slice().to_vec())
     }
 
+    /// Calls flows with so many sets and an `out` of `words`, and gives both.
+    fn flows(&mut self, engine: &dyn Engine, sets: usize, words: usize) -> Result<Flows, String> {
+        let mut flows = Guarded::new(&vec![UNWRITTEN; sets], WORD_GUARD);
+        let mut out = Guarded::new(&vec![UNWRITTEN; words], WORD_GUARD);
+        engine.flows(self.script.slice(), flows.slice_mut(), out.slice_mut());
+        guards_hold("flows", &[("flows", flows.intact()), ("out", out.intact())])?;
+        Ok(Flows {
+            out: out.slice().to_vec(),
+            sets: flows.slice().to_vec(),
+        })
+    }
+
     /// Calls run with an `out` of `words`, and gives `out`.
     fn run(&mut self, engine: &dyn Engine, case: &Case, words: usize) -> Result<Vec<u32>, String> {
         let mut out = Guarded::new(&vec![UNWRITTEN; words], WORD_GUARD);
@@ -130,12 +164,14 @@ fn guards_hold(call: &str, buffers: &[(&str, bool)]) -> Result<(), String> {
 /// Checks and runs a case; an error says what an engine did to a buffer that it must leave.
 pub fn outcome(engine: &dyn Engine, case: &Case) -> Result<Outcome, String> {
     let mut buffers = Buffers::new(case);
-    let check = buffers.check(engine, 4)?;
+    let check = buffers.check(engine, CHECK_WORDS)?;
     buffers.hold(case, "check")?;
+    let flows = buffers.flows(engine, MOST_LEVELS, FLOWS_WORDS)?;
+    buffers.hold(case, "flows")?;
     if !buffers.untouched(case) {
-        return Err("check changed values or log".into());
+        return Err("check or flows changed values or log".into());
     }
-    let run = buffers.run(engine, case, 6)?;
+    let run = buffers.run(engine, case, RUN_WORDS)?;
     buffers.hold(case, "run")?;
     if run[0] != 0 && !buffers.untouched(case) {
         return Err("a refused run changed values or log".into());
@@ -152,6 +188,7 @@ pub fn outcome(engine: &dyn Engine, case: &Case) -> Result<Outcome, String> {
     }
     Ok(Outcome {
         check,
+        flows,
         run,
         values: buffers.values.slice().to_vec(),
         log: buffers.log.slice().to_vec(),
@@ -162,10 +199,10 @@ pub fn outcome(engine: &dyn Engine, case: &Case) -> Result<Outcome, String> {
 pub fn wrong_out(engine: &dyn Engine, case: &Case, words: usize) -> Result<(), String> {
     let mut buffers = Buffers::new(case);
     let mut outs = vec![];
-    if words != 4 {
+    if words != CHECK_WORDS {
         outs.extend(buffers.check(engine, words)?);
     }
-    if words != 6 {
+    if words != RUN_WORDS {
         outs.extend(buffers.run(engine, case, words)?);
     }
     buffers.hold(case, "a call with a wrong out")?;
@@ -173,6 +210,30 @@ pub fn wrong_out(engine: &dyn Engine, case: &Case, words: usize) -> Result<(), S
         return Err(format!("an out of {words} words was not left untouched"));
     }
     Ok(())
+}
+
+/// Calls flows with so many sets and an `out` of `words`, one of them wrong, which must leave both as
+/// they were.
+pub fn wrong_flows(
+    engine: &dyn Engine,
+    case: &Case,
+    sets: usize,
+    words: usize,
+) -> Result<(), String> {
+    let mut buffers = Buffers::new(case);
+    let left = buffers.flows(engine, sets, words)?;
+    buffers.hold(case, "flows with a wrong buffer")?;
+    match left
+        .sets
+        .iter()
+        .chain(&left.out)
+        .all(|&word| word == UNWRITTEN)
+    {
+        true => Ok(()),
+        false => Err(format!(
+            "flows of {sets} sets and an out of {words} words were not left untouched"
+        )),
+    }
 }
 
 #[cfg(test)]
@@ -187,6 +248,10 @@ mod tests {
     impl Engine for Altered {
         fn check(&self, book: &[u8], script: &[u8], out: &mut [u32]) {
             Reference(Rules::default()).check(book, script, out);
+        }
+
+        fn flows(&self, script: &[u8], flows: &mut [u32], out: &mut [u32]) {
+            Reference(Rules::default()).flows(script, flows, out);
         }
 
         fn run(&self, book: &[u8], script: &[u8], mut arguments: RunArguments, out: &mut [u32]) {
@@ -226,6 +291,8 @@ mod tests {
     fn the_example_of_01() {
         let seen = outcome(&Raw, &example()).unwrap();
         assert_eq!(seen.check, [0, 0, 0, 0]);
+        assert_eq!(seen.flows.out, [0, 0]);
+        assert_eq!(seen.flows.sets, [0; MOST_LEVELS]);
         assert_eq!(seen.run, [0, 0, 0, 1, 0, 1]);
         assert_eq!(seen.values, [7]);
         assert_eq!(seen.log[..4], [1, 0, 0, 7]);
@@ -269,5 +336,39 @@ mod tests {
         assert!(wrong_out(&engine, &example(), 5).is_err());
         let engine = Altered(|arguments, _| arguments.values[0] = 9);
         assert!(wrong_out(&engine, &example(), 0).is_err());
+    }
+
+    /// Writes the first word of buffers of any length.
+    struct Careless;
+
+    impl Engine for Careless {
+        fn check(&self, _: &[u8], _: &[u8], _: &mut [u32]) {}
+
+        fn flows(&self, _: &[u8], flows: &mut [u32], out: &mut [u32]) {
+            flows.iter_mut().take(1).for_each(|set| *set = 0);
+            out.iter_mut().take(1).for_each(|word| *word = 0);
+        }
+
+        fn run(&self, _: &[u8], _: &[u8], _: RunArguments, _: &mut [u32]) {}
+    }
+
+    #[test]
+    fn wrong_flows_must_be_left() {
+        let (sets, words) = (MOST_LEVELS, FLOWS_WORDS);
+        for (sets, words) in [
+            (0, 0),
+            (0, words),
+            (sets, 0),
+            (sets - 1, words),
+            (sets + 1, words),
+            (2 * sets, words),
+            (sets, words - 1),
+            (sets, words + 1),
+            (words, sets),
+        ] {
+            assert_eq!(wrong_flows(&Raw, &example(), sets, words), Ok(()));
+            let careless = wrong_flows(&Careless, &example(), sets, words);
+            assert_eq!(careless.is_ok(), (sets, words) == (0, 0));
+        }
     }
 }

@@ -4,6 +4,19 @@
 use crate::engine::RunArguments;
 use station::raw::{station_check, station_run};
 
+extern "C" {
+    /// What a script would need: `flows` becomes for each level the set of other levels to which data
+    /// must be let flow, `out` number and place. With another length of either nothing happens.
+    fn station_flows(
+        script: *const u8,
+        script_len: usize,
+        flows: *mut u32,
+        flows_len: usize,
+        out: *mut u32,
+        out_len: usize,
+    );
+}
+
 pub fn check(book: &[u8], script: &[u8], out: &mut [u32]) {
     // SAFETY: each pointer and length is that of a live slice; `out` is borrowed mutably and so overlaps
     // no other.
@@ -13,6 +26,21 @@ pub fn check(book: &[u8], script: &[u8], out: &mut [u32]) {
             book.len(),
             script.as_ptr(),
             script.len(),
+            out.as_mut_ptr(),
+            out.len(),
+        );
+    }
+}
+
+pub fn flows(script: &[u8], flows: &mut [u32], out: &mut [u32]) {
+    // SAFETY: each pointer and length is that of a live slice; `flows` and `out` are borrowed mutably and so
+    // overlap no other.
+    unsafe {
+        station_flows(
+            script.as_ptr(),
+            script.len(),
+            flows.as_mut_ptr(),
+            flows.len(),
             out.as_mut_ptr(),
             out.len(),
         );

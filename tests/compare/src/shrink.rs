@@ -198,6 +198,7 @@ mod tests {
             Fault::ListedStays,
             Fault::ListPlaceLast,
             Fault::RepeatNeedsRoom,
+            Fault::WhileBodyUnlisted,
         ] {
             let wrong = Reference(Rules { fault: Some(fault) });
             let differs = |case: &Case| compare(&right, &wrong, case).is_err();

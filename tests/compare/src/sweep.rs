@@ -5,19 +5,36 @@ use crate::coverage::{self, declares_in_a_loop, Coverage};
 use crate::difference::{compare, show, Difference};
 use crate::divisions;
 use crate::emissions;
-use crate::engine::{Engine, Raw, Reference, Wrapper};
+use crate::engine::{Engine, Raw, Reference, Wrapper, FLOWS_WORDS};
+use crate::flow_claims;
+use crate::flows;
 use crate::lists;
-use crate::outcome::{outcome, wrong_out, Outcome};
+use crate::outcome::{outcome, wrong_flows, wrong_out, Outcome};
 use crate::pair_levels;
 use crate::shrink::shrink;
 use crate::tightest;
+use cases::any_levels::with_other_levels;
 use cases::file::File;
 use cases::list::{in_order, pairs, session_signals};
+use cases::order::MOST_LEVELS;
 use cases::{Case, Made, Rng};
 use reference::{Fault, Rules};
 
 /// The most steps of a run that is run again with small changes.
 const MOST_STEPS_AGAIN: u32 = 2000;
+
+/// Wrong numbers of sets, of words of `out`, or of both.
+const WRONG_FLOWS: [(usize, usize); 9] = [
+    (0, FLOWS_WORDS),
+    (MOST_LEVELS - 1, FLOWS_WORDS),
+    (MOST_LEVELS + 1, FLOWS_WORDS),
+    (2 * MOST_LEVELS, FLOWS_WORDS),
+    (MOST_LEVELS, 0),
+    (MOST_LEVELS, FLOWS_WORDS - 1),
+    (MOST_LEVELS, FLOWS_WORDS + 1),
+    (FLOWS_WORDS, MOST_LEVELS),
+    (0, 0),
+];
 
 /// The seed of a case: its number under the seed of the sweep.
 pub fn case_seed(seed: u64, number: u64) -> u64 {
@@ -57,6 +74,9 @@ pub fn one(seed: u64, coverage: &mut Coverage) -> Result<(), Difference> {
         let words = [0, 1, 2, 3, 4, 5, 6, 7, 8, 12, 24][rng.below(11)];
         wrong_out(&Raw, &made.case, words).map_err(difference)?;
         coverage.extra(coverage::WRONG_OUT);
+        let (sets, words) = WRONG_FLOWS[rng.below(WRONG_FLOWS.len())];
+        wrong_flows(&Raw, &made.case, sets, words).map_err(difference)?;
+        coverage.extra(coverage::WRONG_FLOWS);
     }
     if enters_local_again(&made.case, &outcome) {
         coverage.extra(coverage::ENTERED_AGAIN);
@@ -69,6 +89,8 @@ pub fn one(seed: u64, coverage: &mut Coverage) -> Result<(), Difference> {
     record_list(seed, &made.case, &outcome, coverage).map_err(difference)?;
     record_divisions(seed, &made.case, &outcome, coverage).map_err(difference)?;
     record_emissions(&made.case, &outcome, &mut rng, coverage);
+    record_flows(seed, &made.case, &outcome, &mut rng, coverage)?;
+    other_levels(seed, &made.case, &mut rng, coverage)?;
     near(seed, &made, &outcome, &mut rng, coverage)
 }
 
@@ -102,6 +124,44 @@ fn record_emissions(case: &Case, outcome: &Outcome, rng: &mut Rng, coverage: &mu
     if outcome.refusal() == 0 && is_short && rng.chance(1, 3) {
         coverage.record_emissions(emissions::reached(case, outcome));
     }
+}
+
+/// What 02 (e) says of flows and check holds, and what the flows show; by wrong rules of one script in
+/// two, since each asks for them anew.
+fn record_flows(
+    seed: u64,
+    case: &Case,
+    outcome: &Outcome,
+    rng: &mut Rng,
+    coverage: &mut Coverage,
+) -> Result<(), Difference> {
+    flow_claims::hold(library(seed), case, outcome)
+        .map_err(|says| Difference::new(seed, case, says))?;
+    coverage.record_flows(flows::reached(case, outcome));
+    if outcome.flows.refusal() == 0 && rng.chance(1, 2) {
+        coverage.record_flows(flows::shown(case, outcome));
+    }
+    Ok(())
+}
+
+/// The case again, now and then, with any levels for the names of its script.
+fn other_levels(
+    seed: u64,
+    case: &Case,
+    rng: &mut Rng,
+    coverage: &mut Coverage,
+) -> Result<(), Difference> {
+    let file = File::read(&case.script).filter(|_| rng.chance(1, 3));
+    let Some(file) = file else {
+        return Ok(());
+    };
+    let other = Case {
+        script: with_other_levels(rng, &file).bytes(),
+        ..case.clone()
+    };
+    let outcome = agree(seed, &other)?;
+    coverage.extra(coverage::OTHER_LEVELS);
+    record_flows(seed, &other, &outcome, rng, coverage)
 }
 
 /// Whether a local is entered again while its signal is present: the outcome is another if the signal stays.

@@ -19,13 +19,19 @@ pub struct Accepted {
 /// Rows 1 to 10.
 pub fn well_formed(rules: Rules, book: &[u8], script: &[u8]) -> Result<(Book, File), Refusal> {
     let book = Book::read(rules, book)?;
+    let file = well_formed_file(rules, book.count(), script)?;
+    Ok((book, file))
+}
+
+/// Rows 4 to 10, where row 6 takes levels below `levels`.
+pub fn well_formed_file(rules: Rules, levels: usize, script: &[u8]) -> Result<File, Refusal> {
     let file = File::read(rules, script)?;
-    row(6, refusal_6(rules, &book, &file))?;
+    row(6, refusal_6(rules, levels, &file))?;
     row(7, refusal_7(rules, &file))?;
     row(8, refusal_8(rules, &file))?;
     row(9, refusal_9(rules, &file))?;
     row(10, refusal_10(rules, &file))?;
-    Ok((book, file))
+    Ok(file)
 }
 
 /// Rows 1 to 11.

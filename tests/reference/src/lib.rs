@@ -1,6 +1,6 @@
 //! A second interpreter of station scripts, written from the papers and not from
 //! the code: the scope paper (called 01 in the comments), the changes of its rules
-//! (called 02: (a) to (d)) and report RR-5594 (called the report). Where 01
+//! (called 02: (a) to (e)) and report RR-5594 (called the report). Where 01
 //! leaves refusals 4 to 10 and 13 open it takes the readings of docs/DECISIONS.md.
 //! It checks a script file against a level book, runs it by rewriting trees by the
 //! report's Figures 1 to 4, and derives the types of Figure 5 by brute force. A
@@ -16,6 +16,9 @@ mod emissions;
 pub mod examples;
 mod fault;
 mod file;
+#[cfg(test)]
+mod flow_claims;
+mod flows;
 mod inputs;
 mod instant;
 mod levels;
@@ -38,6 +41,7 @@ mod uses;
 mod value;
 
 pub use fault::{Fault, Rules};
+pub use flows::Flows;
 use refusal::Refusal;
 
 /// What `check` returns (01, 'Calls').
@@ -47,6 +51,14 @@ pub struct CheckAnswer {
     pub place: u32,
     pub write: u32,
     pub test: u32,
+}
+
+/// What `flows` returns (02, request (e)).
+#[derive(Clone, Copy, Debug, PartialEq, Eq)]
+pub struct FlowsAnswer {
+    pub number: u32,
+    pub place: u32,
+    pub flows: Flows,
 }
 
 /// What `run` takes beside the level book and the script file: 'a reader's level,
@@ -106,6 +118,23 @@ pub fn check(rules: Rules, book: &[u8], script: &[u8]) -> CheckAnswer {
             place: 0,
             write: accepted.levels.write as u32,
             test: accepted.levels.test as u32,
+        },
+    }
+}
+
+/// What a script file would need, without a book: refusals 4 to 10, or for each level
+/// the set of other levels to which data must be let flow.
+pub fn flows(rules: Rules, script: &[u8]) -> FlowsAnswer {
+    match flows::flows(rules, script) {
+        Err(refusal) => FlowsAnswer {
+            number: refusal.number,
+            place: refusal.place,
+            flows: flows::sets_of_refused(rules, refusal, script),
+        },
+        Ok(flows) => FlowsAnswer {
+            number: 0,
+            place: 0,
+            flows,
         },
     }
 }

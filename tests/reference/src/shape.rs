@@ -1,14 +1,14 @@
 //! The entries one by one (01, 'Script file'): refusals 6, 7 and 8.
 
-use crate::book::Book;
 use crate::fault::{Fault, Rules};
 use crate::file::{ExpressionEntry, File, NodeEntry};
 
-/// Row 6: 'kind, level, or owner not a matching declaration of it', the name.
-pub fn refusal_6(rules: Rules, book: &Book, file: &File) -> Option<usize> {
+/// Row 6: 'kind, level, or owner not a matching declaration of it', the name. There
+/// are `levels` levels.
+pub fn refusal_6(rules: Rules, levels: usize, file: &File) -> Option<usize> {
     let right = |x: usize| {
         let name = &file.names[x];
-        let level = (name.level as usize) < book.count();
+        let level = (name.level as usize) < levels;
         name.kind <= 1 && level && owner_is_right(rules, file, x)
     };
     (0..file.names.len()).find(|&x| !right(x))

@@ -1,7 +1,7 @@
 //! No bytes and no fault make the interpreter panic or run on for ever.
 
 use reference::examples::{all, Example};
-use reference::{check, pairs, run, Fault, Rules, RunArguments};
+use reference::{check, flows, pairs, run, Fault, Rules, RunArguments};
 
 /// A small generator (splitmix64).
 struct Random(u64);
@@ -35,6 +35,7 @@ fn damage(random: &mut Random, bytes: &mut [u8]) {
 fn call(rules: Rules, book: &[u8], script: &[u8], values: &[i32], list: &[u32]) {
     check(rules, book, script);
     pairs(rules, book, script);
+    flows(rules, script);
     let (mut values, mut log) = (values.to_vec(), [0; 20]);
     let arguments = RunArguments {
         reader: 1,

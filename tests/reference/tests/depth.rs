@@ -2,7 +2,7 @@
 //! long runs. Tests have 2 MiB by default; these have a quarter of it.
 
 use reference::examples::script::*;
-use reference::{check, pairs, run, Rules, RunAnswer, RunArguments};
+use reference::{check, flows, pairs, run, Rules, RunAnswer, RunArguments};
 
 const STACK: usize = 512 * 1024;
 const BOOK: [u8; 5] = [2, 0, 3, 0, 2];
@@ -26,6 +26,7 @@ fn run_to_limit(script: &[u8], present: i32) -> RunAnswer {
     let rules = Rules::default();
     assert_eq!(check(rules, &BOOK, script).number, 0);
     assert!(pairs(rules, &BOOK, script).is_some());
+    assert_eq!(flows(rules, script).number, 0);
     let (mut values, mut log) = ([present, 0], [0; 64]);
     // Signal 0 comes again after each third of the steps.
     let list = [LIMIT / 3, 0, LIMIT / 3 * 2, 0];

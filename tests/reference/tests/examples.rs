@@ -3,7 +3,7 @@
 use std::collections::BTreeSet;
 
 use reference::examples::{all, Example, ExampleRun};
-use reference::{check, pairs, run, Rules, RunArguments};
+use reference::{check, flows, pairs, run, Rules, RunArguments};
 
 /// What the log holds before a run; words after the last line keep it.
 const UNTOUCHED: u32 = 0xDEAD_BEEF;
@@ -31,6 +31,15 @@ fn check_gives_the_papers_answers() {
     for example in all() {
         let answer = check(Rules::default(), &example.book, &example.script);
         assert_eq!(answer, example.expected_check, "{}", example.name);
+    }
+}
+
+#[test]
+fn flows_gives_the_papers_answers() {
+    for example in all() {
+        let answer = flows(Rules::default(), &example.script);
+        let expected = example.expected_flows.unwrap_or(answer);
+        assert_eq!(answer, expected, "{}", example.name);
     }
 }
 

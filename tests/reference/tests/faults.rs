@@ -1,7 +1,7 @@
 //! The planted faults: each changes an answer on some example of the papers.
 
 use reference::examples::{all, Example, ExampleRun};
-use reference::{check, run, Fault, Rules, RunArguments};
+use reference::{check, flows, run, Fault, Rules, RunArguments};
 
 fn run_changes(rules: Rules, example: &Example, expected: &ExampleRun) -> bool {
     let mut values = expected.values.clone();
@@ -21,8 +21,11 @@ fn run_changes(rules: Rules, example: &Example, expected: &ExampleRun) -> bool {
 
 fn changes(rules: Rules, example: &Example) -> bool {
     let answer = check(rules, &example.book, &example.script);
+    let needs = flows(rules, &example.script);
     let runs = &example.runs;
-    answer != example.expected_check || runs.iter().any(|r| run_changes(rules, example, r))
+    answer != example.expected_check
+        || example.expected_flows.is_some_and(|right| needs != right)
+        || runs.iter().any(|r| run_changes(rules, example, r))
 }
 
 #[test]

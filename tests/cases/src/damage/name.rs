@@ -2,6 +2,7 @@
 
 use super::{Draft, Sort};
 use crate::file::{NameEntry, SESSION};
+use crate::order::MOST_LEVELS;
 use crate::rng::Rng;
 
 pub const SORTS: &[Sort] = &[
@@ -27,6 +28,23 @@ pub const SORTS: &[Sort] = &[
             rng,
             |_| true,
             |name, rng| name.level = rng.between(count, 255) as u8,
+        )
+    }),
+    Sort::new(
+        6,
+        "the last of all levels, which the book lacks",
+        |draft, rng| {
+            let lacks = draft.lattice.count() < MOST_LEVELS;
+            let last = MOST_LEVELS as u8 - 1;
+            change(draft, rng, |_| lacks, |name, _| name.level = last)
+        },
+    ),
+    Sort::new(6, "the level past the last of all", |draft, rng| {
+        change(
+            draft,
+            rng,
+            |_| true,
+            |name, _| name.level = MOST_LEVELS as u8,
         )
     }),
     Sort::new(6, "owner is the number of nodes", |draft, rng| {

@@ -35,15 +35,19 @@ fn explicit_and_implicit_flow() -> Vec<Example> {
     vec![
         Example::script("nil", LIST, Names::new(), nil())
             .accepted(1, 0)
+            .flows(&[])
             .run((&[], 1), finished(0, 0), &[], &[]),
-        Example::script("y_L := x_H", LIST, n.clone(), assign(y, read(x))).refused(11, 0),
+        Example::script("y_L := x_H", LIST, n.clone(), assign(y, read(x)))
+            .refused(11, 0)
+            .flows(&[(1, 0)]),
         Example::script(
             "if x_H then y_L := 0 else nil",
             LIST,
             n,
             if_else(read(x), assign(y, constant(0)), nil()),
         )
-        .refused(11, 2),
+        .refused(11, 2)
+        .flows(&[(1, 0)]),
     ]
 }
 
@@ -57,7 +61,8 @@ fn signals_and_flow() -> Vec<Example> {
             n.clone(),
             seq(when(a, nil()), emit(b)),
         )
-        .refused(11, 3),
+        .refused(11, 3)
+        .flows(&[(1, 0)]),
         // The when fails first: it tests H and writes L.
         Example::script(
             "emit c_L; (do (when a_H do emit b_L) watching c_L)",
@@ -65,7 +70,8 @@ fn signals_and_flow() -> Vec<Example> {
             n,
             seq(emit(c), watching(when(a, emit(b)), c)),
         )
-        .refused(11, 2),
+        .refused(11, 2)
+        .flows(&[(1, 0)]),
     ]
 }
 
@@ -80,7 +86,8 @@ fn loops_and_flow() -> Vec<Example> {
             n.clone(),
             seq(waits(), clears()),
         )
-        .refused(11, 3),
+        .refused(11, 3)
+        .flows(&[(1, 0)]),
         // Steps counted by hand: assign, drop nil, then while for ever or once.
         Example::script(
             "y_L := 0; (while x_H do nil)",
@@ -89,6 +96,7 @@ fn loops_and_flow() -> Vec<Example> {
             seq(clears(), waits()),
         )
         .accepted(0, 1)
+        .flows(&[])
         .run((&[5, 0], 100), finished(3, 0), &[[1, 0, 0, 0]], &[0, 0])
         .run((&[5, 1], 10), spent(10, 0), &[[1, 0, 0, 0]], &[0, 1]),
         Example::script(
@@ -97,7 +105,8 @@ fn loops_and_flow() -> Vec<Example> {
             n,
             par(clears(), if_else(read(x), nil(), nil())),
         )
-        .refused(11, 4),
+        .refused(11, 4)
+        .flows(&[(1, 0)]),
     ]
 }
 

@@ -1,8 +1,8 @@
 //! The examples of the papers as data: 01's peg list, the report's programs, one
 //! small file for each row of 01's table, runs with lists for the sentences of 02
-//! (a), divisions for those of 02 (b), emissions for those of 02 (c), and level
-//! books for those of 02 (d). Expected answers were typed from the papers, not
-//! computed. Where a paper gives a program and its behaviour in words, the steps
+//! (a), divisions for those of 02 (b), emissions for those of 02 (c), level books
+//! for those of 02 (d), and flows for those of 02 (e). Expected answers were typed
+//! from the papers, not computed. Where a paper gives a program and its behaviour in words, the steps
 //! were counted by hand by the rules of Figures 1 to 4.
 //!
 //! A program that the report shows to be insecure is refused with its levels;
@@ -10,6 +10,8 @@
 
 mod books;
 mod emissions;
+mod flow_files;
+mod flows;
 mod inputs;
 mod listed;
 mod report;
@@ -18,7 +20,8 @@ pub mod script;
 mod security;
 mod table;
 
-use crate::{CheckAnswer, RunAnswer};
+use crate::order::MOST_LEVELS;
+use crate::{CheckAnswer, Flows, FlowsAnswer, RunAnswer};
 use script::{Name, Names, Process};
 
 /// A script file under a level book, and what the papers say of it.
@@ -30,6 +33,8 @@ pub struct Example {
     pub book: Vec<u8>,
     pub script: Vec<u8>,
     pub expected_check: CheckAnswer,
+    /// Where they were worked out.
+    pub expected_flows: Option<FlowsAnswer>,
     pub runs: Vec<ExampleRun>,
 }
 
@@ -57,6 +62,8 @@ pub fn all() -> Vec<Example> {
     all.extend(inputs::all());
     all.extend(emissions::all());
     all.extend(books::all());
+    all.extend(flows::all());
+    all.extend(flow_files::all());
     all
 }
 
@@ -64,6 +71,13 @@ pub fn all() -> Vec<Example> {
 const LOW_HIGH: [u8; 5] = [0x02, 0x00, 0x03, 0x00, 0x02];
 const L: u8 = 0;
 const H: u8 = 1;
+
+/// The book of all levels, each above the one before.
+pub(crate) fn every_level() -> Vec<u8> {
+    let row = |i: usize| (u16::MAX << i).to_be_bytes();
+    let rows = (0..MOST_LEVELS).flat_map(row);
+    [MOST_LEVELS as u8].into_iter().chain(rows).collect()
+}
 
 /// The log of a run that says nothing else: 16 lines.
 const LOG_WORDS: usize = 64;
@@ -122,6 +136,7 @@ impl Example {
             book: book.to_vec(),
             script,
             expected_check: check_answer(0, 0, 0, 0),
+            expected_flows: None,
             runs: Vec::new(),
         }
     }
@@ -135,6 +150,20 @@ impl Example {
     fn refused(mut self, number: u32, place: u32) -> Example {
         self.expected_check = check_answer(number, place, 0, 0);
         self.refused_run((0, &[], 0), number, place)
+    }
+
+    /// Data must be let flow from the first to the second level of each pair.
+    fn flows(mut self, pairs: &[(usize, usize)]) -> Example {
+        let mut flows = Flows::default();
+        pairs.iter().for_each(|&(from, to)| flows[from] |= 1 << to);
+        self.expected_flows = Some(flows_answer((0, 0), flows));
+        self
+    }
+
+    /// Refused also where there is no book, with empty sets.
+    fn flows_refused(mut self, number: u32, place: u32) -> Example {
+        self.expected_flows = Some(flows_answer((number, place), Flows::default()));
+        self
     }
 
     /// A run with (reader, values, limit) that is refused and changes nothing.
@@ -197,6 +226,14 @@ fn check_answer(number: u32, place: u32, write: u32, test: u32) -> CheckAnswer {
         place,
         write,
         test,
+    }
+}
+
+fn flows_answer(refusal: (u32, u32), flows: Flows) -> FlowsAnswer {
+    FlowsAnswer {
+        number: refusal.0,
+        place: refusal.1,
+        flows,
     }
 }
 
