@@ -1,18 +1,18 @@
 /*
  * station.h: checks and runs station scripts. C99 and C++; link with libengine.a.
  *
- * Two calls take any bytes and any numbers. What the rules do not allow is refused with a number and a place.
- * docs/FORMATS.md has the formats of level book, script file, value list, signal list and log, docs/REFUSALS.md an
- * example of each refusal.
+ * Three calls take any bytes and any numbers. What the rules do not allow is refused with a number and a place.
+ * docs/FORMATS.md has the formats of level book, script file, value list, signal list, log and flows, docs/REFUSALS.md
+ * an example of each refusal.
  *
  * BUFFERS. A buffer is a pointer, then a length in elements (not in bytes).
  *  - The caller owns every buffer. A call keeps no pointer after it returns, and allocates nothing.
  *  - A pointer may be NULL where its length is 0: an empty buffer is neither read nor written.
- *  - `book`, `script` and `list` are only read; they may overlap each other. `values`, `log` and `out` are written:
- *    each of them must overlap no other buffer of the call.
- *  - `values`, `list`, `log` and `out` must be aligned for their element types; `book` and `script` need not be.
- *  - `out` must have exactly STATION_CHECK_WORDS or STATION_RUN_WORDS elements. With any other length the call does
- *    nothing at all: `out`, `values` and `log` stay as they were.
+ *  - `book`, `script` and `list` are only read; they may overlap each other. `values`, `log`, `flows` and `out` are
+ *    written: each of them must overlap no other buffer of the call.
+ *  - `values`, `list`, `log`, `flows` and `out` must be aligned for their element types; `book` and `script` need not.
+ *  - `out` must have exactly STATION_CHECK_WORDS, STATION_FLOWS_WORDS or STATION_RUN_WORDS elements, and `flows` exactly
+ *    STATION_MAX_LEVELS. With any other length of either the call does nothing at all: no buffer is written.
  *
  * REENTRANCY. There is no static state and no lock: calls may run at the same time, in any thread, as long
  * as no buffer that one of them writes belongs to another call.
@@ -39,6 +39,7 @@ extern "C" {
 
 /* The lengths of `out`, and the words of one pair of the list and of one line of the log. */
 #define STATION_CHECK_WORDS 4
+#define STATION_FLOWS_WORDS 2
 #define STATION_RUN_WORDS 6
 #define STATION_PAIR_WORDS 2
 #define STATION_LINE_WORDS 4
@@ -49,6 +50,12 @@ enum station_check_word {
     STATION_CHECK_PLACE = 1,  /* where, as the refusal says; 0 if accepted */
     STATION_CHECK_WRITE = 2,  /* W, a level: the meet of what the script may write */
     STATION_CHECK_TEST = 3    /* T, a level: the join of what the script tests */
+};
+
+/* The words of `out` after station_flows. The words of `flows` are described with the call. */
+enum station_flows_word {
+    STATION_FLOWS_NUMBER = 0, /* a station_refusal */
+    STATION_FLOWS_PLACE = 1   /* where, as the refusal says; 0 if not refused */
 };
 
 /* The words of `out` after station_run. Of a refused run all but number and place are 0. */
@@ -80,8 +87,8 @@ enum station_line_word {
 
 /*
  * Why a call was refused. The lowest number that applies is given, with the smallest place at fault in that way; a
- * place past 4294967295, which only a list can have, is given as 4294967295. station_check gives 0 to 11, station_run
- * all of them.
+ * place past 4294967295, which only a list can have, is given as 4294967295. station_check gives 0 to 11, station_flows
+ * 0 and 4 to 10, station_run all of them.
  */
 enum station_refusal {
     STATION_NOT_REFUSED = 0,             /* place 0 */
@@ -114,6 +121,23 @@ enum station_ending {
  */
 void station_check(const uint8_t *book, size_t book_len,
                    const uint8_t *script, size_t script_len,
+                   uint32_t *out, size_t out_len);
+
+/*
+ * Tells which flows a script would need, before there is a level book. `out` becomes number, place.
+ *
+ *   flows    a word for each level: bit j of word i says that data must be let flow from level i to level j. A level is
+ *            never in its own set; the set of one that the script does not use is empty
+ *
+ * Without a book only the refusals 4 to 10 are left, as station_check gives them, but that a name's level may be any
+ * below STATION_MAX_LEVELS. A refused call leaves all words of `flows` 0.
+ *
+ * Under any book that is not refused and has the script's levels, station_check gives STATION_REFUSED_FLOW exactly when
+ * some flow of the script is absent from the book's order. The flows need not be the fewest: since an order is
+ * transitive, one of them may follow from others.
+ */
+void station_flows(const uint8_t *script, size_t script_len,
+                   uint32_t *flows, size_t flows_len,
                    uint32_t *out, size_t out_len);
 
 /*

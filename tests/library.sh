@@ -46,6 +46,17 @@ Finished after 5 steps
 END
 }
 
+prints_the_flows() {
+    diff <("$@") - <<'END'
+level 0 to level 2
+level 0 to level 3
+level 1 to level 2
+level 1 to level 3
+claims side by side: refused 11 2
+our claim below theirs: accepted 2 1
+END
+}
+
 rust() {
     local command=$1 folder=$2
     shift 2
@@ -57,6 +68,8 @@ cc=(cc -std=c99 -Wall -Wextra -pedantic -Werror -I include)
 
 try 'C: first_run builds' "${cc[@]}" bindings/c/first_run.c $library -o target/first_run
 try 'C: first_run prints the example' prints_the_example target/first_run
+try 'C: flows builds' "${cc[@]}" bindings/c/flows.c $library -o target/flows
+try 'C: flows prints those of the boundary job' prints_the_flows target/flows
 try 'C: edges builds' "${cc[@]}" bindings/c/edges.c $library -o target/edges
 try 'C: edges' target/edges
 try 'C: stack builds' cc -O2 -Wall -Wextra -I include tests/speed/stack.c $library -pthread -Wl,-z,now -o target/stack
@@ -64,6 +77,7 @@ try 'C: stack' target/stack
 tally 'Rust: crate station' "$counted" rust test bindings/rust
 try 'Rust: first_run prints the example' prints_the_example rust run bindings/rust -q --example first_run
 try 'Rust: prism_lock prints its line' prints_the_lock rust run bindings/rust -q --example prism_lock
+try 'Rust: boundary_job prints its flows' prints_the_flows rust run bindings/rust -q --example boundary_job
 tally 'Rust: tests' "$counted" rust test tests --release
 tally 'Rust: comparison' '([0-9]+) passed, ([0-9]+) failed' rust run tests -q --release -p compare -- all
 

@@ -1,5 +1,5 @@
-/* The edges of the C interface: lengths of `out`, empty buffers, words next to a buffer, lengths of the list, refused
- * calls. Prints a line for each and returns 1 if one fails.
+/* The edges of the C interface: lengths of `out` and `flows`, empty buffers, words next to a buffer, lengths of the
+ * list, refused calls. Prints a line for each and returns 1 if one fails.
  *
  *     cc -I include bindings/c/edges.c target/staticlib/libengine.a -o edges
  */
@@ -34,6 +34,15 @@ static const uint8_t wait_script[] = {
     0x00, 0x04, 0x00, 0x04, 0x00, 0x14, 0x53, 0x54  /* tail */
 };
 
+/* y := x, with session registers y at level 0 and x at level 15, the highest that a script can name. */
+static const uint8_t copy_script[] = {
+    0x00, 0x00, 0xFF, 0xFF,                         /* name 0 */
+    0x00, 0x0F, 0xFF, 0xFF,                         /* name 1 */
+    0x01, 0x00, 0x00, 0x01, 0x00, 0x00, 0x00, 0x00, /* expression 0 */
+    0x01, 0x00, 0x00, 0x00, 0x00, 0x00, 0x00, 0x00, /* node 0 */
+    0x00, 0x08, 0x00, 0x10, 0x00, 0x18, 0x53, 0x54  /* tail */
+};
+
 /* The buffers of a call begin AT words into these arrays; what stands around them must not change, nor the list. */
 #define AT 2
 #define GUARD 0x5AA5C33C
@@ -43,6 +52,7 @@ struct buffers {
     int32_t values[2 * AT + 1];
     uint32_t list[2 * AT + LIST_WORDS];
     uint32_t log[2 * AT + 2 * STATION_LINE_WORDS];
+    uint32_t flows[2 * AT + STATION_MAX_LEVELS + 1];
     uint32_t out[2 * AT + STATION_RUN_WORDS + 1];
 };
 
@@ -65,6 +75,9 @@ static struct buffers fresh(int32_t value) {
     for (size_t i = 0; i < sizeof b.log / sizeof b.log[0]; i++) {
         b.log[i] = GUARD;
     }
+    for (size_t i = 0; i < sizeof b.flows / sizeof b.flows[0]; i++) {
+        b.flows[i] = GUARD;
+    }
     for (size_t i = 0; i < sizeof b.out / sizeof b.out[0]; i++) {
         b.out[i] = GUARD;
     }
@@ -72,7 +85,7 @@ static struct buffers fresh(int32_t value) {
     return b;
 }
 
-/* All four arrays: the members are words of one size, so that there is no padding. */
+/* All five arrays: the members are words of one size, so that there is no padding. */
 static int same(const struct buffers *a, const struct buffers *b) {
     return memcmp(a, b, sizeof *a) == 0;
 }
@@ -85,6 +98,13 @@ static void put_refusal(struct buffers *b, uint32_t number, uint32_t place) {
 static void put_result(struct buffers *b, uint32_t ending, uint32_t steps, uint32_t instants, uint32_t lines) {
     const uint32_t words[STATION_RUN_WORDS] = {0, 0, ending, steps, instants, lines};
     memcpy(b->out + AT, words, sizeof words);
+}
+
+/* What station_flows leaves where it is refused, and where no flow is needed. */
+static void put_no_flows(struct buffers *b, uint32_t number, uint32_t place) {
+    memset(b->flows + AT, 0, STATION_MAX_LEVELS * sizeof b->flows[0]);
+    b->out[AT + STATION_FLOWS_NUMBER] = number;
+    b->out[AT + STATION_FLOWS_PLACE] = place;
 }
 
 /* Runs x := 7 on the buffers, without a list. */
@@ -114,6 +134,55 @@ static void wrong_out_lengths(void) {
     station_run(book, sizeof book, script, sizeof script, 0, b.values + AT, 1, 1000, b.list + AT, 1, b.log + AT,
                 STATION_LINE_WORDS, NULL, 0);
     report("an out of another length: nothing changes", same(&b, &before));
+}
+
+/* Asks for the flows of y := x on the buffers. */
+static void ask(struct buffers *b, size_t flows_len, size_t out_len) {
+    station_flows(copy_script, sizeof copy_script, b->flows + AT, flows_len, b->out + AT, out_len);
+}
+
+static void wrong_flows_lengths(void) {
+    const struct buffers before = fresh(0);
+    struct buffers b = before;
+    for (size_t n = 0; n <= STATION_MAX_LEVELS + 1; n++) {
+        if (n != STATION_MAX_LEVELS) {
+            ask(&b, n, STATION_FLOWS_WORDS);
+        }
+        if (n != STATION_FLOWS_WORDS && n <= STATION_RUN_WORDS + 1) {
+            ask(&b, STATION_MAX_LEVELS, n);
+        }
+    }
+    station_flows(NULL, 0, NULL, 0, b.out + AT, STATION_FLOWS_WORDS);
+    station_flows(NULL, 0, b.flows + AT, STATION_MAX_LEVELS, NULL, 0);
+    station_flows(NULL, 0, NULL, 0, NULL, 0);
+    report("flows: a flows or an out of another length: nothing changes", same(&b, &before));
+}
+
+static void flows_of_scripts(void) {
+    struct buffers b = fresh(0), expected = b;
+    put_no_flows(&expected, STATION_NOT_REFUSED, 0);
+    station_flows(script, sizeof script, b.flows + AT, STATION_MAX_LEVELS, b.out + AT, STATION_FLOWS_WORDS);
+    report("flows of x := 7: none, and nothing changes around the buffers", same(&b, &expected));
+    expected.flows[AT + 15] = 1;
+    ask(&b, STATION_MAX_LEVELS, STATION_FLOWS_WORDS);
+    report("flows of y := x: from level 15 to level 0, and nothing changes around the buffers", same(&b, &expected));
+}
+
+/* A script that is refused with this number, at this place. */
+static void refused_flows(const char *what, const uint8_t *part, size_t length, uint32_t number, uint32_t place) {
+    struct buffers b = fresh(0), expected = b;
+    put_no_flows(&expected, number, place);
+    station_flows(part, length, b.flows + AT, STATION_MAX_LEVELS, b.out + AT, STATION_FLOWS_WORDS);
+    report(what, same(&b, &expected));
+}
+
+static void flows_of_wrong_scripts(void) {
+    uint8_t no_level[sizeof copy_script];
+    memcpy(no_level, copy_script, sizeof no_level);
+    no_level[5] = STATION_MAX_LEVELS;
+    refused_flows("flows: script NULL: every word of flows is 0", NULL, 0, STATION_REFUSED_TAIL, 0);
+    refused_flows("flows: name 1 at level 16: every word of flows is 0", no_level, sizeof no_level,
+                  STATION_REFUSED_NAME, 1);
 }
 
 static void check_of_nothing(void) {
@@ -228,12 +297,13 @@ static void refused(const char *what, uint32_t number, uint32_t reader, size_t v
     report(what, same(&b, &expected));
 }
 
-/* Every beginning of the script but the whole is refused. Each is a block of its own size, for tools that watch the
- * bounds of blocks. */
+/* Every beginning of the script but the whole is refused, by check and by flows. Each is a block of its own size, for
+ * tools that watch the bounds of blocks. */
 static void beginnings(void) {
     int holds = 1;
     for (size_t n = 0; n < sizeof script; n++) {
         uint32_t out[STATION_CHECK_WORDS];
+        uint32_t flows[STATION_MAX_LEVELS];
         uint8_t *part = malloc(n + (n == 0));
         if (part == NULL) {
             holds = 0;
@@ -242,13 +312,18 @@ static void beginnings(void) {
         memcpy(part, script, n);
         station_check(book, sizeof book, part, n, out, STATION_CHECK_WORDS);
         holds = holds && out[STATION_CHECK_NUMBER] == STATION_REFUSED_TAIL && out[STATION_CHECK_PLACE] == 0;
+        station_flows(part, n, flows, STATION_MAX_LEVELS, out, STATION_FLOWS_WORDS);
+        holds = holds && out[STATION_FLOWS_NUMBER] == STATION_REFUSED_TAIL && out[STATION_FLOWS_PLACE] == 0;
         free(part);
     }
-    report("check: each beginning of a script is refused for its tail", holds);
+    report("check and flows: each beginning of a script is refused for its tail", holds);
 }
 
 int main(void) {
     wrong_out_lengths();
+    wrong_flows_lengths();
+    flows_of_scripts();
+    flows_of_wrong_scripts();
     check_of_nothing();
     run_of_nothing();
     log_lengths();

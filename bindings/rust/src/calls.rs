@@ -1,6 +1,7 @@
-//! The two calls, and what they answer. The only module with `unsafe`.
+//! The three calls, and what they answer. The only module with `unsafe`.
 #![allow(unsafe_code)]
 
+use crate::flows::Flows;
 use crate::raw;
 use crate::refusal::Refusal;
 
@@ -85,6 +86,31 @@ pub fn check(book: &[u8], script: &[u8]) -> Result<Levels, Refusal> {
     let [number, place, write, test] = out;
     accepted(number, place)?;
     Ok(Levels { write, test })
+}
+
+/// The flows that a script would need, whatever the level book will be.
+///
+/// A script is refused as [`check`] refuses it, but for the book and for flow, and a name's level may be any up to 15.
+/// Under any book that is not refused and has the script's levels, [`check`] gives
+/// [`Reason::Flow`](crate::Reason::Flow) exactly when one of these flows is absent from the book's order.
+pub fn flows(script: &[u8]) -> Result<Flows, Refusal> {
+    let mut words = [0; raw::MAX_LEVELS];
+    let mut out = [0; raw::FLOWS_WORDS];
+    // SAFETY: every pointer and length is that of one live slice; `words` and `out` are borrowed for this call alone,
+    // so that neither overlaps another.
+    unsafe {
+        raw::station_flows(
+            script.as_ptr(),
+            script.len(),
+            words.as_mut_ptr(),
+            words.len(),
+            out.as_mut_ptr(),
+            out.len(),
+        );
+    }
+    let [number, place] = out;
+    accepted(number, place)?;
+    Ok(Flows::new(words))
 }
 
 /// Runs a script under a level book for a reader, from these values, for at most `limit` steps.

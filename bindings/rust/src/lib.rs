@@ -1,11 +1,12 @@
-//! Station scripts from Rust: check a script under a level book, and run it.
+//! Station scripts from Rust: check a script under a level book, run it, and ask which flows it would need.
 //!
 //! A *level book* orders the levels, a *script file* holds names, expressions and nodes, a *value list* has one number
 //! for each name, a *signal list* says which signals arrive in which instant, and a *log* takes the lines that a
 //! *reader* may see. The formats are in the repository's `docs/FORMATS.md`, the refusals in `docs/REFUSALS.md`.
 //!
-//! [`check`] and [`run`] take any bytes and any numbers and never panic: what the rules do not allow is a [`Refusal`].
-//! They keep no state between calls, so that calls on different buffers may run at the same time.
+//! [`check`], [`flows`](flows()) and [`run`] take any bytes and any numbers and never panic: what the rules do not
+//! allow is a [`Refusal`]. They keep no state between calls, so that calls on different buffers may run at the same
+//! time.
 //!
 //! # Example
 //!
@@ -39,10 +40,12 @@
 #![deny(unsafe_code)]
 
 mod calls;
+mod flows;
 mod log;
 pub mod raw;
 mod refusal;
 
-pub use calls::{check, run, Ending, Levels, Run, MAX_STEPS, PAIR_WORDS};
+pub use calls::{check, flows, run, Ending, Levels, Run, MAX_STEPS, PAIR_WORDS};
+pub use flows::{Flows, MAX_LEVELS};
 pub use log::{lines, Line, LINE_WORDS};
 pub use refusal::{Place, Reason, Refusal};

@@ -5,6 +5,12 @@
 /// The length of `out` that [`station_check`] asks for.
 pub const CHECK_WORDS: usize = 4;
 
+/// The length of `out` that [`station_flows`] asks for.
+pub const FLOWS_WORDS: usize = 2;
+
+/// The length of `flows` that [`station_flows`] asks for: a word for each level.
+pub const MAX_LEVELS: usize = 16;
+
 /// The length of `out` that [`station_run`] asks for.
 pub const RUN_WORDS: usize = 6;
 
@@ -19,6 +25,22 @@ extern "C" {
         book_len: usize,
         script: *const u8,
         script_len: usize,
+        out: *mut u32,
+        out_len: usize,
+    );
+
+    /// Tells which flows a script would need: `out` becomes number, place, and bit j of word i of `flows` says that
+    /// data must be let flow from level i to level j. With a `flows` of another length than 16 or an `out` of another
+    /// length than 2 nothing at all happens.
+    ///
+    /// # Safety
+    /// Each pointer is good for reads of its length, those of `flows` and `out` also for writes, and neither of these
+    /// two overlaps another slice.
+    pub fn station_flows(
+        script: *const u8,
+        script_len: usize,
+        flows: *mut u32,
+        flows_len: usize,
         out: *mut u32,
         out_len: usize,
     );

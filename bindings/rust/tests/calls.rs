@@ -1,4 +1,4 @@
-//! The two calls: the first example, and the edges of their buffers.
+//! `check` and `run`: the first example, and the edges of their buffers.
 use station::{check, lines, run, Ending, Levels, Line, Reason, Run, MAX_STEPS};
 
 /// Two levels, 0 at or below 1.

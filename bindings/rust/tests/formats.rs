@@ -2,7 +2,7 @@
 mod documents;
 
 use documents::{blocks, hex, Block};
-use station::{check, lines, run, Ending, Refusal};
+use station::{check, flows, lines, run, Ending, Levels, Reason, Refusal, MAX_LEVELS};
 
 /// The bytes of a table: each line has an offset of four digits, bytes, two blanks, and what they mean.
 fn bytes(block: &Block) -> Vec<u8> {
@@ -24,15 +24,16 @@ fn values(bytes: &[u8]) -> Vec<i32> {
     whole.iter().map(|&four| i32::from_be_bytes(four)).collect()
 }
 
-/// The words of a list: each line has the number of its first word, words, two blanks, and what they mean.
-fn words(block: &Block) -> Vec<u32> {
+/// The words of a list, or in hexadecimal those of flows: each line has the number of its first word, words, two
+/// blanks, and what they mean.
+fn words(block: &Block, radix: u32) -> Vec<u32> {
     let mut words = Vec::new();
     for line in &block.lines {
         let (first, rest) = line.split_once("  ").expect("a word's number");
-        let (pair, _meaning) = rest.split_once("  ").expect("words, then their meaning");
+        let (some, _meaning) = rest.split_once("  ").expect("words, then their meaning");
         assert_eq!(first, words.len().to_string(), "first word of: {line}");
-        let word = |text: &str| text.parse::<u32>().expect("a word");
-        words.extend(pair.split_whitespace().map(word));
+        let word = |text: &str| u32::from_str_radix(text, radix).expect("a word");
+        words.extend(some.split_whitespace().map(word));
     }
     words
 }
@@ -85,7 +86,7 @@ fn all(kind: &str) -> Vec<Vec<u8>> {
         .collect()
 }
 
-/// The examples with their answers: a script begins one, an answer ends it.
+/// The examples with their answers: a script begins one, an answer ends it. A script with flows is none of them.
 fn examples() -> Vec<(Example, Vec<String>)> {
     let mut examples = Vec::new();
     let mut example = Example::default();
@@ -94,7 +95,8 @@ fn examples() -> Vec<(Example, Vec<String>)> {
             "book" => {}
             "script" => example.script = bytes(&block),
             "values" => example.values = values(&bytes(&block)),
-            "list" => example.list = words(&block),
+            "list" => example.list = words(&block, 10),
+            "flows" => example = Example::default(),
             "answer" => examples.push((std::mem::take(&mut example), block.lines)),
             other => panic!("no block of the document: {other}"),
         }
@@ -107,7 +109,7 @@ fn scripts_are_answered_as_the_document_says() {
     let book = &all("book")[0];
     let examples = examples();
     assert_eq!(examples.len(), 5);
-    assert_eq!((all("script").len(), all("values").len()), (5, 5));
+    assert_eq!((all("script").len(), all("values").len()), (6, 5));
     let lists = examples.iter().map(|(example, _)| example.list.len());
     assert_eq!(lists.collect::<Vec<usize>>(), [0, 0, 0, 6, 0]);
     for (mut example, answer) in examples {
@@ -152,10 +154,37 @@ fn the_second_emission_needs_no_room() {
 fn books_are_accepted() {
     let script = &all("script")[0];
     let books = all("book");
-    assert_eq!(books.len(), 2);
+    assert_eq!(books.len(), 3);
     for book in books {
         assert!(check(&book, script).is_ok());
     }
+}
+
+/// The script before the block of flows, and what that says.
+fn script_with_flows() -> (Vec<u8>, Vec<u32>) {
+    let blocks = blocks("FORMATS.md");
+    let mut pairs = blocks.windows(2);
+    let found = pairs.find(|pair| pair[1].kind == "flows");
+    let pair = found.expect("a block of flows");
+    assert_eq!(pair[0].kind, "script");
+    (bytes(&pair[0]), words(&pair[1], 16))
+}
+
+#[test]
+fn the_flows_are_those_of_the_document() {
+    let (script, words) = script_with_flows();
+    assert_eq!(words.len(), MAX_LEVELS);
+    let answer = flows(&script).expect("not refused");
+    assert_eq!(answer.words().to_vec(), words);
+}
+
+#[test]
+fn the_script_with_flows_needs_the_last_book() {
+    let (script, books) = (script_with_flows().0, all("book"));
+    let refusal = check(&books[1], &script).expect_err("claims side by side");
+    assert_eq!((refusal.reason, refusal.place), (Reason::Flow, 2));
+    let levels = check(&books[2], &script);
+    assert_eq!(levels, Ok(Levels { write: 2, test: 1 }));
 }
 
 #[test]

@@ -2,9 +2,9 @@
 mod documents;
 
 use documents::{blocks, hex, Block};
-use station::{check, run, Reason, Refusal};
+use station::{check, flows, run, Flows, Reason, Refusal};
 
-/// What an example gives beside book and script if it calls run.
+/// What an example gives beside book and script if it calls `run`.
 #[derive(Clone)]
 struct Call {
     reader: u32,
@@ -13,6 +13,7 @@ struct Call {
     list: Vec<u32>,
 }
 
+/// One without a book is a call of `flows`.
 #[derive(Default)]
 struct Example {
     book: Vec<u8>,
@@ -53,7 +54,7 @@ fn example(block: &Block) -> Example {
             "book" => example.book.extend(hex(rest)),
             "script" => example.script.extend(hex(rest)),
             "run" => example.call = Some(call(rest.trim())),
-            "refused" | "accepted" => example.answer = line.trim().to_string(),
+            "refused" | "accepted" | "needs" => example.answer = line.trim().to_string(),
             other => panic!("no line of an example: {other}"),
         }
     }
@@ -66,8 +67,20 @@ fn examples() -> Vec<Example> {
     blocks.iter().map(example).collect()
 }
 
-/// The refusal of an example's call, or W and T.
-fn outcome(example: &Example) -> Result<(u32, u32), Refusal> {
+fn needs(flows: &Flows) -> String {
+    let pair = |(from, to)| format!("{from} {to}");
+    let pairs: Vec<String> = flows.pairs().map(pair).collect();
+    match &pairs[..] {
+        [] => "needs nothing".to_string(),
+        some => format!("needs {}", some.join(", ")),
+    }
+}
+
+/// The refusal of an example's call, or what else the document shows: W and T, or the flows.
+fn outcome(example: &Example) -> Result<String, Refusal> {
+    if example.book.is_empty() {
+        return flows(&example.script).map(|flows| needs(&flows));
+    }
     if let Some(call) = &example.call {
         let mut values = call.values.clone();
         run(
@@ -81,14 +94,14 @@ fn outcome(example: &Example) -> Result<(u32, u32), Refusal> {
         )?;
     }
     let levels = check(&example.book, &example.script)?;
-    Ok((levels.write, levels.test))
+    Ok(format!("accepted {} {}", levels.write, levels.test))
 }
 
 fn answer(example: &Example) -> String {
-    match outcome(example) {
-        Ok((write, test)) => format!("accepted {write} {test}"),
-        Err(refusal) => format!("refused {} {}", refusal.reason.number(), refusal.place),
-    }
+    outcome(example).unwrap_or_else(|refusal| {
+        let number = refusal.reason.number();
+        format!("refused {number} {}", refusal.place)
+    })
 }
 
 #[test]
@@ -119,7 +132,7 @@ fn every_refusal_has_an_example_in_order() {
 fn a_refused_run_changes_neither_values_nor_log() {
     for example in examples()
         .iter()
-        .filter(|e| e.answer.starts_with("refused"))
+        .filter(|e| !e.book.is_empty() && e.answer.starts_with("refused"))
     {
         let anything = Call {
             reader: 0,
@@ -143,6 +156,35 @@ fn a_refused_run_changes_neither_values_nor_log() {
         assert_eq!(values, call.values);
         assert_eq!(log, [0xA5A5_A5A5; 9]);
     }
+}
+
+/// A book of 16 levels, each below the next.
+fn all_levels() -> Vec<u8> {
+    let rows = (0..16).map(|i| u16::MAX << i);
+    [16].into_iter()
+        .chain(rows.flat_map(u16::to_be_bytes))
+        .collect()
+}
+
+#[test]
+fn flows_refuses_by_4_to_10_as_check_does_under_all_levels() {
+    for Example { script, .. } in examples() {
+        let checked = check(&all_levels(), &script).err();
+        let expected = checked.filter(|refusal| refusal.reason != Reason::Flow);
+        assert_eq!(flows(&script).err(), expected, "script {script:02X?}");
+    }
+}
+
+#[test]
+fn flows_differs_from_check_in_a_level_outside_the_book_alone() {
+    let of_the_script = |r: &Refusal| (4..=10).contains(&r.reason.number());
+    let differs = |example: &Example| {
+        let refusal = outcome(example).err().filter(of_the_script);
+        refusal.is_some_and(|refusal| flows(&example.script) != Err(refusal))
+    };
+    let differing = examples().into_iter().filter(differs);
+    let answers: Vec<String> = differing.map(|example| example.answer).collect();
+    assert_eq!(answers, ["refused 6 0"]);
 }
 
 #[test]
