@@ -1,5 +1,6 @@
 /*
- * The stack that station_check and station_run need, in bytes, on the smallest script and on the deepest legal ones.
+ * The stack that station_check, station_flows and station_run need, in bytes, on the smallest script and on the deepest
+ * legal ones.
  *
  *   gcc -O2 -Iinclude tests/speed/stack.c target/staticlib/libengine.a -pthread -Wl,-z,now -o target/stack
  *   target/stack
@@ -342,14 +343,18 @@ static const struct chain {
 
 static const uint8_t book[] = { 1, 0x00, 0x01 };
 
+enum { CHECK, FLOWS, RUN, CALLS };
+static const char *const call_names[CALLS] = { "check", "flows", "run" };
+
 struct call {
-    int runs; /* station_run, else station_check */
+    int which; /* CHECK, FLOWS or RUN */
     uint8_t file[4 * STATION_MAX_NAMES + 8 * STATION_MAX_EXPRESSIONS + 8 * STATION_MAX_NODES + 8];
     size_t length;
     int32_t values[STATION_MAX_NAMES];
     size_t name_count;
     uint32_t list[INSTANTS * STATION_PAIR_WORDS];
     uint32_t log[4 * 1024];
+    uint32_t flows[STATION_MAX_LEVELS];
     uint32_t out[STATION_RUN_WORDS];
     uint8_t *frame;
 };
@@ -358,12 +363,14 @@ static void *make_call(void *argument)
 {
     struct call *c = argument;
     c->frame = __builtin_frame_address(0);
-    if (c->runs)
+    if (c->which == CHECK)
+        station_check(book, sizeof book, c->file, c->length, c->out, STATION_CHECK_WORDS);
+    else if (c->which == FLOWS)
+        station_flows(c->file, c->length, c->flows, STATION_MAX_LEVELS, c->out, STATION_FLOWS_WORDS);
+    else
         station_run(book, sizeof book, c->file, c->length, 0, c->values, c->name_count, 5000, c->list,
                     sizeof c->list / sizeof c->list[0], c->log, sizeof c->log / sizeof c->log[0], c->out,
                     STATION_RUN_WORDS);
-    else
-        station_check(book, sizeof book, c->file, c->length, c->out, STATION_CHECK_WORDS);
     return NULL;
 }
 
@@ -399,7 +406,7 @@ static void let_arrive(struct call *c, unsigned signal)
     }
 }
 
-static size_t measure_chain(const struct chain *chain, int runs, uint8_t *stack)
+static size_t measure_chain(const struct chain *chain, int which, uint8_t *stack)
 {
     static struct draft d;
     static struct call c;
@@ -410,7 +417,7 @@ static size_t measure_chain(const struct chain *chain, int runs, uint8_t *stack)
     memset(&c, 0, sizeof c);
     n = session_names(&d);
     chain->make(&d, &n);
-    c.runs = runs;
+    c.which = which;
     c.length = write_file(&d, c.file);
     c.name_count = d.name_count;
     c.values[n.there] = 1;
@@ -425,25 +432,32 @@ static size_t measure_chain(const struct chain *chain, int runs, uint8_t *stack)
 
 int main(void)
 {
-    const char *by[2] = { "", "" };
-    size_t most[2] = { 0, 0 };
+    const char *by[CALLS] = { "", "", "" };
+    size_t most[CALLS] = { 0, 0, 0 };
+    int enough = 1;
     uint8_t *stack = mmap(NULL, STACK_BYTES, PROT_READ | PROT_WRITE, MAP_PRIVATE | MAP_ANONYMOUS, -1, 0);
 
     if (stack == MAP_FAILED)
         stop("no memory");
-    printf("%-50s%10s%10s\n", "bytes of stack", "check", "run");
+    printf("%-50s", "bytes of stack");
+    for (int which = 0; which < CALLS; which++)
+        printf("%10s", call_names[which]);
+    printf("\n");
     for (size_t i = 0; i < sizeof chains / sizeof chains[0]; i++) {
-        size_t bytes[2];
-        for (int runs = 0; runs < 2; runs++) {
-            bytes[runs] = measure_chain(&chains[i], runs, stack);
-            if (bytes[runs] > most[runs]) {
-                most[runs] = bytes[runs];
-                by[runs] = chains[i].label;
+        printf("%-50s", chains[i].label);
+        for (int which = 0; which < CALLS; which++) {
+            size_t bytes = measure_chain(&chains[i], which, stack);
+            if (bytes > most[which]) {
+                most[which] = bytes;
+                by[which] = chains[i].label;
             }
+            printf("%10zu", bytes);
         }
-        printf("%-50s%10zu%10zu\n", chains[i].label, bytes[0], bytes[1]);
+        printf("\n");
     }
-    printf("most for check: %zu, by: %s\n", most[0], by[0]);
-    printf("most for run: %zu, by: %s\n", most[1], by[1]);
-    return most[0] <= ENOUGH && most[1] <= ENOUGH ? 0 : 1;
+    for (int which = 0; which < CALLS; which++) {
+        printf("most for %s: %zu, by: %s\n", call_names[which], most[which], by[which]);
+        enough = enough && most[which] <= ENOUGH;
+    }
+    return enough ? 0 : 1;
 }

@@ -1,6 +1,6 @@
-//! The library's two calls, through the safe crate, with their answers as numbers.
+//! The library's three calls, through the safe crate, with their answers as numbers.
 
-use station::Refusal;
+use station::{Refusal, MAX_LEVELS};
 
 /// Number, place, W, T.
 pub fn check(book: &[u8], script: &[u8]) -> [u32; 4] {
@@ -10,6 +10,14 @@ pub fn check(book: &[u8], script: &[u8]) -> [u32; 4] {
             let [number, place] = numbers(refusal);
             [number, place, 0, 0]
         }
+    }
+}
+
+/// Number and place, and the flows that the script needs.
+pub fn flows(script: &[u8]) -> ([u32; 2], [u32; MAX_LEVELS]) {
+    match station::flows(script) {
+        Ok(flows) => ([0, 0], flows.words()),
+        Err(refusal) => (numbers(refusal), [0; MAX_LEVELS]),
     }
 }
 

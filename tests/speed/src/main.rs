@@ -1,7 +1,7 @@
 //! The library beside a plain interpreter: `cargo run --release --offline -p speed`.
 //!
 //! `speed SIDE NAME COUNT` is for a profiler. It runs one workload once with this step limit, or makes so many calls of
-//! check, on side 0 (library), 1 (plain) or 2 (resting). `speed names` prints the names.
+//! check or flows, on side 0 (library), 1 (plain) or 2 (resting). `speed names` prints the names.
 
 mod draft;
 mod library;
@@ -44,6 +44,12 @@ fn tables() {
     for check in workloads::checks() {
         row(check.name, measure::check(&check).map(|time| time * 1e9));
     }
+    for question in workloads::questions() {
+        row(
+            question.name,
+            measure::flows(&question).map(|time| time * 1e9),
+        );
+    }
     for Workload { name, call } in workloads::starts() {
         row(&name, measure::start(&name, &call).map(|time| time * 1e9));
     }
@@ -76,6 +82,9 @@ fn names() {
     workloads::checks()
         .iter()
         .for_each(|check| println!("{}", check.name));
+    workloads::questions()
+        .iter()
+        .for_each(|question| println!("{}", question.name));
 }
 
 fn once(side: &str, name: &str, count: &str) {
@@ -98,7 +107,14 @@ fn once(side: &str, name: &str, count: &str) {
         for _ in 0..count {
             black_box(measure::check_on(side, &check.book, &check.script));
         }
+    } else if let Some(question) = workloads::questions()
+        .into_iter()
+        .find(|question| question.name == name)
+    {
+        for _ in 0..count {
+            black_box(measure::flows_on(side, &question.script));
+        }
     } else {
-        eprintln!("name: that of a run or of a check");
+        eprintln!("name: that of a run, of a check or of a question for flows");
     }
 }

@@ -2,9 +2,9 @@
 
 use std::hint::black_box;
 
-use crate::plain::{Arguments, Variant};
+use crate::plain::{Arguments, Flows, Variant};
 use crate::timing::in_turn;
-use crate::workloads::{Call, Check};
+use crate::workloads::{Call, Check, Question};
 use crate::{library, plain};
 
 /// Calls in one timed run of what is too short to be timed alone.
@@ -13,7 +13,7 @@ const CALLS: u32 = 200;
 /// Library, plain, resting.
 pub const RUN_SIDES: usize = 3;
 
-/// Library, plain.
+/// Library, plain: of check and of flows.
 pub const CHECK_SIDES: usize = 2;
 
 /// What a log word holds before the runs that are compared: no word of a line is like it.
@@ -55,6 +55,13 @@ pub fn check_on(side: usize, book: &[u8], script: &[u8]) -> [u32; 4] {
     }
 }
 
+pub fn flows_on(side: usize, script: &[u8]) -> ([u32; 2], Flows) {
+    match side {
+        0 => library::flows(script),
+        _ => plain::flows(script),
+    }
+}
+
 /// What a run returns; panics unless all sides return and leave the same.
 pub fn agreed_run(name: &str, call: &Call, limit: u32) -> [u32; 6] {
     let outcome = |side| {
@@ -76,6 +83,12 @@ pub fn agreed_check(name: &str, book: &[u8], script: &[u8]) -> [u32; 4] {
     let out = check_on(0, book, script);
     assert_eq!(out, check_on(1, book, script), "{name}");
     out
+}
+
+pub fn agreed_flows(name: &str, script: &[u8]) -> ([u32; 2], Flows) {
+    let answer = flows_on(0, script);
+    assert_eq!(answer, flows_on(1, script), "{name}: flows");
+    answer
 }
 
 fn accepted_run(name: &str, call: &Call) -> [u32; 6] {
@@ -123,10 +136,28 @@ pub fn check(check: &Check) -> [f64; CHECK_SIDES] {
     } = check;
     let out = agreed_check(name, book, script);
     assert_eq!(out[0], *refusal, "{name}: refused");
-    let times: [f64; CHECK_SIDES] = in_turn(|side| {
-        for _ in 0..CALLS {
-            black_box(check_on(side, black_box(book), black_box(script)));
-        }
-    });
+    timed_calls(|side| {
+        black_box(check_on(side, black_box(book), black_box(script)));
+    })
+}
+
+/// Seconds for a call of flows.
+pub fn flows(question: &Question) -> [f64; CHECK_SIDES] {
+    let Question {
+        name,
+        script,
+        pairs,
+    } = question;
+    let (refusal, flows) = agreed_flows(name, script);
+    assert_eq!(refusal, [0, 0], "{name}: refused");
+    let count: u32 = flows.iter().map(|set| set.count_ones()).sum();
+    assert_eq!(count, *pairs, "{name}: pairs");
+    timed_calls(|side| {
+        black_box(flows_on(side, black_box(script)));
+    })
+}
+
+fn timed_calls(call: impl Fn(usize)) -> [f64; CHECK_SIDES] {
+    let times: [f64; CHECK_SIDES] = in_turn(|side| (0..CALLS).for_each(|_| call(side)));
     times.map(|time| time / CALLS as f64)
 }

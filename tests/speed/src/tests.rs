@@ -1,7 +1,9 @@
 //! The plain interpreter answers as the library does, on the workloads and on damaged files.
 
-use crate::measure::{agreed_check, agreed_run};
-use crate::workloads::{checks, growth, runs, starts, waits, Call, Check, Workload};
+use crate::measure::{agreed_check, agreed_flows, agreed_run};
+use crate::workloads::{
+    checks, growth, questions, runs, starts, waits, Call, Check, Question, Workload,
+};
 
 /// Pseudo-random numbers (splitmix64).
 struct Rng(u64);
@@ -109,8 +111,23 @@ fn damaged_scripts_agree() {
             call.log = 40;
             agreed_check(&name, &call.book, &call.script);
             agreed_run(&name, &call, 200);
+            agreed_flows(&name, &call.script);
         }
     }
+}
+
+#[test]
+fn flows_of_damaged_scripts_agree() {
+    let mut rng = Rng(5);
+    let mut numbers = std::collections::BTreeSet::new();
+    for Question { name, script, .. } in questions() {
+        for _ in 0..20_000 {
+            let mut damaged = script.clone();
+            (0..=rng.below(3)).for_each(|_| rng.damage(&mut damaged));
+            numbers.insert(agreed_flows(name, &damaged).0[0]);
+        }
+    }
+    assert_eq!(Vec::from_iter(numbers), [0, 4, 5, 6, 7, 8, 9, 10]);
 }
 
 #[test]

@@ -37,6 +37,14 @@ pub struct Check {
     pub refusal: u32,
 }
 
+/// A call of flows.
+pub struct Question {
+    pub name: &'static str,
+    pub script: Vec<u8>,
+    /// How many flows the script needs.
+    pub pairs: u32,
+}
+
 impl Workload {
     fn with_limit(mut self, limit: u32) -> Workload {
         self.call.limit = limit;
@@ -104,6 +112,20 @@ pub fn checks() -> Vec<Check> {
             ..of_book("check: 16 levels, refused at the last pair", refused_last())
         },
         accepted("check: 16 levels, largest file", subsets(), largest()),
+    ]
+}
+
+/// Of the largest file the levels are those that its book allows; in the last one every level is tested and written.
+pub fn questions() -> Vec<Question> {
+    let question = |name, script, pairs| Question {
+        name,
+        script,
+        pairs,
+    };
+    vec![
+        question("flows: five nodes", copying(), 1),
+        question("flows: largest file", largest(), 15),
+        question("flows: 254 nodes, every pair of levels", every_pair(), 240),
     ]
 }
 
@@ -418,6 +440,35 @@ fn lock(name: &str, instant: Option<u32>) -> Workload {
     let set = draft.assign(x, one);
     draft.when(lock, set);
     workload(name, draft, 0).with_arrivals(lock, instant)
+}
+
+/// `(if x then y := 1 else nil); y := x`, from the low level to the high one.
+fn copying() -> Vec<u8> {
+    let mut draft = Draft::default();
+    let (x, y) = (draft.register(LOW), draft.register(HIGH));
+    let (test, one, value) = (draft.read(x), draft.constant(1), draft.read(x));
+    let (set, nil) = (draft.assign(y, one), draft.nil());
+    let choice = draft.if_else(test, set, nil);
+    let copy = draft.assign(y, value);
+    draft.sequence(choice, copy);
+    draft.file()
+}
+
+/// `when s do emit s` beside each other, with signals of all levels in turn.
+fn every_pair() -> Vec<u8> {
+    let mut draft = Draft::default();
+    let signals: Vec<u16> = (0..16).map(|level| draft.signal(level)).collect();
+    let threads: Vec<u16> = signals
+        .iter()
+        .cycle()
+        .take(85)
+        .map(|&s| {
+            let emit = draft.emit(s);
+            draft.when(s, emit)
+        })
+        .collect();
+    nested(&mut draft, &threads, Nesting::Left);
+    draft.file()
 }
 
 /// A file of 64 names, 256 expressions and 256 nodes, with every kind of entry, accepted under `subsets`.

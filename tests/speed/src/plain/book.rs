@@ -2,7 +2,7 @@
 
 use super::{refusal, Refusal};
 
-const MAX_LEVELS: usize = 16;
+pub const MAX_LEVELS: usize = 16;
 
 type Rows = [u16; MAX_LEVELS];
 type Table = [[u8; MAX_LEVELS]; MAX_LEVELS];

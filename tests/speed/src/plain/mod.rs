@@ -12,13 +12,15 @@ mod book;
 mod expression;
 mod faults;
 mod flow;
+mod flows;
 mod layout;
 mod machine;
 mod reach;
 mod resting;
 mod script;
 
-use book::Book;
+use book::{Book, MAX_LEVELS};
+pub use flows::Flows;
 use machine::Machine;
 use script::{Name, Script};
 
@@ -45,6 +47,14 @@ pub fn check(book: &[u8], script: &[u8]) -> [u32; 4] {
     match prepare(book, script) {
         Ok((_, _, levels)) => [0, 0, levels.write as u32, levels.test as u32],
         Err(refusal) => [refusal.number, refusal.place, 0, 0],
+    }
+}
+
+/// Number and place, and the flows that the script needs.
+pub fn flows(script: &[u8]) -> ([u32; 2], Flows) {
+    match script::load(script, MAX_LEVELS) {
+        Ok(script) => ([0, 0], flows::flows(&script)),
+        Err(refusal) => ([refusal.number, refusal.place], [0; MAX_LEVELS]),
     }
 }
 
