@@ -63,6 +63,9 @@ fn needed(expressions: &[Entry], nodes: &[Entry]) -> Vec<(u32, u32)> {
 /// A node that tests the signal P and writes nothing: with a nil, nodes 0 and 1 of a script.
 const TEST_P: [Entry; 2] = [[NIL, 0, 0, 0], [WHEN, P, 0, 0]];
 
+/// `emit Q; (when P do nil)`, which tests after it has written: nodes 0 to 3 of a script.
+const WRITE_Q_TEST_P: [Entry; 4] = [TEST_P[0], TEST_P[1], [EMIT, Q, 0, 0], [SEQUENCE, 2, 1, 0]];
+
 #[test]
 fn each_register_of_an_expression_flows_to_what_is_assigned() {
     let sum = |a, b| [[REGISTER, a, 0, 0], [REGISTER, b, 0, 0], [ADD, 0, 1, 0]];
@@ -108,12 +111,9 @@ fn when_and_watching_join_their_signal_with_the_body() {
 
 #[test]
 fn a_while_joins_all_that_it_tests_with_all_that_it_writes() {
-    // emit Q; (when P do nil)
-    let [nil, test] = TEST_P;
-    let body = [nil, test, [EMIT, Q, 0, 0], [SEQUENCE, 2, 1, 0]];
-    assert_eq!(needed(&[], &body), []);
-    let mut nodes = body.to_vec();
-    nodes.push([WHILE, 0, 3, 0]);
+    let body = &WRITE_Q_TEST_P[..];
+    assert_eq!(needed(&[], body), []);
+    let nodes = [body, &[[WHILE, 0, 3, 0]]].concat();
     assert_eq!(needed(&[[REGISTER, A, 0, 0]], &nodes), [(0, 4), (3, 4)]);
 }
 
@@ -125,6 +125,22 @@ fn a_sequence_joins_one_way_and_a_parallel_both() {
     assert_eq!(joined(SEQUENCE, 2, 1), []);
     assert_eq!(joined(PARALLEL, 1, 2), [(3, 4)]);
     assert_eq!(joined(PARALLEL, 2, 1), [(3, 4)]);
+}
+
+#[test]
+fn none_but_a_while_joins_a_part_with_itself() {
+    let (part, nil) = (&WRITE_Q_TEST_P[..], [NIL, 0, 0, 0]);
+    let under = |last| needed(&[], &[part, &[last]].concat());
+    let beside = |expressions, last| needed(expressions, &[part, &[nil, last]].concat());
+    for kind in [SEQUENCE, PARALLEL] {
+        assert_eq!(beside(&[], [kind, 3, 4, 0]), []);
+        assert_eq!(beside(&[], [kind, 4, 3, 0]), []);
+    }
+    for kind in [WHEN, WATCHING] {
+        assert_eq!(under([kind, R, 3, 0]), [(5, 4)]);
+    }
+    let test_a = [[REGISTER, A, 0, 0]];
+    assert_eq!(beside(&test_a, [IF, 0, 3, 4]), [(0, 4)]);
 }
 
 #[test]
