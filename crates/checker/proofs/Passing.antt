@@ -30,7 +30,7 @@ module _ (b s : List ℕ) where
   pub checked : scripts.isAccepted s (count b) ≡ true → Checked s
   checked h = accepted-exactly .checked s (count b) h .0
 
-  flow-passes : Checked s → passes (flowRefusal (bookLattice b) s) ≡ needs (bookLattice b) (namesOf s) (tree s)
+  pub flow-passes : Checked s → passes (flowRefusal (bookLattice b) s) ≡ needs (bookLattice b) (namesOf s) (tree s)
   flow-passes ok =
       let f : ℕ = firstFailing (bookLattice b) s in
       found-passes 11 f refl f (nodeCount s) (first-within _ (nodeCount s))

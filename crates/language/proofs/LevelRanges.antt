@@ -21,19 +21,20 @@ module _ {L : Type 0} (𝓛 : Lattice L) (P : L → Type 0) where
     pub top : P (𝓛 .top)
     pub bottom : P (𝓛 .bottom)
 
-module _ {L : Type 0} (𝓛 : Lattice L) (P : L → Type 0) (closed : Closed 𝓛 P) (names : Names L) where
-  -- P holds of the levels of the names in a scope, and of those that a process declares
-  abbrev HoldsIn : (ℕ → Bool) → Type 0
+-- P holds of the levels of the names in a scope, and of those that a process declares
+module _ {L : Type 0} (P : L → Type 0) (names : Names L) where
+  abbrev pub HoldsIn : (ℕ → Bool) → Type 0
   HoldsIn scope = (x : ℕ) → scope x ≡ true → P (names .level x)
 
-  abbrev HoldsOfDeclared : Proc L → Type 0
+  abbrev pub HoldsOfDeclared : Proc L → Type 0
   HoldsOfDeclared p = (k : Kind) (x : ℕ) → Declared k x p → P (names .level x)
 
-  holds-with : (scope : ℕ → Bool) (x : ℕ) → P (names .level x) → HoldsIn scope → HoldsIn (withName scope x)
+  pub holds-with : (scope : ℕ → Bool) (x : ℕ) → P (names .level x) → HoldsIn scope → HoldsIn (withName scope x)
   holds-with scope x h all y g =
       or-cases (eqb x y) (scope y) g (λ e. subst (λ z. P (names .level z)) (eqb-true x y e) h) (λ e. all y e)
 
-  exp-level : (scope : ℕ → Bool) → HoldsIn scope → (e : Exp) → ReadsIn names scope e → P (expLevel 𝓛 names e)
+module _ {L : Type 0} (𝓛 : Lattice L) (P : L → Type 0) (closed : Closed 𝓛 P) (names : Names L) where
+  exp-level : (scope : ℕ → Bool) → HoldsIn P names scope → (e : Exp) → ReadsIn names scope e → P (expLevel 𝓛 names e)
   unfolding expLevel
   exp-level scope all (constant v) u = closed .bottom
   exp-level scope all (register x) u = all x (u x here .0)
@@ -52,13 +53,13 @@ module _ {L : Type 0} (𝓛 : Lattice L) (P : L → Type 0) (closed : Closed �
   tested d h = (h .0, closed .join _ _ d (h .1))
 
   pub levels-in :
-      (p : Proc L) (scope : ℕ → Bool) → HoldsIn scope → HoldsOfDeclared p → Scoped names scope p →
+      (p : Proc L) (scope : ℕ → Bool) → HoldsIn P names scope → HoldsOfDeclared P names p → Scoped names scope p →
       Pair (writeLevel 𝓛 names p) (testLevel 𝓛 names p)
   unfolding writeLevel testLevel
   levels-in nil scope all new u = (closed .top, closed .bottom)
   levels-in (assign x e) scope all new u = (all x (u .0 .0), closed .bottom)
   levels-in (letIn x δ e p) scope all new u =
-      levels-in p _ (holds-with scope x (new var x (inl (same-self var x))) all) (λ k y d. new k y (inr d)) (u .2)
+      levels-in p _ (holds-with P names scope x (new var x (inl (same-self var x))) all) (λ k y d. new k y (inr d)) (u .2)
   levels-in (ifThenElse e p q) scope all new u =
       tested (exp-level scope all e (u .0))
       (both (levels-in p scope all (λ k y d. new k y (inl d)) (u .1)) (levels-in q scope all (λ k y d. new k y (inr d)) (u .2)))
@@ -67,7 +68,7 @@ module _ {L : Type 0} (𝓛 : Lattice L) (P : L → Type 0) (closed : Closed �
       both (levels-in p scope all (λ k y d. new k y (inl d)) (u .0)) (levels-in q scope all (λ k y d. new k y (inr d)) (u .1))
   levels-in (emit a) scope all new u = (all a (u .0), closed .bottom)
   levels-in (local a δ p) scope all new u =
-      levels-in p _ (holds-with scope a (new sig a (inl (same-self sig a))) all) (λ k y d. new k y (inr d)) (u .1)
+      levels-in p _ (holds-with P names scope a (new sig a (inl (same-self sig a))) all) (λ k y d. new k y (inr d)) (u .1)
   levels-in (watching a p) scope all new u = tested (all a (u .0 .0)) (levels-in p scope all new (u .1))
   levels-in (when a p) scope all new u = tested (all a (u .0 .0)) (levels-in p scope all new (u .1))
   levels-in (parallel p q) scope all new u =

@@ -1,52 +1,67 @@
--- The needs of a process hold exactly when every flow that it needs is in the order: D and T are least upper levels of
--- what they join, W is the greatest lower level of what it meets.
-use mathlib.Core.Path.{_≡_, refl, sym, ap, _∙_, subst}
-use mathlib.Core.Bool.{Bool, true, false, _&&_, _||_, false≢true}
-use mathlib.Core.Logic.{_↔_}
+-- The needs of a process hold exactly when no flow that it needs is absent from the order: D and T are least upper
+-- levels of what they join, W is the greatest lower level of what it meets.
+use mathlib.Core.Path.{_≡_, refl, sym, _∙_, subst}
+use mathlib.Core.Bool.{Bool, true, false, _&&_, _||_, true≢false, false≢true}
 use Prim.Native.Nat.{ℕ}
 use lib.Dec.{eqb}
 use borrow.Author.Tests.{eqb-true, eq-eqb}
-use Rattle.prelude.proofs.Bools.{and-intro, and-left, and-right, or-first, or-true, or-cases}
+use Rattle.prelude.proofs.Bools.{fails, and-intro, and-left, and-right, or-first, or-true, or-cases}
 use Rattle.lattice.specs.Lattice.{Lattice, Laws}
 use Rattle.language.specs.Syntax.{Names, Exp, constant, register, binary, negated, Proc, nil, assign, letIn, ifThenElse, while, sequence, emit, local, watching, when, parallel}
 use Rattle.language.specs.Levels.{expLevel, writeLevel, testLevel, need, needs}
-use Rattle.language.specs.RequiredFlows.{isLevel, reads, tests, writes, needsFlow, mustFlow}
-use Rattle.language.specs.Typing.{Below}
+use Rattle.language.specs.RequiredFlows.{reads, tests, writes, needsFlow, mustFlow}
 use Rattle.language.proofs.Orders.{via}
 
--- every pair of two sets, and of either of two sets of pairs
+-- a conjunction that fails, by its two cases
+and-cases : {M : Type 0} (a b : Bool) → (a && b) ≡ false → (a ≡ false → M) → (b ≡ false → M) → M
+and-cases true b h f g = g h
+and-cases false b h f g = f refl
+
 module _ (𝓛 : Lattice ℕ) where
-  abbrev pub Allowed : (ℕ → ℕ → Bool) → Type 0
-  Allowed f = (i j : ℕ) → f i j ≡ true → Below 𝓛 i j
+  -- a need holds only if these flows are in the order; where it does not hold, one of them is absent
+  pub record Agrees (holds : Bool) (flow : ℕ → ℕ → Bool) : Type 0 where
+    pub allowed : holds ≡ true → (i j : ℕ) → flow i j ≡ true → 𝓛 .leq i j ≡ true
+    pub absent : holds ≡ false → (i : ℕ) × (j : ℕ) × (flow i j ≡ true) × (𝓛 .leq i j ≡ false)
 
-  both : (f g : ℕ → ℕ → Bool) → Allowed f → Allowed g → Allowed (λ i j. f i j || g i j)
-  both f g h k i j e = or-cases (f i j) (g i j) e (h i j) (k i j)
+  nothing : Agrees true (λ i j. false)
+  nothing = record { allowed = λ h i j e. absurd (false≢true e); absent = λ h. absurd (true≢false h) }
 
-  first : (f g : ℕ → ℕ → Bool) → Allowed (λ i j. f i j || g i j) → Allowed f
-  first f g h i j e = h i j (or-first (f i j) (g i j) e)
-
-  second : (f g : ℕ → ℕ → Bool) → Allowed (λ i j. f i j || g i j) → Allowed g
-  second f g h i j e = h i j (or-true (f i j) (g i j) e)
+  two : {a b : Bool} {f g : ℕ → ℕ → Bool} → Agrees a f → Agrees b g → Agrees (a && b) (λ i j. f i j || g i j)
+  two {a} {b} {f} {g} h k =
+      record {
+        allowed =
+            λ e i j.
+            (λ t. or-cases (f i j) (g i j) t (h .allowed (and-left a b e) i j) (k .allowed (and-right a b e) i j));
+        absent =
+            λ e.
+            and-cases a b e
+            (λ z. let w = h .absent z in (w .0, w .1, or-first (f (w .0) (w .1)) (g (w .0) (w .1)) (w .2), w .3))
+            (λ z. let w = k .absent z in (w .0, w .1, or-true (f (w .0) (w .1)) (g (w .0) (w .1)) (w .2), w .3));
+      }
 
 module _ (𝓛 : Lattice ℕ) (laws : Laws 𝓛) where
-  -- u is the least upper level of the levels in a set, ..
+  -- u is the least upper level of the levels in a set: where it is not at or below c, one of them is not, ..
   record Upper (set : ℕ → Bool) (u : ℕ) : Type 0 where
-    above : (i : ℕ) → set i ≡ true → Below 𝓛 i u
-    least : (c : ℕ) → ((i : ℕ) → set i ≡ true → Below 𝓛 i c) → Below 𝓛 u c
+    above : (i : ℕ) → set i ≡ true → 𝓛 .leq i u ≡ true
+    least : (c : ℕ) → 𝓛 .leq u c ≡ false → (i : ℕ) × (set i ≡ true) × (𝓛 .leq i c ≡ false)
 
   -- .. and w the greatest lower level
   record Lower (set : ℕ → Bool) (w : ℕ) : Type 0 where
-    below : (j : ℕ) → set j ≡ true → Below 𝓛 w j
-    greatest : (c : ℕ) → ((j : ℕ) → set j ≡ true → Below 𝓛 c j) → Below 𝓛 c w
+    below : (j : ℕ) → set j ≡ true → 𝓛 .leq w j ≡ true
+    greatest : (c : ℕ) → 𝓛 .leq c w ≡ false → (j : ℕ) × (set j ≡ true) × (𝓛 .leq c j ≡ false)
 
   none-upper : Upper (λ _. false) (𝓛 .bottom)
-  none-upper = record { above = λ i e. absurd (false≢true e); least = λ c h. laws .above-bottom c }
+  none-upper =
+      record {
+        above = λ i e. absurd (false≢true e);
+        least = λ c h. absurd (true≢false (sym (laws .above-bottom c) ∙ h));
+      }
 
-  one-upper : (a : ℕ) → Upper (λ i. eqb a i) a
+  one-upper : (a : ℕ) → Upper (eqb a) a
   one-upper a =
       record {
-        above = λ i e. subst (λ x. Below 𝓛 x a) (eqb-true a i e) (laws .reflexive a);
-        least = λ c h. h a (eq-eqb a a refl);
+        above = λ i e. subst (λ x. 𝓛 .leq x a ≡ true) (eqb-true a i e) (laws .reflexive a);
+        least = λ c h. (a, eq-eqb a a refl, h);
       }
 
   join-upper : {f g : ℕ → Bool} {a b : ℕ} → Upper f a → Upper g b → Upper (λ i. f i || g i) (𝓛 .join a b)
@@ -54,23 +69,28 @@ module _ (𝓛 : Lattice ℕ) (laws : Laws 𝓛) where
       record {
         above =
             λ i e.
-            or-cases (f i) (g i) e
-            (λ u. via 𝓛 laws (h .above i u) (laws .join-left a b))
+            or-cases (f i) (g i) e (λ u. via 𝓛 laws (h .above i u) (laws .join-left a b))
             (λ u. via 𝓛 laws (k .above i u) (laws .join-right a b));
         least =
-            λ c all.
-            laws .join-least a b c (h .least c (λ i u. all i (or-first (f i) (g i) u)))
-            (k .least c (λ i u. all i (or-true (f i) (g i) u)));
+            λ c e.
+            and-cases (𝓛 .leq a c) (𝓛 .leq b c)
+            (fails _ (λ t. true≢false (sym (laws .join-least a b c (and-left _ _ t) (and-right (𝓛 .leq a c) _ t)) ∙ e)))
+            (λ z. let w = h .least c z in (w .0, or-first (f (w .0)) (g (w .0)) (w .1), w .2))
+            (λ z. let w = k .least c z in (w .0, or-true (f (w .0)) (g (w .0)) (w .1), w .2));
       }
 
   none-lower : Lower (λ _. false) (𝓛 .top)
-  none-lower = record { below = λ j e. absurd (false≢true e); greatest = λ c h. laws .below-top c }
+  none-lower =
+      record {
+        below = λ j e. absurd (false≢true e);
+        greatest = λ c h. absurd (true≢false (sym (laws .below-top c) ∙ h));
+      }
 
-  one-lower : (a : ℕ) → Lower (λ j. eqb a j) a
+  one-lower : (a : ℕ) → Lower (eqb a) a
   one-lower a =
       record {
-        below = λ j e. subst (λ x. Below 𝓛 a x) (eqb-true a j e) (laws .reflexive a);
-        greatest = λ c h. h a (eq-eqb a a refl);
+        below = λ j e. subst (λ x. 𝓛 .leq a x ≡ true) (eqb-true a j e) (laws .reflexive a);
+        greatest = λ c h. (a, eq-eqb a a refl, h);
       }
 
   meet-lower : {f g : ℕ → Bool} {a b : ℕ} → Lower f a → Lower g b → Lower (λ j. f j || g j) (𝓛 .meet a b)
@@ -78,22 +98,29 @@ module _ (𝓛 : Lattice ℕ) (laws : Laws 𝓛) where
       record {
         below =
             λ j e.
-            or-cases (f j) (g j) e
-            (λ u. via 𝓛 laws (laws .meet-left a b) (h .below j u))
+            or-cases (f j) (g j) e (λ u. via 𝓛 laws (laws .meet-left a b) (h .below j u))
             (λ u. via 𝓛 laws (laws .meet-right a b) (k .below j u));
         greatest =
-            λ c all.
-            laws .meet-greatest a b c (h .greatest c (λ j u. all j (or-first (f j) (g j) u)))
-            (k .greatest c (λ j u. all j (or-true (f j) (g j) u)));
+            λ c e.
+            and-cases (𝓛 .leq c a) (𝓛 .leq c b)
+            (fails _ (λ t. true≢false (sym (laws .meet-greatest a b c (and-left _ _ t) (and-right (𝓛 .leq c a) _ t)) ∙ e)))
+            (λ z. let w = h .greatest c z in (w .0, or-first (f (w .0)) (g (w .0)) (w .1), w .2))
+            (λ z. let w = k .greatest c z in (w .0, or-true (f (w .0)) (g (w .0)) (w .1), w .2));
       }
 
   -- the one law: u is at or below w exactly when every level of the one set is at or below every level of the other
-  every : {f g : ℕ → Bool} {u w : ℕ} → Upper f u → Lower g w → Below 𝓛 u w ↔ Allowed 𝓛 (λ i j. f i && g j)
-  every {f} {g} {u} {w} h k = (
-    λ e i j t.
-        via 𝓛 laws (via 𝓛 laws (h .above i (and-left (f i) (g j) t)) e) (k .below j (and-right (f i) (g j) t)),
-    λ all. h .least w (λ i a. k .greatest i (λ j b. all i j (and-intro (f i) (g j) a b))),
-  )
+  every : {f g : ℕ → Bool} {u w : ℕ} → Upper f u → Lower g w → Agrees 𝓛 (𝓛 .leq u w) (λ i j. f i && g j)
+  every {f} {g} {u} {w} h k =
+      record {
+        allowed =
+            λ e i j t.
+            via 𝓛 laws (via 𝓛 laws (h .above i (and-left (f i) (g j) t)) e) (k .below j (and-right (f i) (g j) t));
+        absent =
+            λ e.
+            let a = h .least w e in
+            let b = k .greatest (a .0) (a .2) in
+            (a .0, b .0, and-intro (f (a .0)) (g (b .0)) (a .1) (b .1), b .2);
+      }
 
   module _ (names : Names ℕ) where
     reads-upper : (e : Exp) → Upper (reads names e) (expLevel 𝓛 names e)
@@ -131,43 +158,32 @@ module _ (𝓛 : Lattice ℕ) (laws : Laws 𝓛) where
     writes-lower (when a p) = writes-lower p
     writes-lower (parallel p q) = meet-lower (writes-lower p) (writes-lower q)
 
-    nothing-needed : (true ≡ true) ↔ Allowed 𝓛 (λ i j. false)
-    nothing-needed = (λ _ i j e. absurd (false≢true e), λ _. refl)
-
-    two :
-        {a b : Bool} {f g : ℕ → ℕ → Bool} → (a ≡ true) ↔ Allowed 𝓛 f → (b ≡ true) ↔ Allowed 𝓛 g →
-        ((a && b) ≡ true) ↔ Allowed 𝓛 (λ i j. f i j || g i j)
-    two {a} {b} {f} {g} h k = (
-      λ e. both 𝓛 f g (h .0 (and-left a b e)) (k .0 (and-right a b e)),
-      λ all. and-intro a b (h .1 (first 𝓛 f g all)) (k .1 (second 𝓛 f g all)),
-    )
-
     -- a node's own need
-    need-allowed : (p : Proc ℕ) → (need 𝓛 names p ≡ true) ↔ Allowed 𝓛 (needsFlow names p)
+    need-agrees : (p : Proc ℕ) → Agrees 𝓛 (need 𝓛 names p) (needsFlow names p)
     unfolding need needsFlow
-    need-allowed nil = nothing-needed
-    need-allowed (assign x e) = every (reads-upper e) (one-lower (names .level x))
-    need-allowed (letIn x δ e p) = every (reads-upper e) (one-lower (names .level x))
-    need-allowed (ifThenElse e p q) = every (reads-upper e) (meet-lower (writes-lower p) (writes-lower q))
-    need-allowed (while e p) = every (join-upper (reads-upper e) (tests-upper p)) (writes-lower p)
-    need-allowed (sequence p q) = every (tests-upper p) (writes-lower q)
-    need-allowed (emit a) = nothing-needed
-    need-allowed (local a δ p) = nothing-needed
-    need-allowed (watching a p) = every (one-upper (names .level a)) (writes-lower p)
-    need-allowed (when a p) = every (one-upper (names .level a)) (writes-lower p)
-    need-allowed (parallel p q) = two (every (tests-upper p) (writes-lower q)) (every (tests-upper q) (writes-lower p))
+    need-agrees nil = nothing 𝓛
+    need-agrees (assign x e) = every (reads-upper e) (one-lower (names .level x))
+    need-agrees (letIn x δ e p) = every (reads-upper e) (one-lower (names .level x))
+    need-agrees (ifThenElse e p q) = every (reads-upper e) (meet-lower (writes-lower p) (writes-lower q))
+    need-agrees (while e p) = every (join-upper (reads-upper e) (tests-upper p)) (writes-lower p)
+    need-agrees (sequence p q) = every (tests-upper p) (writes-lower q)
+    need-agrees (emit a) = nothing 𝓛
+    need-agrees (local a δ p) = nothing 𝓛
+    need-agrees (watching a p) = every (one-upper (names .level a)) (writes-lower p)
+    need-agrees (when a p) = every (one-upper (names .level a)) (writes-lower p)
+    need-agrees (parallel p q) = two 𝓛 (every (tests-upper p) (writes-lower q)) (every (tests-upper q) (writes-lower p))
 
     -- the needs of all nodes
-    pub needs-allowed : (p : Proc ℕ) → (needs 𝓛 names p ≡ true) ↔ Allowed 𝓛 (mustFlow names p)
+    pub needs-agrees : (p : Proc ℕ) → Agrees 𝓛 (needs 𝓛 names p) (mustFlow names p)
     unfolding needs mustFlow
-    needs-allowed nil = need-allowed nil
-    needs-allowed (assign x e) = need-allowed (assign x e)
-    needs-allowed (letIn x δ e p) = two (need-allowed (letIn x δ e p)) (needs-allowed p)
-    needs-allowed (ifThenElse e p q) = two (need-allowed (ifThenElse e p q)) (two (needs-allowed p) (needs-allowed q))
-    needs-allowed (while e p) = two (need-allowed (while e p)) (needs-allowed p)
-    needs-allowed (sequence p q) = two (need-allowed (sequence p q)) (two (needs-allowed p) (needs-allowed q))
-    needs-allowed (emit a) = need-allowed (emit a)
-    needs-allowed (local a δ p) = two (need-allowed (local a δ p)) (needs-allowed p)
-    needs-allowed (watching a p) = two (need-allowed (watching a p)) (needs-allowed p)
-    needs-allowed (when a p) = two (need-allowed (when a p)) (needs-allowed p)
-    needs-allowed (parallel p q) = two (need-allowed (parallel p q)) (two (needs-allowed p) (needs-allowed q))
+    needs-agrees nil = need-agrees nil
+    needs-agrees (assign x e) = need-agrees (assign x e)
+    needs-agrees (letIn x δ e p) = two 𝓛 (need-agrees (letIn x δ e p)) (needs-agrees p)
+    needs-agrees (ifThenElse e p q) = two 𝓛 (need-agrees (ifThenElse e p q)) (two 𝓛 (needs-agrees p) (needs-agrees q))
+    needs-agrees (while e p) = two 𝓛 (need-agrees (while e p)) (needs-agrees p)
+    needs-agrees (sequence p q) = two 𝓛 (need-agrees (sequence p q)) (two 𝓛 (needs-agrees p) (needs-agrees q))
+    needs-agrees (emit a) = need-agrees (emit a)
+    needs-agrees (local a δ p) = two 𝓛 (need-agrees (local a δ p)) (needs-agrees p)
+    needs-agrees (watching a p) = two 𝓛 (need-agrees (watching a p)) (needs-agrees p)
+    needs-agrees (when a p) = two 𝓛 (need-agrees (when a p)) (needs-agrees p)
+    needs-agrees (parallel p q) = two 𝓛 (need-agrees (parallel p q)) (two 𝓛 (needs-agrees p) (needs-agrees q))

@@ -12,7 +12,7 @@ use Rattle.language.specs.Levels.{writeLevel, testLevel, needs}
 use Rattle.language.specs.Steps.{held, Inputs, instantStart}
 use Rattle.language.specs.Calls.{System, starts, readable, reach}
 use Rattle.language.specs.Typing.{environment, Below, Typed}
-use Rattle.language.specs.Results.{AllAbsent, StepsAgree, RunsAgree, RunsJoin, LevelsAgree, StartsAgree, NonInterference}
+use Rattle.language.specs.Results.{AllAbsent, StepsAgree, RunsAgree, RunsJoin, LevelsAgree, FlowsAgree, StartsAgree, NonInterference}
 use Rattle.language.proofs.Needs.{Needs, needs-hold, hold-needs}
 use Rattle.language.proofs.Typing.{derives, derived, environment-covers, environment-agrees}
 use Rattle.language.proofs.Figures.{step-is, step-only, nil-rests}
@@ -22,6 +22,7 @@ use Rattle.language.proofs.Stores.{given-back-session}
 use Rattle.language.proofs.Lockstep.{Twins}
 use Rattle.language.proofs.Noninterference.{Same, agree, prefix}
 use Rattle.language.proofs.Flows.{safe-of}
+use Rattle.language.proofs.RequiredFlows.{needs-agrees}
 
 pub all-absent : {L : Type 0} (names : Names L) → AllAbsent names
 unfolding instantStart
@@ -73,6 +74,10 @@ module _
             {θ σ : L} → Typed 𝓛 (environment names scope) p θ σ →
             Needs 𝓛 names p × Below 𝓛 θ (writeLevel 𝓛 names p) × Below 𝓛 (testLevel 𝓛 names p) σ
         read d = derived 𝓛 laws names d scope (environment-agrees names scope) scoped
+
+pub flows-agree : (𝓛 : Lattice ℕ) → Laws 𝓛 → (names : Names ℕ) (p : Proc ℕ) → FlowsAgree 𝓛 names p
+flows-agree 𝓛 laws names p =
+    let h = needs-agrees 𝓛 laws names p in record { allowed = h .allowed; absent = h .absent }
 
 module _
     {L : Type 0} (𝓛 : Lattice L) (laws : Laws 𝓛) (names : Names L) (p : Proc L)

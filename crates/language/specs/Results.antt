@@ -11,6 +11,7 @@ use Rattle.prelude.specs.Table.{table}
 use Rattle.lattice.specs.Lattice.{Lattice}
 use Rattle.language.specs.Syntax.{Names, Proc, isNil}
 use Rattle.language.specs.Levels.{writeLevel, testLevel, needs}
+use Rattle.language.specs.RequiredFlows.{mustFlow}
 use Rattle.language.specs.Steps.{held, Output, Inputs, noInputs, instantStart}
 use Rattle.language.specs.Calls.{finished, spent, System, Run, Stop, starts, readable, calledFor, output, next, behind, reach, run}
 use Rattle.language.specs.Instants.{Step}
@@ -69,6 +70,13 @@ pub record LevelsAgree {L : Type 0} (𝓛 : Lattice L) (names : Names L) (Γ : E
   pub accepts : (needs 𝓛 names p ≡ true) ↔ ((θ : L) × (σ : L) × Typed 𝓛 Γ p θ σ)
   pub derivable : needs 𝓛 names p ≡ true → Typed 𝓛 Γ p (writeLevel 𝓛 names p) (testLevel 𝓛 names p)
   pub tightest : Tightest 𝓛 Γ p (writeLevel 𝓛 names p) (testLevel 𝓛 names p)
+
+-- 02 (e): the needs hold only if every flow that the process needs is in the order; where they do not hold, one of these
+-- is absent.
+pub record FlowsAgree (𝓛 : Lattice ℕ) (names : Names ℕ) (p : Proc ℕ) : Type 0 where
+  pub allowed : needs 𝓛 names p ≡ true → (i j : ℕ) → mustFlow names p i j ≡ true → 𝓛 .leq i j ≡ true
+  pub absent :
+      needs 𝓛 names p ≡ false → (i : ℕ) × (j : ℕ) × (mustFlow names p i j ≡ true) × (𝓛 .leq i j ≡ false)
 
 -- 'those lines that are stamped n or less', .. 'in the same order': the lines are records here and words in a log, so what
 -- tells the stamp of a line is given

@@ -1,13 +1,15 @@
--- Demands 2 and 3 about the two calls. `verdict` is what check answers and `left` what run leaves: their contracts in
--- engine/src/lib.rt say so, for every input. The proofs are in proofs/Theorems.antt.
+-- Demands 2 and 3 and 02 (e) about the calls. `verdict` is what check answers, `left` what run leaves and `flowsFound` what
+-- flows answers: their contracts in engine/src/lib.rt say so, for every input. The proofs are in proofs/Theorems.antt and
+-- proofs/Flows.antt.
 use mathlib.Core.Path.{_≡_}
-use mathlib.Core.Bool.{true, false}
+use mathlib.Core.Bool.{Bool, true, false}
 use mathlib.Core.Logic.{_↔_}
 use mathlib.Core.List.{List, []}
 use Prim.Native.Nat.{ℕ, _/_, _≤_, _<_}
 use lib.IntN.{ℤ}
-use lib.ListN.{length}
-use Rattle.book.specs.LevelBook.{count}
+use lib.ListN.{getD, length}
+use Rattle.prelude.specs.Sets.{has}
+use Rattle.book.specs.LevelBook.{count, rows, atOrBelow}
 use Rattle.lattice.specs.Lattice.{Laws, bookLattice}
 use Rattle.lattice.specs.Refusals as books
 use Rattle.language.specs.Steps.{held, noInputs}
@@ -22,7 +24,7 @@ use Rattle.layout.specs.Layout.{nameCount}
 use Rattle.layout.specs.Entries.{isSessionName}
 use Rattle.script.specs.Refusals as scripts
 use Rattle.tree.specs.Tree.{namesOf, tree}
-use Rattle.engine.specs.Answers.{verdict, runOf, Left, leftBy, left}
+use Rattle.engine.specs.Answers.{verdict, flowsFound, runOf, Left, leftBy, left}
 use Rattle.theorems.specs.Records.{recordOf, stamp}
 
 -- Γ: the session's names, each with its kind and level
@@ -51,6 +53,29 @@ pub record CheckAgrees (b s : List ℕ) : Type 0 where
       Typed (bookLattice b) (sessionEnvironment s) (tree s) θ σ →
       Tightest (bookLattice b) (sessionEnvironment s) (tree s) θ σ →
       (θ ≡ verdict b s .write) × (σ ≡ verdict b s .test)
+
+-- 02 (e): 'any book that passes 1 to 3 and has the script's levels': every name's level is below the book's n
+pub record HasLevels (b s : List ℕ) : Type 0 where
+  pub book : books.isAccepted b ≡ true
+  pub names : (x : ℕ) → x < nameCount s → namesOf s .level x < count b
+
+-- a listed pair: bit j of word i of what flows answers
+abbrev pub isListed : List ℕ → ℕ → ℕ → Bool
+isListed s i j = has (getD (flowsFound s .to) i 0) j
+
+-- 'refusal 11 is given exactly when some listed pair is absent from its order', of a file that flows does not refuse
+abbrev pub FlowsDecide : Type 0
+FlowsDecide =
+    (b s : List ℕ) → flowsFound s .number ≡ 0 → HasLevels b s →
+    (verdict b s .number ≡ 11)
+    ↔ ((i : ℕ) × (j : ℕ) × (isListed s i j ≡ true) × (atOrBelow (rows b) i j ≡ false))
+
+-- 'A passing book that only adds pairs therefore never refuses for flow what a smaller one let through.'
+abbrev pub FlowsGrow : Type 0
+FlowsGrow =
+    (b c s : List ℕ) → flowsFound s .number ≡ 0 → HasLevels b s → books.isAccepted c ≡ true →
+    ((i j : ℕ) → atOrBelow (rows b) i j ≡ true → atOrBelow (rows c) i j ≡ true) →
+    (verdict b s .number ≡ 11 → ⊥) → verdict c s .number ≡ 11 → ⊥
 
 -- Demand 2, the runner. A call that is not refused leaves what a path of the report's steps gives that ends where 01
 -- says; there is such a path, and no other.
