@@ -14,5 +14,5 @@ pub mod Lockstep
 pub mod Noninterference
 pub mod Flows
 pub mod RequiredFlows
-pub mod FlowRanges
+pub mod RequiredRanges
 pub mod Theorems

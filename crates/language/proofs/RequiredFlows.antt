@@ -5,17 +5,12 @@ use mathlib.Core.Bool.{Bool, true, false, _&&_, _||_, true≢false, false≢true
 use Prim.Native.Nat.{ℕ}
 use lib.Dec.{eqb}
 use borrow.Author.Tests.{eqb-true, eq-eqb}
-use Rattle.prelude.proofs.Bools.{fails, and-intro, and-left, and-right, or-first, or-true, or-cases}
+use Rattle.prelude.proofs.Bools.{fails, and-cases, and-intro, and-left, and-right, or-first, or-true, or-cases}
 use Rattle.lattice.specs.Lattice.{Lattice, Laws}
 use Rattle.language.specs.Syntax.{Names, Exp, constant, register, binary, negated, Proc, nil, assign, letIn, ifThenElse, while, sequence, emit, local, watching, when, parallel}
 use Rattle.language.specs.Levels.{expLevel, writeLevel, testLevel, need, needs}
 use Rattle.language.specs.RequiredFlows.{reads, tests, writes, needsFlow, mustFlow}
 use Rattle.language.proofs.Orders.{via}
-
--- a conjunction that fails, by its two cases
-and-cases : {M : Type 0} (a b : Bool) → (a && b) ≡ false → (a ≡ false → M) → (b ≡ false → M) → M
-and-cases true b h f g = g h
-and-cases false b h f g = f refl
 
 module _ (𝓛 : Lattice ℕ) where
   -- a need holds only if these flows are in the order; where it does not hold, one of them is absent

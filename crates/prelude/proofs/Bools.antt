@@ -19,6 +19,11 @@ pub and-right : (a b : Bool) → (a && b) ≡ true → b ≡ true
 and-right true b h = h
 and-right false b h = absurd (false≢true h)
 
+-- a conjunction that fails, by its two cases
+pub and-cases : {M : Type 0} (a b : Bool) → (a && b) ≡ false → (a ≡ false → M) → (b ≡ false → M) → M
+and-cases true b h f g = g h
+and-cases false b h f g = f refl
+
 -- a conjunction, by its first test
 pub and-second : (a b : Bool) → a ≡ true → (a && b) ≡ b
 and-second true b h = refl

@@ -2,12 +2,12 @@
 use mathlib.Core.Path.{_≡_, refl, sym, ap, _∙_, subst}
 use mathlib.Core.Bool.{Bool, true, false, cond, not, _&&_, _||_, true≢false, false≢true}
 use Prim.Native.Nat.{ℕ, zero, suc, _+_, _*_, _-_, _/_, _%_, _^_, _≤_, _<_, min, max}
-use native.Mathlib.Nat.{zero-div, div-one, suc-mul, zero-lt-suc, pow-suc, zero-min, min-le-left, zero-max, max-le, max-eq-left, le-of-suc-le-suc, mod-lt, mod-eq-of-lt, mod-one, div-eq-of-lt, div-self, mul-mod-left, mul-add-mod-self-right}
+use native.Mathlib.Nat.{zero-div, div-one, suc-mul, zero-lt-suc, pow-suc, zero-min, min-le-left, zero-max, max-le, max-eq-left, le-of-suc-le-suc, lt-of-lt-of-le, mod-lt, mod-eq-of-lt, mod-one, div-eq-of-lt, div-self, mul-mod-left, mul-add-mod-self-right}
 use native.Mathlib.Decide.{decLt, ℕ-discrete}
 use native.Mathlib.Omega.{arith}
 use lib.Dec.{eqb, ltb}
 use lib.Count.{trailingZeros, under}
-use lib.Pow.{pow-pos, pow-lt, pow-add, shl-shr, ones-lt, ones-split, split, high, low, field, shr-shr, mod-mod-pow, mod-pow-add}
+use lib.Pow.{pow-pos, pow-mono, pow-lt, pow-add, shl-shr, ones-lt, ones-split, split, high, low, field, shr-shr, mod-mod-pow, mod-pow-add}
 use lib.Bits.{bitAnd, and-shr, and-step, bitOr, or-shr, or-step}
 use borrow.Author.Tests.{ltb-false, eqb-true, eq-eqb, ne-eqb, not-true, not-false}
 use Rattle.prelude.specs.Search.{first}
@@ -345,3 +345,14 @@ pub set-same : (f g : ℕ → Bool) (n : ℕ) → ((y : ℕ) → y < n → f y �
 set-same f g n same =
     same-set (setOf f n) (setOf g n) n (set-lt f n) (set-lt g n)
     (λ y l. set-is f n y l ∙ same y l ∙ sym (set-is g n y l))
+
+-- the set of some numbers below n has no other
+pub set-below : (f : ℕ → Bool) (n y : ℕ) → has (setOf f n) y ≡ true → y < n
+set-below f n y h =
+    elim (decLt y n) [
+      | yes l ↦ l
+      | no l ↦
+          absurd
+          (false≢true
+          (sym (ap (λ k. eqb (k % 2) 1) (div-eq-of-lt (lt-of-lt-of-le (set-lt f n) (pow-mono (omega arith))))) ∙ h))
+    ]

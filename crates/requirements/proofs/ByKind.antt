@@ -1,6 +1,6 @@
 -- Tests, writes and flows by kind are `tests`, `writes`, `needsFlow` and `mustFlow` of a process, from what its children
 -- have.
-use mathlib.Core.Path.{_≡_, refl, sym, ap, _∙_}
+use mathlib.Core.Path.{_≡_, refl, _∙_}
 use mathlib.Core.Bool.{Bool, false, _&&_, _||_, or-false}
 use mathlib.Core.List.{List, [], _∷_}
 use Prim.Native.Nat.{ℕ}

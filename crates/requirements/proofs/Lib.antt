@@ -5,3 +5,4 @@ pub mod ByKind
 pub mod NodeEffects
 pub mod OwnViews
 pub mod NodeReads
+pub mod Worked

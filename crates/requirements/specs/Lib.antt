@@ -2,3 +2,4 @@
 pub mod Flows
 pub mod Nodes
 pub mod Contracts
+pub mod Examples

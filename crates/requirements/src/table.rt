@@ -6,7 +6,7 @@ ghost use mathlib.Core.Bool.{not, _&&_};
 ghost use lib.Dec.{eqb};
 ghost use lib.ListN.{getD};
 ghost use Prim.Native.Nat.{_<_};
-ghost use Rattle.prelude.specs.Sets.{has, IsSet, setOf};
+ghost use Rattle.prelude.specs.Sets.{has, setOf};
 ghost use Rattle.prelude.specs.Table.{table};
 ghost use Rattle.book.specs.LevelBook.{mostLevels};
 ghost use Rattle.requirements.specs.Contracts.{Long, Adds};

@@ -1,22 +1,19 @@
 -- 02 (e) about the calls: a script's flows and refusal 11. The statements stand in specs/Results.antt.
 use mathlib.Core.Path.{_≡_, refl, sym, ap, _∙_, subst}
-use mathlib.Core.Bool.{Bool, true, false, not, cond, _&&_, true≢false, false≢true}
-use mathlib.Core.Logic.{_↔_}
+use mathlib.Core.Bool.{Bool, true, false, not, true≢false, false≢true}
 use mathlib.Core.List.{List}
-use Prim.Native.Nat.{ℕ, _+_, _*_, _/_, _%_, _^_, _≤_, _<_}
-use native.Mathlib.Nat.{div-eq-of-lt, lt-of-lt-of-le}
-use native.Mathlib.Decide.{decLt, ℕ-discrete}
+use Prim.Native.Nat.{ℕ, _+_, _*_, _%_, _≤_, _<_}
+use native.Mathlib.Decide.{decLt}
 use native.Mathlib.Omega.{arith}
 use lib.Dec.{eqb, ltb}
-use lib.ListN.{getD, length, List·getD-eq-default}
-use lib.Pow.{pow-mono}
-use borrow.Author.Tests.{eqb-true, eq-eqb, ne-eqb, ltb-true, not-true}
+use lib.ListN.{getD, List·getD-eq-default}
+use borrow.Author.Tests.{eqb-true, eq-eqb, ne-eqb, ltb-true}
 use Rattle.prelude.specs.declared.Refusal.{Refusal}
 use Rattle.prelude.specs.Refusals.{refusedBy, notRefused, passes}
 use Rattle.prelude.specs.Sets.{has, setOf}
 use Rattle.prelude.proofs.Bools.{fails, by-cases, and-intro, and-left, and-right}
 use Rattle.prelude.proofs.Refusing.{passes-both, or-else-next}
-use Rattle.prelude.proofs.Sets.{has-zero, set-lt, set-is}
+use Rattle.prelude.proofs.Sets.{has-zero, set-is, set-below}
 use Rattle.prelude.proofs.Tables.{length-table, table-at}
 use Rattle.book.specs.LevelBook.{mostLevels, count, row, rows, atOrBelow}
 use Rattle.book.proofs.Sizes.{right-size}
@@ -28,7 +25,7 @@ use Rattle.lattice.proofs.Theorems.{level-lattice, book-laws, order-at, book-fe
 use Rattle.language.specs.Levels.{needs}
 use Rattle.language.specs.RequiredFlows.{mustFlow}
 use Rattle.language.specs.Results.{FlowsAgree}
-use Rattle.language.proofs.FlowRanges.{flows-in}
+use Rattle.language.proofs.RequiredRanges.{flows-in}
 use Rattle.language.proofs.Theorems as language
 use Rattle.layout.specs.Layout.{nameCount, nodeCount}
 use Rattle.script.specs.Checked.{Checked}
@@ -44,15 +41,6 @@ use Rattle.checker.specs.Refusals.{flowRefusal, checkRefusal}
 use Rattle.checker.proofs.Passing.{flow-passes}
 use Rattle.engine.specs.Answers.{verdict, fileRefusal, flowsFound}
 use Rattle.theorems.specs.Results.{HasLevels, isListed, FlowsDecide, FlowsGrow}
-
--- a set of numbers below n has no other
-set-below : (f : ℕ → Bool) (n y : ℕ) → has (setOf f n) y ≡ true → y < n
-set-below f n y h =
-    elim (decLt y n) [
-      | yes l ↦ l
-      | no l ↦
-          absurd (false≢true (sym (ap (λ k. eqb (k % 2) 1) (div-eq-of-lt (lt-of-lt-of-le (set-lt f n) (pow-mono (omega arith))))) ∙ h))
-    ]
 
 -- a file that flows does not refuse
 module _ (s : List ℕ) (zero : flowsFound s .number ≡ 0) where

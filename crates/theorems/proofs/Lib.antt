@@ -1,4 +1,4 @@
--- The theorems about the two calls.
+-- The theorems about the calls.
 pub mod Records
 pub mod Theorems
 pub mod Flows

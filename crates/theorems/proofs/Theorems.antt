@@ -1,4 +1,4 @@
--- The theorems about the two calls. Their statements stand in specs/Results.antt.
+-- Demands 2 and 3 about the calls. The statements stand in specs/Results.antt.
 use mathlib.Core.Path.{_≡_, refl, sym, ap, _∙_, subst}
 use mathlib.Core.Bool.{Bool, true, _&&_}
 use mathlib.Core.Option.{none, some}

@@ -2,10 +2,10 @@
 use mathlib.Core.Path.{_≡_, refl, ap₂, _∙_}
 use mathlib.Core.List.{List}
 use Prim.Native.Nat.{ℕ, zero, suc, _+_, _*_, _-_, _/_, _%_, _^_, _≤_, _<_}
-use native.Mathlib.Nat.{one-mul, le-refl, zero-lt-suc, mod-lt, pow-suc, lt-of-lt-of-le}
+use native.Mathlib.Nat.{zero-lt-suc, mod-lt, pow-suc, lt-of-lt-of-le}
 use native.Mathlib.Omega.{arith}
 use lib.ListN.{getD, length, set, take, length-set}
-use lib.Pow.{pow-mono, shl-exact}
+use lib.Pow.{pow-mono}
 use lib.Seq.{getD-set-other}
 use borrow.Author.Needs.{needs}
 use Rattle.prelude.specs.Table.{table}

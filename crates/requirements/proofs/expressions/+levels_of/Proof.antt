@@ -1,5 +1,4 @@
 -- `levels_of`: operands have smaller numbers; then by the kind.
-use mathlib.Core.Path.{_∙_}
 use native.Mathlib.Omega.{arith}
 use Rattle.layout.proofs.Layouts.{name-within, part-within}
 use Rattle.requirements.proofs.ExpressionLevels.{level-inside, ReadExpression, at-constant, register-known, at-register, first-operand, at-negated, second-operand, at-binary}

@@ -1,5 +1,5 @@
 -- `add_pair`: by the kind; in a sequence the way back is left out.
-use mathlib.Core.Path.{_≡_, refl, sym, ap, ap₂, _∙_}
+use mathlib.Core.Path.{_≡_, sym, ap, ap₂, _∙_}
 use mathlib.Core.Bool.{Bool, true, false, not, cond, _&&_, _||_, or-false}
 use Prim.Native.Nat.{ℕ}
 use lib.Dec.{eqb}

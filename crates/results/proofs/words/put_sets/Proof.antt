@@ -1,7 +1,6 @@
 -- `put_sets`: the words below i are stored.
 use mathlib.Core.Path.{_≡_, sym, _∙_}
-use Prim.Native.Nat.{ℕ, _-_, _≤_}
-use native.Mathlib.Omega.{arith}
+use Prim.Native.Nat.{_-_, _≤_}
 use lib.ListN.{getD, length, take, length-set}
 use borrow.Author.Needs.{needs}
 use borrow.Kind.Array.{eInt, good-length}
