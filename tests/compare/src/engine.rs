@@ -3,10 +3,8 @@
 use crate::raw;
 use reference::Rules;
 pub use reference::RunArguments;
-pub use station::raw::{CHECK_WORDS, RUN_WORDS};
-
-/// The words of `out` that flows asks for.
-pub const FLOWS_WORDS: usize = 2;
+pub use station::raw::{CHECK_WORDS, FLOWS_WORDS, RUN_WORDS};
+use station::{Refusal, MAX_LEVELS};
 
 /// Something that checks and runs scripts, and says what they would need. Answers go into `out`, as the C
 /// interface has it.
@@ -33,20 +31,27 @@ impl Engine for Raw {
     }
 }
 
-/// The library by its safe wrapper; flows by the C interface.
+/// The library by its safe wrapper.
 pub struct Wrapper;
 
 impl Engine for Wrapper {
     fn check(&self, book: &[u8], script: &[u8], out: &mut [u32]) {
         let answer = match station::check(book, script) {
             Ok(levels) => [0, 0, levels.write, levels.test],
-            Err(refusal) => [refusal.reason.number(), refusal.place, 0, 0],
+            Err(refusal) => {
+                let [number, place] = numbers(refusal);
+                [number, place, 0, 0]
+            }
         };
         put(out, &answer);
     }
 
     fn flows(&self, script: &[u8], flows: &mut [u32], out: &mut [u32]) {
-        raw::flows(script, flows, out);
+        let (answer, sets) = match station::flows(script) {
+            Ok(needed) => ([0, 0], needed.words()),
+            Err(refusal) => (numbers(refusal), [0; MAX_LEVELS]),
+        };
+        put_both(flows, &sets, out, &answer);
     }
 
     fn run(&self, book: &[u8], script: &[u8], arguments: RunArguments, out: &mut [u32]) {
@@ -62,7 +67,10 @@ impl Engine for Wrapper {
                 let lines = run.lines.try_into().unwrap_or(u32::MAX);
                 [0, 0, run.ending.number(), run.steps, run.instants, lines]
             }
-            Err(refusal) => [refusal.reason.number(), refusal.place, 0, 0, 0, 0],
+            Err(refusal) => {
+                let [number, place] = numbers(refusal);
+                [number, place, 0, 0, 0, 0]
+            }
         };
         put(out, &answer);
     }
@@ -82,10 +90,7 @@ impl Engine for Reference {
 
     fn flows(&self, script: &[u8], flows: &mut [u32], out: &mut [u32]) {
         let answer = reference::flows(self.0, script);
-        if flows.len() == answer.flows.len() && out.len() == FLOWS_WORDS {
-            put(flows, &answer.flows);
-            put(out, &[answer.number, answer.place]);
-        }
+        put_both(flows, &answer.flows, out, &[answer.number, answer.place]);
     }
 
     fn run(&self, book: &[u8], script: &[u8], arguments: RunArguments, out: &mut [u32]) {
@@ -102,6 +107,18 @@ impl Engine for Reference {
                 answer.lines,
             ],
         );
+    }
+}
+
+fn numbers(refusal: Refusal) -> [u32; 2] {
+    [refusal.reason.number(), refusal.place]
+}
+
+/// Writes both parts of an answer where both buffers have their lengths, and nothing elsewhere.
+fn put_both(flows: &mut [u32], sets: &[u32], out: &mut [u32], answer: &[u32]) {
+    if flows.len() == sets.len() && out.len() == answer.len() {
+        put(flows, sets);
+        put(out, answer);
     }
 }
 

@@ -1,8 +1,7 @@
 //! The papers' examples, against the library by both ways in and against the reference.
 
-use crate::engine::{Engine, Raw, Reference, Wrapper, CHECK_WORDS, FLOWS_WORDS};
-use crate::outcome::outcome;
-use cases::order::MOST_LEVELS;
+use crate::engine::{Engine, Raw, Reference, Wrapper, CHECK_WORDS};
+use crate::outcome::{outcome, Flows};
 use cases::Case;
 use reference::examples::{Example, ExampleRun};
 use reference::Rules;
@@ -40,10 +39,9 @@ fn flows(engine: &dyn Engine, example: &Example) -> Result<(), String> {
     let Some(answer) = example.expected_flows else {
         return Ok(());
     };
-    let (mut sets, mut out) = ([u32::MAX; MOST_LEVELS], [u32::MAX; FLOWS_WORDS]);
-    engine.flows(&example.script, &mut sets, &mut out);
-    equal("flows", &out, &[answer.number, answer.place])?;
-    equal("sets", &sets, &answer.flows)
+    let seen = Flows::of(engine, &example.script);
+    equal("flows", &seen.out, &[answer.number, answer.place])?;
+    equal("sets", &seen.sets, &answer.flows)
 }
 
 fn runs(engine: &dyn Engine, example: &Example, run: &ExampleRun) -> Result<(), String> {

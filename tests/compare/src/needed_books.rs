@@ -10,7 +10,6 @@ use crate::small_books::{Books, FEW};
 use crate::sweep::case_seed;
 use cases::any_levels;
 use cases::file::{self, File};
-use cases::order::MOST_LEVELS;
 use cases::{Case, Rng};
 use std::fmt;
 
@@ -28,19 +27,14 @@ pub struct Asked {
 
 impl Asked {
     fn of(engine: &dyn Engine, books: &Books, script: Vec<u8>) -> Asked {
-        let mut flows = Flows {
-            out: vec![0; FLOWS_WORDS],
-            sets: vec![0; MOST_LEVELS],
-        };
-        engine.flows(&script, &mut flows.sets, &mut flows.out);
         let number = |book: &Vec<u8>| check(engine, book, &script)[0];
         let names = File::read(&script).unwrap_or_default().names;
         let levels = names.iter().map(|name| usize::from(name.level) + 1);
         Asked {
             numbers: books.bytes.iter().map(number).collect(),
             levels: levels.max().unwrap_or(0),
+            flows: Flows::of(engine, &script),
             script,
-            flows,
         }
     }
 

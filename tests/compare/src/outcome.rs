@@ -32,6 +32,16 @@ pub struct Flows {
 }
 
 impl Flows {
+    /// What an engine gives for a script.
+    pub fn of(engine: &dyn Engine, script: &[u8]) -> Flows {
+        let mut flows = Flows {
+            out: vec![UNWRITTEN; FLOWS_WORDS],
+            sets: vec![UNWRITTEN; MOST_LEVELS],
+        };
+        engine.flows(script, &mut flows.sets, &mut flows.out);
+        flows
+    }
+
     pub fn refusal(&self) -> u32 {
         self.out[0]
     }

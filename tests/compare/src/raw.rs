@@ -2,20 +2,7 @@
 #![allow(unsafe_code)]
 
 use crate::engine::RunArguments;
-use station::raw::{station_check, station_run};
-
-extern "C" {
-    /// What a script would need: `flows` becomes for each level the set of other levels to which data
-    /// must be let flow, `out` number and place. With another length of either nothing happens.
-    fn station_flows(
-        script: *const u8,
-        script_len: usize,
-        flows: *mut u32,
-        flows_len: usize,
-        out: *mut u32,
-        out_len: usize,
-    );
-}
+use station::raw::{station_check, station_flows, station_run};
 
 pub fn check(book: &[u8], script: &[u8], out: &mut [u32]) {
     // SAFETY: each pointer and length is that of a live slice; `out` is borrowed mutably and so overlaps
