@@ -54,7 +54,7 @@ module _ (P : ℕ → Type 0) (names : Names ℕ) where
     pub written : In P (writes names p)
     pub flows : PairsIn P (mustFlow names p)
 
-  -- a process that holds one part, and one that holds two, by what the node itself needs
+  -- two parts of a process together
   module _ (p q : Proc ℕ) (h : Inside p) (k : Inside q) where
     tests-both : In P (λ i. tests names p i || tests names q i)
     tests-both = either P (tests names p) (tests names q) (h .tested) (k .tested)
@@ -64,6 +64,17 @@ module _ (P : ℕ → Type 0) (names : Names ℕ) where
 
     flows-both : PairsIn P (λ i j. mustFlow names p i j || mustFlow names q i j)
     flows-both = either-pairs P (mustFlow names p) (mustFlow names q) (h .flows) (k .flows)
+
+  -- a process that waits for a signal
+  module _ (a : ℕ) (p : Proc ℕ) (own : P (names .level a)) (h : Inside p) where
+    wait-tests : In P (λ i. eqb (names .level a) i || tests names p i)
+    wait-tests = either P (eqb (names .level a)) (tests names p) (level-in a own) (h .tested)
+
+    wait-flows : PairsIn P (λ i j. (eqb (names .level a) i && writes names p j) || mustFlow names p i j)
+    wait-flows =
+        either-pairs P (λ i j. eqb (names .level a) i && writes names p j) (mustFlow names p)
+        (pairs P (eqb (names .level a)) (writes names p) (level-in a own) (h .written))
+        (h .flows)
 
   pub flows-in :
       (p : Proc ℕ) (scope : ℕ → Bool) → HoldsIn P names scope → HoldsOfDeclared P names p → Scoped names scope p → Inside p
@@ -129,26 +140,12 @@ module _ (P : ℕ → Type 0) (names : Names ℕ) where
       record { tested = h .tested; written = h .written; flows = h .flows }
   flows-in (watching a p) scope all new u =
       let h = flows-in p scope all new (u .1) in
-      let own = level-in a (all a (u .0 .0)) in
-      record {
-        tested = either P (eqb (names .level a)) (tests names p) own (h .tested);
-        written = h .written;
-        flows =
-            either-pairs P (needsFlow names (watching a p)) (mustFlow names p)
-            (pairs P (eqb (names .level a)) (writes names p) own (h .written))
-            (h .flows);
-      }
+      let own = all a (u .0 .0) in
+      record { tested = wait-tests a p own h; written = h .written; flows = wait-flows a p own h }
   flows-in (when a p) scope all new u =
       let h = flows-in p scope all new (u .1) in
-      let own = level-in a (all a (u .0 .0)) in
-      record {
-        tested = either P (eqb (names .level a)) (tests names p) own (h .tested);
-        written = h .written;
-        flows =
-            either-pairs P (needsFlow names (when a p)) (mustFlow names p)
-            (pairs P (eqb (names .level a)) (writes names p) own (h .written))
-            (h .flows);
-      }
+      let own = all a (u .0 .0) in
+      record { tested = wait-tests a p own h; written = h .written; flows = wait-flows a p own h }
   flows-in (parallel p q) scope all new u =
       let h = flows-in p scope all (λ k y d. new k y (inl d)) (u .0) in
       let k = flows-in q scope all (λ k y d. new k y (inr d)) (u .1) in
