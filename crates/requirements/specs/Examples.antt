@@ -58,7 +58,7 @@ files =
     ∷ given (register 1 ∷ signal 2 ∷ signal 0 ∷ []) (value ∷ [])
     (part kind.emit 2 0 0 ∷ part kind.when 1 0 0 ∷ part kind.while 0 1 0 ∷ [])
     (0 ∷ 1 ∷ 1 ∷ [])
-    -- while x0 do ((when a2 do nil) before emit b1), read from the end: the body's test, too
+    -- while x0 do (emit b1; (when a2 do nil)): what the body tests flows to what it writes, too
     ∷ given (register 0 ∷ signal 2 ∷ signal 1 ∷ []) (value ∷ [])
     (nil ∷ part kind.when 1 0 0 ∷ part kind.emit 2 0 0 ∷ part kind.sequence 2 1 0 ∷ part kind.while 0 3 0 ∷ [])
     (2 ∷ 0 ∷ 2 ∷ [])
