@@ -1,4 +1,4 @@
--- 01, 'Calls', and 02 (e): what the calls answer, and what run leaves in the values and the log, for every input.
+-- 01, 'Calls', and 02 (e) and (f): what the calls answer, and what run leaves in the values and the log, for every input.
 use mathlib.Core.Bool.{cond}
 use mathlib.Core.List.{List, _++_}
 use Prim.Native.Nat.{ℕ, _*_, _/_}
@@ -14,14 +14,16 @@ use Rattle.inputs.specs.Lists.{listed}
 use Rattle.script.specs.Refusals as scripts
 use Rattle.tree.specs.Tree.{namesOf, tree}
 use Rattle.requirements.specs.Flows.{flowsOf}
+use Rattle.bound.specs.Bound.{boundOf}
 use Rattle.results.specs.declared.Verdict.{Verdict}
 use Rattle.results.specs.declared.RunResult.{RunResult}
 use Rattle.results.specs.declared.Flows.{Flows}
-use Rattle.results.specs.Results.{verdictBy, refusedResult, resultBy, flowsBy}
+use Rattle.results.specs.Results.{verdictBy, refusedVerdict, refusedResult, resultBy, flowsBy}
 use Rattle.checker.specs.Refusals.{checkRefusal}
 use Rattle.arguments.specs.Refusals.{runRefusal}
 
--- 'Check returns number, place, W, T.' 'A refusal's other returned numbers are 0; 0 means not refused.'
+-- 'Check returns number, place, W, T.' 02 (f): 'Give the figure with the check.' 'A refusal's other returned numbers are 0;
+-- 0 means not refused.'
 unfoldable pub verdict : List ℕ → List ℕ → Verdict
 verdict b s =
     cond
@@ -29,8 +31,9 @@ verdict b s =
     (verdictBy
     (checkRefusal b s)
     (writeLevel (bookLattice b) (namesOf s) (tree s))
-    (testLevel (bookLattice b) (namesOf s) (tree s)))
-    (verdictBy (checkRefusal b s) 0 0)
+    (testLevel (bookLattice b) (namesOf s) (tree s))
+    (boundOf s))
+    (refusedVerdict (checkRefusal b s))
 
 -- 02 (e): rows 4 to 10 with 'no book here: 6 takes levels to 15', the levels of a full book
 abbrev pub fileRefusal : List ℕ → Refusal

@@ -1,4 +1,4 @@
-// The calls for C. A slice is a pointer and then a length in elements. With an `out` of another length than 4, 6 or 2, or
+// The calls for C. A slice is a pointer and then a length in elements. With an `out` of another length than 6, 6 or 2, or
 // `flows` of another than the most levels, nothing happens: every buffer is left untouched.
 use book::Book;
 use results::words::put_flows;
@@ -10,12 +10,12 @@ ghost use Rattle.results.specs.Words.{verdictWords, resultWords, flowsWords};
 ghost use Rattle.engine.specs.Interface.{whereAsked, whereBothAsked};
 ghost use Rattle.book.specs.LevelBook.{mostLevels};
 
-// `out` becomes number, place, W, T.
+// `out` becomes number, place, W, T, whether there is a bound on the moves, and that bound.
 #[no_mangle]
 pub extern "C" fn station_check(book: &[u8], script: &[u8], out: &mut [u32])
-    ensures { λ _. ⌜ now (out .exit) ≡ whereAsked 4 (now (out .entry)) (verdictWords (verdict (now (book .entry)) (now (script .entry)))) (now (out .entry)) ⌝ }
+    ensures { λ _. ⌜ now (out .exit) ≡ whereAsked 6 (now (out .entry)) (verdictWords (verdict (now (book .entry)) (now (script .entry)))) (now (out .entry)) ⌝ }
 {
-    if out.len() != 4 {
+    if out.len() != 6 {
         return;
     }
     let v = crate::check(book, script);

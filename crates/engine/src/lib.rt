@@ -8,22 +8,28 @@ use results::Flows;
 use results::RunResult;
 use results::Verdict;
 use results::refused_result;
+use results::refused_verdict;
 use results::result_of;
 use runner::Ran;
 ghost use mathlib.Core.Path.{_≡_};
 ghost use Rattle.engine.specs.Answers.{verdict, flowsFound, left};
 ghost use Rattle.engine.specs.Contracts.{CanStart, runFor, Returns};
 
-// Checks a script under a book.
+// Checks a script under a book. Of an accepted script, also finds how many moves it can make.
 pub fn check(book: &[u8], script: &[u8]) -> Verdict
     ensures { λ r. ⌜ r ≡ verdict (now (book .entry)) (now (script .entry)) ⌝ }
 {
     let p = checker::prepare(book, script);
+    if p.refusal.number != 0 {
+        return refused_verdict(p.refusal);
+    }
+    let moves = bound::find_bound(script, p.script);
     Verdict {
         number: p.refusal.number,
         place: p.refusal.place,
         write: p.write as u32,
         test: p.test as u32,
+        moves,
     }
 }
 

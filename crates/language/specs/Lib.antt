@@ -5,6 +5,7 @@ pub mod NameKinds
 pub mod Scope
 pub mod Levels
 pub mod RequiredFlows
+pub mod MoveBounds
 pub mod Steps
 pub mod Calls
 pub mod Suspension

@@ -1,23 +1,33 @@
--- What the shape of a process tells: how many nodes it has, whether a watching stands in it, which names it leaves alone.
-use mathlib.Core.Bool.{Bool, true, false, not, _&&_, _||_}
+-- What the shape of a process tells: how many nodes it has, of every kind or of some, whether a watching stands in it,
+-- which names it leaves alone.
+use mathlib.Core.Bool.{Bool, true, false, cond, not, _&&_, _||_}
 use Prim.Native.Nat.{ℕ, suc, _+_}
 use lib.Dec.{eqb}
+use Rattle.language.specs.Kinds as kinds
 use Rattle.language.specs.Syntax.{Proc, nil, assign, letIn, ifThenElse, while, sequence, emit, local, watching, when, parallel}
 
+-- one more than n, if the test holds
+abbrev oneIf : Bool → ℕ → ℕ
+oneIf test n = cond test (suc n) n
+
 module _ {L : Type 0} where
+  -- how many nodes of a process have a kind with the test
+  unfoldable pub counted : (ℕ → Bool) → Proc L → ℕ
+  counted f nil = oneIf (f kinds.nil) 0
+  counted f (assign x e) = oneIf (f kinds.assign) 0
+  counted f (letIn x δ e p) = oneIf (f kinds.letIn) (counted f p)
+  counted f (ifThenElse e p q) = oneIf (f kinds.ifThenElse) (counted f p + counted f q)
+  counted f (while e p) = oneIf (f kinds.while) (counted f p)
+  counted f (sequence p q) = oneIf (f kinds.sequence) (counted f p + counted f q)
+  counted f (emit a) = oneIf (f kinds.emit) 0
+  counted f (local a δ p) = oneIf (f kinds.local) (counted f p)
+  counted f (watching a p) = oneIf (f kinds.watching) (counted f p)
+  counted f (when a p) = oneIf (f kinds.when) (counted f p)
+  counted f (parallel p q) = oneIf (f kinds.parallel) (counted f p + counted f q)
+
   -- how many nodes a process has
-  unfoldable pub size : Proc L → ℕ
-  size nil = 1
-  size (assign x e) = 1
-  size (letIn x δ e p) = suc (size p)
-  size (ifThenElse e p q) = suc (size p + size q)
-  size (while e p) = suc (size p)
-  size (sequence p q) = suc (size p + size q)
-  size (emit a) = 1
-  size (local a δ p) = suc (size p)
-  size (watching a p) = suc (size p)
-  size (when a p) = suc (size p)
-  size (parallel p q) = suc (size p + size q)
+  abbrev pub size : Proc L → ℕ
+  size = counted (λ kind. true)
 
   -- a watching stands in a process; where none does, an instant change leaves it as it is
   unfoldable pub watches : Proc L → Bool

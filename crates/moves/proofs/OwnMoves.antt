@@ -17,7 +17,7 @@ use Rattle.language.specs.Calls.{calledAt}
 use Rattle.packing.specs.Packing.{levelIn}
 use Rattle.program.specs.Program.{nameCount, expressionCount, nodeCount, nameWord, bAt, firstAt, secondAt, kindAt, aAt, expressionOf, processOf}
 use Rattle.program.specs.Runnable.{Runnable}
-use Rattle.language.specs.Shapes.{size}
+use Rattle.language.specs.Shapes.{counted, size}
 use Rattle.program.proofs.Views.{NodeView, aNil, anAssign, aLet, anIf, aWhile, aSequence, anEmit, aLocal, aWatching, aWhen, aParallel, node-view}
 use Rattle.program.specs.declared.forms.Front.{Front}
 use Rattle.program.specs.Forms.{itself}
@@ -193,7 +193,7 @@ module _ {words : List ℕ} {k : ℕ} {st : List ℕ} {vs : List ℤ} where
     count = length (take (length (set st 0 1) - 1) (drop 1 (set st 0 1)))
 
     long : length (set st 0 1) ≡ suc (size (one words k))
-    unfolding size
+    unfolding counted
     long = length-set st 0 1 ∙ u .node .whole ∙ ap size (fields u .0)
 
     count-is : count ≡ size (one words k)

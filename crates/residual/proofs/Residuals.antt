@@ -11,7 +11,7 @@ use lib.ListN.{getD, set, length, take, drop, replicate}
 use lib.Seq.{getD-set-same}
 use Rattle.prelude.proofs.Bools.{and-intro, and-left, and-right}
 use Rattle.language.specs.Syntax.{Proc, nil, assign, letIn, ifThenElse, while, sequence, emit, local, watching, when, parallel}
-use Rattle.language.specs.Shapes.{size, leavesAlone}
+use Rattle.language.specs.Shapes.{counted, size, leavesAlone}
 use Rattle.program.specs.Program.{processOf}
 use Rattle.residual.specs.Residual.{own, firstOf, secondOf, residual}
 use Rattle.residual.specs.Nodes.{At}
@@ -36,7 +36,7 @@ module _ {L : Type 0} where
   first-zeros p n h = ap (take (size p)) (drop-zeros 1 n) ∙ take-zeros (size p) (n - 1) (omega arith)
 
   pub zeros : (p : Proc L) (n : ℕ) → size p ≤ n → residual p (replicate n 0) ≡ p
-  unfolding residual size
+  unfolding residual counted
   zeros nil n h = refl
   zeros (assign x e) n h = rw (own-zeros n)
   zeros (letIn x δ e p) n h = rw (own-zeros n) (ap (letIn x δ e) (rw (first-zeros p n h) (zeros p (size p) (omega arith))))
@@ -133,7 +133,7 @@ nil-at-four (when a p) st e = rw e
 nil-at-four (parallel p q) st e = rw e
 
 size-some : {L : Type 0} (p : Proc L) → 1 ≤ size p
-unfolding size
+unfolding counted
 size-some nil = omega arith
 size-some (assign x y) = omega arith
 size-some (letIn x δ y p) = omega arith

@@ -9,7 +9,7 @@ use borrow.Rule.Slice.PartMut.{putMid, same-len-mid, mid-len, take-put, drop-put
 use lib.ListN.{length, take, drop, set, length-set, length-drop, List·getD-append, drop-of-length-le}
 use lib.Seq.{length-take-le, getD-take, getD-set-same, set-getD, drop-set-lt, take-nil, take-all, take-at, drop-at}
 use Rattle.language.specs.Syntax.{Exp, Proc, nil, assign, letIn, ifThenElse, while, sequence, emit, local, watching, when, parallel}
-use Rattle.language.specs.Shapes.{size, leavesAlone}
+use Rattle.language.specs.Shapes.{counted, size, leavesAlone}
 use Rattle.program.specs.Program.{nameCount, nodeCount, kindAt, aAt, firstAt, secondAt, processOf}
 use Rattle.program.specs.Runnable.{FirstPart, Runnable}
 use Rattle.program.proofs.Views.{NodeView, aNil, anAssign, aLet, anIf, aWhile, aSequence, anEmit, aLocal, aWatching, aWhen, aParallel, node-view}
@@ -240,7 +240,7 @@ module _ (words : List ℕ) (k : ℕ) (st : List ℕ) where
     see-let :
         {x δ : ℕ} {y : Exp} → kind ≡ 2 → processOf words k ≡ letIn x δ y (processOf words i) → FirstPart words k →
         (tag : ℕ) → own st ≡ tag → Seen
-    unfolding residual frontOf size
+    unfolding residual frontOf counted
     see-let e q l zero o = rw (e, o) (sees-itself refl o (omega (arith, e)))
     see-let e q l (suc zero) o =
         rw (e, o, l .sized)
@@ -251,7 +251,7 @@ module _ (words : List ℕ) (k : ℕ) (st : List ℕ) where
     see-if :
         {y : Exp} → kind ≡ 3 → processOf words k ≡ ifThenElse y (processOf words i) (processOf words j) → FirstPart words k → j < k →
         (tag : ℕ) → own st ≡ tag → Seen
-    unfolding residual frontOf size
+    unfolding residual frontOf counted
     see-if e q l m zero o = rw (e, o) (sees-itself refl o (omega (arith, e)))
     see-if e q l m (suc zero) o =
         rw (e, o, l .sized)
@@ -265,7 +265,7 @@ module _ (words : List ℕ) (k : ℕ) (st : List ℕ) where
 
     see-while :
         {y : Exp} → kind ≡ 4 → processOf words k ≡ while y (processOf words i) → FirstPart words k → (tag : ℕ) → own st ≡ tag → Seen
-    unfolding residual frontOf size
+    unfolding residual frontOf counted
     see-while e q l zero o = rw (e, o) (sees-itself refl o (omega (arith, e)))
     see-while {y} e q l (suc zero) o =
         let loop : Proc ℕ = while y (processOf words i) in
@@ -278,7 +278,7 @@ module _ (words : List ℕ) (k : ℕ) (st : List ℕ) where
     see-sequence :
         kind ≡ 5 → processOf words k ≡ sequence (processOf words i) (processOf words j) → FirstPart words k → j < k →
         (tag : ℕ) → own st ≡ tag → Seen
-    unfolding residual frontOf size
+    unfolding residual frontOf counted
     see-sequence e q l m zero o =
         let next : Proc ℕ = residual (processOf words j) (secondOf (processOf words i) st) in
         rw (e, o, l .sized)
@@ -299,7 +299,7 @@ module _ (words : List ℕ) (k : ℕ) (st : List ℕ) where
 
     see-local :
         {x δ : ℕ} → kind ≡ 7 → processOf words k ≡ local x δ (processOf words i) → FirstPart words k → (tag : ℕ) → own st ≡ tag → Seen
-    unfolding residual frontOf size
+    unfolding residual frontOf counted
     see-local e q l zero o = rw (e, o) (sees-itself refl o (omega (arith, e)))
     see-local e q l (suc zero) o =
         rw (e, o, l .sized)
@@ -309,7 +309,7 @@ module _ (words : List ℕ) (k : ℕ) (st : List ℕ) where
 
     see-watching :
         kind ≡ 8 → processOf words k ≡ watching a (processOf words i) → a < nameCount words → FirstPart words k → (tag : ℕ) → own st ≡ tag → Seen
-    unfolding residual frontOf size
+    unfolding residual frontOf counted
     see-watching e q n l zero o =
         rw (e, o, l .sized)
         (sees-watched refl n
@@ -320,7 +320,7 @@ module _ (words : List ℕ) (k : ℕ) (st : List ℕ) where
     see-when :
         kind ≡ 9 → processOf words k ≡ when a (processOf words i) → a < nameCount words →
         ((ys : List ℕ) → leavesAlone a (residual (processOf words i) ys) ≡ true) → FirstPart words k → (tag : ℕ) → own st ≡ tag → Seen
-    unfolding residual frontOf size
+    unfolding residual frontOf counted
     see-when e q n leaves l zero o =
         rw (e, o, l .sized)
         (sees-guarded refl n leaves
@@ -343,7 +343,7 @@ module _ (words : List ℕ) (k : ℕ) (st : List ℕ) where
       behind = secondFront words i turned j (length st)
 
       length-both : length st ≡ suc (size one + size two)
-      unfolding size
+      unfolding counted
       length-both = length-is q
 
       -- the parts, whatever the own byte is

@@ -1,14 +1,19 @@
--- 'Check returns number, place, W, T.' 'Run returns how it ended, steps, instants, lines.' 'A refusal's other returned
--- numbers are 0; 0 means not refused.' 02 (e): 'for each level the set of other levels'.
+-- 'Check returns number, place, W, T', and by 02 (f) the figure. 'Run returns how it ended, steps, instants, lines.' 'A
+-- refusal's other returned numbers are 0; 0 means not refused.' 02 (e): 'for each level the set of other levels'.
 use mathlib.Core.List.{List}
 use Prim.Native.Nat.{ℕ}
 use Rattle.prelude.specs.declared.Refusal.{Refusal}
+use Rattle.bound.specs.declared.MoveBound.{MoveBound}
+use Rattle.bound.specs.declared.MoveBound.the-variants.{Unbounded}
 use Rattle.results.specs.declared.Verdict.{Verdict}
 use Rattle.results.specs.declared.RunResult.{RunResult}
 use Rattle.results.specs.declared.Flows.{Flows}
 
-abbrev pub verdictBy : Refusal → ℕ → ℕ → Verdict
-verdictBy r w t = record { number = r .number; place = r .place; write = w; test = t }
+abbrev pub verdictBy : Refusal → ℕ → ℕ → MoveBound → Verdict
+verdictBy r w t moves = record { number = r .number; place = r .place; write = w; test = t; moves = moves }
+
+abbrev pub refusedVerdict : Refusal → Verdict
+refusedVerdict r = verdictBy r 0 0 Unbounded
 
 abbrev pub refusedResult : Refusal → RunResult
 refusedResult r =

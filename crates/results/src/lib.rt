@@ -2,17 +2,19 @@
 pub mod words; // words.rt: the answers' words for C
 
 use book::Book;
+use bound::MoveBound;
 use prelude::Refusal;
 ghost use mathlib.Core.Path.{_≡_};
 ghost use Prim.Native.Nat.{_^_, _<_};
-ghost use Rattle.results.specs.Results.{refusedResult, resultBy};
+ghost use Rattle.results.specs.Results.{refusedVerdict, refusedResult, resultBy};
 
-// What check answers: number and place of the refusal, W and T.
+// What check answers: number and place of the refusal, W and T, and the most moves that the script makes.
 pub struct Verdict {
     pub number: u32,
     pub place: u32,
     pub write: u32,
     pub test: u32,
+    pub moves: MoveBound,
 }
 
 // What run answers: number and place of the refusal, how the run ended, and what it counted.
@@ -31,6 +33,18 @@ pub struct Flows {
     pub number: u32,
     pub place: u32,
     pub to: [u16; Book::MAX_LEVELS],
+}
+
+pub fn refused_verdict(r: Refusal) -> Verdict
+    ensures { λ a. ⌜ a ≡ refusedVerdict r ⌝ }
+{
+    Verdict {
+        number: r.number,
+        place: r.place,
+        write: 0,
+        test: 0,
+        moves: MoveBound::Unbounded,
+    }
 }
 
 pub fn refused_result(r: Refusal) -> RunResult

@@ -3,19 +3,43 @@ use crate::Flows;
 use crate::RunResult;
 use crate::Verdict;
 use book::Book;
+use bound::MoveBound;
 ghost use mathlib.Core.Path.{_≡_};
+ghost use mathlib.Core.List.{_∷_, []};
 ghost use lib.ListN.{length};
 ghost use Rattle.book.specs.LevelBook.{mostLevels};
-ghost use Rattle.results.specs.Words.{verdictWords, resultWords, flowsWords};
+ghost use Rattle.results.specs.Words.{boundWords, verdictWords, resultWords, flowsWords};
+
+// The two words of a bound.
+struct BoundWords {
+    bounded: u32,
+    moves: u32,
+}
+
+fn bound_words(bound: MoveBound) -> BoundWords
+    ensures { λ r. ⌜ r .bounded ∷ r .moves ∷ [] ≡ boundWords bound ⌝ }
+{
+    match bound {
+        MoveBound::AtMost(moves) => BoundWords { bounded: 1, moves },
+        MoveBound::Unbounded => BoundWords {
+            bounded: 0,
+            moves: 0,
+        },
+    }
+}
 
 pub fn put_verdict(v: Verdict, out: &mut [u32])
-    requires { ⌜ length (now out) ≡ 4 ⌝ }
+    requires { ⌜ length (now out) ≡ 6 ⌝ }
     ensures { λ _. ⌜ now (out .exit) ≡ verdictWords v ⌝ }
 {
+    let moves = v.moves;
+    let words = bound_words(moves);
     out[0] = v.number;
     out[1] = v.place;
     out[2] = v.write;
     out[3] = v.test;
+    out[4] = words.bounded;
+    out[5] = words.moves;
 }
 
 pub fn put_result(r: RunResult, out: &mut [u32])

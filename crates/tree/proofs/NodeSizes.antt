@@ -27,7 +27,7 @@ use Rattle.uses.specs.Uses.{usedBy, used, timesIn, timesUsed}
 use Rattle.uses.proofs.Used.{used-of, used-child}
 use Rattle.script.specs.Checked.{Checked}
 use Rattle.scope.proofs.Joining.{field-uses}
-use Rattle.language.specs.Shapes.{size}
+use Rattle.language.specs.Shapes.{counted, size}
 use Rattle.tree.specs.Tree.{processOf, tree}
 use Rattle.tree.specs.Contracts.{childSize, KeepsSizes}
 use Rattle.tree.proofs.Views.{NodeView, aNil, anAssign, aLet, anIf, aWhile, aSequence, anEmit, aLocal, aWatching, aWhen, aParallel, node-view, role}
@@ -51,7 +51,7 @@ module _ (s : List ℕ) (ok : Checked s) where
     by-row n e = total-same (addedBy (node s k)) (row n) fieldCount (λ f l. rows n e f)
 
     size-view : NodeView s k → nodeSize k ≡ suc (total (addedBy (node s k)) fieldCount)
-    unfolding size
+    unfolding counted
     size-view (aNil e q) = ap size q ∙ ap suc (sym (by-row 0 e))
     size-view (anAssign e q x y) = ap size q ∙ ap suc (sym (by-row 1 e))
     size-view (aLet e q x y p) = ap size q ∙ ap suc (omega arith ∙ sym (by-row 2 e))

@@ -6,7 +6,7 @@ use Rattle.engine.proofs.interface.station_check.Statement.{statement}
 use Rattle.engine.proofs.interface.station_check.Tie as tie
 
 returns : tie.Need-returns
-returns c = not-asked 4 _ _ _ (c .if1 .taken)
+returns c = not-asked 6 _ _ _ (c .if1 .taken)
 
 check-requires : tie.Need-check-requires
 check-requires c κs = tt
@@ -18,7 +18,7 @@ same-length : tie.Need-same-length
 same-length c = c .before .before .put-verdict .kept .1 .0
 
 returns-2 : tie.Need-returns-2
-returns-2 c = asked 4 _ _ _ (c .before .before .before .before .before .if1 .left) (c .before .before .put-verdict .ensures ∙ ap verdictWords (c .before .before .before .before .check .ensures))
+returns-2 c = asked 6 _ _ _ (c .before .before .before .before .before .if1 .left) (c .before .before .put-verdict .ensures ∙ ap verdictWords (c .before .before .before .before .check .ensures))
 
 pub station-check-spec : {M : Type 1} → statement M
 station-check-spec =

@@ -1,0 +1,54 @@
+-- Counts of nodes: what one node more adds, and that none is above the number of nodes.
+use mathlib.Core.Path.{_≡_, refl, sym, ap, _∙_}
+use mathlib.Core.Bool.{Bool, true, false}
+use mathlib.Core.List.{List}
+use Prim.Native.Nat.{ℕ, _+_, _*_, _≤_}
+use native.Mathlib.Nat.{mul-le-mul, add-zero}
+use native.Mathlib.Omega.{arith}
+use Rattle.prelude.specs.Search.{count}
+use Rattle.prelude.proofs.Bools.{by-cases}
+use Rattle.prelude.proofs.Counts.{count-within, count-hit, count-miss}
+use Rattle.language.specs.MoveBounds.{isNotNil, isParallel, isWhile}
+use Rattle.layout.specs.Entries.{partOf, node}
+use Rattle.bound.specs.declared.NodeCounts.{NodeCounts}
+use Rattle.bound.specs.Contracts.{oneIf, countsUpTo, withKind, Few}
+
+pub with-kind-is :
+    (n : NodeCounts) (kind : ℕ) {a b c : ℕ} → a ≡ oneIf (isNotNil kind) → b ≡ oneIf (isParallel kind) → c ≡ oneIf (isWhile kind) →
+    record { others = n .others + a; parallels = n .parallels + b; whiles = n .whiles + c } ≡ withKind n kind
+with-kind-is n kind d e f = rw (d, e, f)
+
+count-one-more : (f : ℕ → Bool) (n : ℕ) → count f n + oneIf (f n) ≡ count f (n + 1)
+count-one-more f n =
+    by-cases (λ m. count f n + m ≡ count f (n + 1)) (f n) (λ t. sym (count-hit f n t))
+    (λ t. add-zero (count f n) ∙ sym (count-miss f n t))
+
+module _ (s : List ℕ) where
+  pub no-counts : record { others = 0; parallels = 0; whiles = 0 } ≡ countsUpTo s 0
+  unfolding count
+  no-counts = refl
+
+  pub counts-more : (n kind : ℕ) → kind ≡ partOf s (node s n) .kind → withKind (countsUpTo s n) kind ≡ countsUpTo s (n + 1)
+  counts-more n kind e = rw (e, more isNotNil, more isParallel, more isWhile)
+    where
+      more :
+          (f : ℕ → Bool) →
+          count (λ k. f (partOf s (node s k) .kind)) n + oneIf (f (partOf s (node s n) .kind))
+          ≡ count (λ k. f (partOf s (node s k) .kind)) (n + 1)
+      more f = count-one-more (λ k. f (partOf s (node s k) .kind)) n
+
+  pub counts-few : (n : ℕ) → Few (countsUpTo s n) n
+  counts-few n =
+      record { others = count-within _ n; parallels = count-within _ n; whiles = count-within _ n }
+
+pub few-more : {counts : NodeCounts} {n m : ℕ} → n ≤ m → Few counts n → Few counts m
+few-more l f =
+    record {
+      others = omega (arith, f .others, l);
+      parallels = omega (arith, f .parallels, l);
+      whiles = omega (arith, f .whiles, l);
+    }
+
+-- the figure of so few nodes
+pub product-small : (k p n : ℕ) → k ≤ n → p ≤ n → k * (p + 1) ≤ n * (n + 1)
+product-small k p n h l = mul-le-mul h (omega (arith, l))
