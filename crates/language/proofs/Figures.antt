@@ -1,21 +1,17 @@
 -- The functions of 01's 'Steps' make exactly the steps of the report's Figures 1 to 4.
 use Prim.Native.Nat.{ℕ, suc}
 use mathlib.Core.Path.{_≡_, refl, ap, ap₂, sym, subst, _∙_}
-use mathlib.Core.Bool.{Bool, true, false, cond, not, _||_, or-true, Bool·not-not, true≢false, false≢true}
+use mathlib.Core.Bool.{Bool, true, false, cond, not, Bool·not-not, true≢false, false≢true}
 use mathlib.Core.List.{List}
-use mathlib.Core.Logic.{_⊎_, inl, inr}
 use lib.IntN.{ℤ}
-use Rattle.prelude.proofs.Bools.{by-cases, fails, and-left, and-right, or-left, or-right}
+use Rattle.prelude.proofs.Bools.{by-cases, fails, or-left, or-right}
 use Rattle.language.specs.Syntax.{Names, Proc, nil, assign, letIn, ifThenElse, while, sequence, emit, local, watching, when, parallel, isNil}
 use Rattle.language.specs.Steps.{present, Output, silent, StepResult, leaves, inside, suspended, move, change, Inputs, instantStart, step}
 use Rattle.language.specs.Calls.{System, output, next}
 use Rattle.language.specs.Suspension.{Suspended, WHEN-SUS₁, WHEN-SUS₂, WATCH-SUS, SEQ-SUS, PAR-SUS}
 use Rattle.language.specs.Moves.{Move, ASSIGN-OP, SEQ-OP₁, SEQ-OP₂, LET-OP, COND-OP₁, COND-OP₂, WHILE-OP₁, WHILE-OP₂, EMIT-OP, LOCAL-OP, WATCH-OP₁, WATCH-OP₂, WHEN-OP₁, WHEN-OP₂, PAR-OP₁, PAR-OP₂, PAR-OP₃}
 use Rattle.language.specs.Instants.{Changed, WATCH-PRESENT, WATCH-ABSENT, WHEN-PRESENT, WHEN-ABSENT, SEQ-CHANGED, PAR-CHANGED, Step, MOVE, INSTANT-OP}
-
-either-true : (a b : Bool) → (not a || b) ≡ true → (a ≡ false) ⊎ (b ≡ true)
-either-true true b h = inr h
-either-true false b h = inl refl
+use Rattle.language.proofs.Suspensions.{suspended-of, suspended-is}
 
 module _ {L : Type 0} where
   nil-of : (p : Proc L) → isNil p ≡ true → p ≡ nil
@@ -33,37 +29,6 @@ module _ {L : Type 0} where
   nil-of (parallel p q) h = absurd (false≢true h)
 
   -- Figure 1
-  pub suspended-of : (s : List ℤ) {p : Proc L} → Suspended (present s) p → suspended p s ≡ true
-  unfolding suspended
-  suspended-of s (WHEN-SUS₁ h) = rw h
-  suspended-of s (WHEN-SUS₂ {a = a} d) = rw (suspended-of s d) (or-true (not (present s a)))
-  suspended-of s (WATCH-SUS d) = suspended-of s d
-  suspended-of s (SEQ-SUS d) = suspended-of s d
-  suspended-of s (PAR-SUS d d′) = rw (suspended-of s d, suspended-of s d′) refl
-
-  pub suspended-is : (p : Proc L) (s : List ℤ) → suspended p s ≡ true → Suspended (present s) p
-  unfolding suspended
-  suspended-is nil s h = absurd (false≢true h)
-  suspended-is (assign x e) s h = absurd (false≢true h)
-  suspended-is (letIn x δ e p) s h = absurd (false≢true h)
-  suspended-is (ifThenElse e p q) s h = absurd (false≢true h)
-  suspended-is (while e p) s h = absurd (false≢true h)
-  suspended-is (sequence p q) s h = SEQ-SUS (suspended-is p s h)
-  suspended-is (emit a) s h = absurd (false≢true h)
-  suspended-is (local a δ p) s h = absurd (false≢true h)
-  suspended-is (watching a p) s h = WATCH-SUS (suspended-is p s h)
-  suspended-is (when a p) s h = go (either-true (present s a) (suspended p s) h) (suspended-is p s)
-    where
-      go :
-          (present s a ≡ false) ⊎ (suspended p s ≡ true) → (suspended p s ≡ true → Suspended (present s) p) →
-          Suspended (present s) (when a p)
-      go (inl e) ih = WHEN-SUS₁ e
-      go (inr e) ih = WHEN-SUS₂ (ih e)
-  suspended-is (parallel p q) s h =
-      PAR-SUS
-      (suspended-is p s (and-left (suspended p s) (suspended q s) h))
-      (suspended-is q s (and-right (suspended p s) (suspended q s) h))
-
   suspended-not-nil : {E : ℕ → Bool} {p : Proc L} → Suspended E p → isNil p ≡ false
   unfolding isNil
   suspended-not-nil (WHEN-SUS₁ h) = refl

@@ -4,6 +4,7 @@ pub mod Needs
 pub mod NameKinds
 pub mod Typing
 pub mod LevelRanges
+pub mod Suspensions
 pub mod Figures
 pub mod Executions
 pub mod Stopping
@@ -15,4 +16,6 @@ pub mod Noninterference
 pub mod Flows
 pub mod RequiredFlows
 pub mod RequiredRanges
+pub mod MoveBounds
+pub mod PathMoves
 pub mod Theorems

@@ -12,6 +12,8 @@ use Rattle.lattice.specs.Lattice.{Lattice}
 use Rattle.language.specs.Syntax.{Names, Proc, isNil}
 use Rattle.language.specs.Levels.{writeLevel, testLevel, needs}
 use Rattle.language.specs.RequiredFlows.{mustFlow}
+use Rattle.language.specs.Shapes.{counted}
+use Rattle.language.specs.MoveBounds.{holdsNoWhile, mostMoves}
 use Rattle.language.specs.Steps.{held, Output, Inputs, noInputs, instantStart}
 use Rattle.language.specs.Calls.{finished, spent, System, Run, Stop, starts, readable, calledFor, output, next, behind, reach, run}
 use Rattle.language.specs.Instants.{Step}
@@ -77,6 +79,16 @@ pub record FlowsAgree (𝓛 : Lattice ℕ) (names : Names ℕ) (p : Proc ℕ) : 
   pub allowed : needs 𝓛 names p ≡ true → (i j : ℕ) → mustFlow names p i j ≡ true → 𝓛 .leq i j ≡ true
   pub absent :
       needs 𝓛 names p ≡ false → (i : ℕ) × (j : ℕ) × (mustFlow names p i j ≡ true) × (𝓛 .leq i j ≡ false)
+
+-- 02 (f): a script that holds no while 'makes at most k × (p + 1) moves in its whole run, whatever values and signals it
+-- meets. Instant changes are not moves': of the steps of a run, the moves are those that are no instant changes.
+pub record MovesBounded {L : Type 0} (names : Names L) (inputs : Inputs) (seen : ℕ → Bool) (n room : ℕ) (p : Proc L)
+    (s : List ℤ) : Type 0 where
+  pub instants : run names inputs seen n room (starts p s) .instants ≤ run names inputs seen n room (starts p s) .steps
+  pub moves :
+      holdsNoWhile (counted p) ≡ true →
+      run names inputs seen n room (starts p s) .steps - run names inputs seen n room (starts p s) .instants
+      ≤ mostMoves (counted p)
 
 -- 'those lines that are stamped n or less', .. 'in the same order': the lines are records here and words in a log, so what
 -- tells the stamp of a line is given

@@ -12,22 +12,22 @@ oneIf test n = cond test (suc n) n
 
 module _ {L : Type 0} where
   -- how many nodes of a process have a kind with the test
-  unfoldable pub counted : (ℕ → Bool) → Proc L → ℕ
-  counted f nil = oneIf (f kinds.nil) 0
-  counted f (assign x e) = oneIf (f kinds.assign) 0
-  counted f (letIn x δ e p) = oneIf (f kinds.letIn) (counted f p)
-  counted f (ifThenElse e p q) = oneIf (f kinds.ifThenElse) (counted f p + counted f q)
-  counted f (while e p) = oneIf (f kinds.while) (counted f p)
-  counted f (sequence p q) = oneIf (f kinds.sequence) (counted f p + counted f q)
-  counted f (emit a) = oneIf (f kinds.emit) 0
-  counted f (local a δ p) = oneIf (f kinds.local) (counted f p)
-  counted f (watching a p) = oneIf (f kinds.watching) (counted f p)
-  counted f (when a p) = oneIf (f kinds.when) (counted f p)
-  counted f (parallel p q) = oneIf (f kinds.parallel) (counted f p + counted f q)
+  unfoldable pub counted : Proc L → (ℕ → Bool) → ℕ
+  counted nil f = oneIf (f kinds.nil) 0
+  counted (assign x e) f = oneIf (f kinds.assign) 0
+  counted (letIn x δ e p) f = oneIf (f kinds.letIn) (counted p f)
+  counted (ifThenElse e p q) f = oneIf (f kinds.ifThenElse) (counted p f + counted q f)
+  counted (while e p) f = oneIf (f kinds.while) (counted p f)
+  counted (sequence p q) f = oneIf (f kinds.sequence) (counted p f + counted q f)
+  counted (emit a) f = oneIf (f kinds.emit) 0
+  counted (local a δ p) f = oneIf (f kinds.local) (counted p f)
+  counted (watching a p) f = oneIf (f kinds.watching) (counted p f)
+  counted (when a p) f = oneIf (f kinds.when) (counted p f)
+  counted (parallel p q) f = oneIf (f kinds.parallel) (counted p f + counted q f)
 
   -- how many nodes a process has
   abbrev pub size : Proc L → ℕ
-  size = counted (λ kind. true)
+  size p = counted p (λ kind. true)
 
   -- a watching stands in a process; where none does, an instant change leaves it as it is
   unfoldable pub watches : Proc L → Bool

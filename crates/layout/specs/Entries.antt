@@ -4,9 +4,10 @@ use mathlib.Core.List.{List}
 use Prim.Native.Nat.{ℕ, _+_, _*_}
 use lib.Dec.{eqb, ltb}
 use lib.ListN.{getD}
+use Rattle.prelude.specs.Search.{count}
 use Rattle.layout.specs.declared.parts.Name.{Name}
 use Rattle.layout.specs.declared.parts.Part.{Part}
-use Rattle.layout.specs.Layout.{wordAt, expressionsAt, nameCount, expressionCount}
+use Rattle.layout.specs.Layout.{wordAt, expressionsAt, nameCount, expressionCount, nodeCount}
 
 -- 'Name, 4 bytes: kind (0 register, 1 signal), level, owner.'
 abbrev pub nameOf : List ℕ → ℕ → Name
@@ -43,3 +44,7 @@ partOf s q =
 -- node k as a part
 abbrev pub node : List ℕ → ℕ → ℕ
 node s k = expressionCount s + k
+
+-- how many nodes of the file have a kind with the test
+abbrev pub nodesWith : List ℕ → (ℕ → Bool) → ℕ
+nodesWith s f = count (λ k. f (partOf s (node s k) .kind)) (nodeCount s)

@@ -7,5 +7,6 @@ pub mod Matching
 pub mod Steps
 pub mod Progress
 pub mod Starts
+pub mod PathMoves
 pub mod Theorems
 pub mod Worked

@@ -7,7 +7,7 @@ use Rattle.language.specs.NameKinds.{Kind, var, sig}
 use Rattle.language.specs.Steps.{Output, silent, assigned, emitted, Inputs}
 use Rattle.language.specs.Calls.{Line, calledAt}
 use Rattle.report.specs.Configurations.{Configuration}
-use Rattle.report.specs.Instants.{Step}
+use Rattle.report.specs.Instants.{Step, MOVE, INSTANT-OP}
 
 -- a line, and the kind of its name
 pub record NamedLine : Type 0 where
@@ -42,3 +42,10 @@ module _ {L : Type 0} (below : L → Bool) where
     more :
         {n : ℕ} {C C′ C″ : Configuration L} {o : Output} {ls : List NamedLine} →
         Step inputs C o C′ → ExecutionPath inputs n C′ ls C″ → ExecutionPath inputs (suc n) C (linesFor C o ++ ls) C″
+
+  -- how many of its steps are moves: 'Instant changes are not moves' (02 (f))
+  unfoldable pub movesIn :
+      {inputs : Inputs} {n : ℕ} {C D : Configuration L} {ls : List NamedLine} → ExecutionPath inputs n C ls D → ℕ
+  movesIn here = 0
+  movesIn (more (MOVE m) rest) = suc (movesIn rest)
+  movesIn (more (INSTANT-OP d c) rest) = movesIn rest

@@ -4,13 +4,15 @@
 -- declaration and substitutes it. The relation in place is the one that the product works with. What is said here joins
 -- the two: the report has a path of as many steps, and every path of as many steps, whatever names it takes, has the
 -- same instants, session values and lines, and leaves the same process up to its names.
-use Prim.Native.Nat.{ℕ, _<_}
+use Prim.Native.Nat.{ℕ, _+_, _≤_, _<_}
 use mathlib.Core.Path.{_≡_}
 use mathlib.Core.Bool.{Bool, true}
 use mathlib.Core.Option.{some}
 use mathlib.Core.List.{List, [], _∷_}
 use lib.ListN.{length}
 use Rattle.language.specs.Syntax.{Names}
+use Rattle.language.specs.Shapes.{counted}
+use Rattle.language.specs.MoveBounds.{holdsNoWhile, mostMoves}
 use Rattle.language.specs.NameKinds.{Kind, var, sig, isOf}
 use Rattle.language.specs.Typing.{Environment}
 use Rattle.language.specs.Steps.{held, present, Output, Inputs}
@@ -19,7 +21,7 @@ use Rattle.language.specs.Paths as paths
 use Rattle.report.specs.Names.{Free, Renaming, Renamed}
 use Rattle.report.specs.Configurations.{Configuration}
 use Rattle.report.specs.Instants.{Step, Alive, Terminated}
-use Rattle.report.specs.Paths.{NamedLine, linesFor, ExecutionPath}
+use Rattle.report.specs.Paths.{NamedLine, linesFor, ExecutionPath, movesIn}
 
 module _ {L : Type 0} (names : Names L) (Γ : Environment L) where
   -- A line of the run and one of a path of the report. `origin` tells for each name that the report has which name of
@@ -88,3 +90,11 @@ pub record Reported {L : Type 0} (names : Names L) (Γ : Environment L) (inputs 
   pub ends :
       (ms : List NamedLine) (D : Configuration L) → ExecutionPath below inputs (r .steps) C ms D →
       EndsAs below inputs (r .ending) D (r .steps) limit
+
+-- 02 (f) of every path of the report, from any configuration, whatever names it takes and whatever signals each instant
+-- begins with: a script that holds no while 'makes at most k × (p + 1) moves in its whole run'. The other steps are
+-- instant changes.
+pub record PathBounded {L : Type 0} (below : L → Bool) (inputs : Inputs) {n : ℕ} {C D : Configuration L} {ls : List NamedLine}
+    (path : ExecutionPath below inputs n C ls D) : Type 0 where
+  pub steps : n + C .instants ≡ movesIn below path + D .instants
+  pub moves : holdsNoWhile (counted (C .process)) ≡ true → movesIn below path ≤ mostMoves (counted (C .process))
