@@ -1,13 +1,12 @@
 -- Counts of nodes: what one node more adds, and that none is above the number of nodes.
-use mathlib.Core.Path.{_≡_, refl, sym, ap, _∙_}
-use mathlib.Core.Bool.{Bool, true, false}
+use mathlib.Core.Path.{_≡_, refl, sym}
+use mathlib.Core.Bool.{Bool}
 use mathlib.Core.List.{List}
 use Prim.Native.Nat.{ℕ, _+_, _*_, _≤_}
-use native.Mathlib.Nat.{mul-le-mul, add-zero}
+use native.Mathlib.Nat.{mul-le-mul}
 use native.Mathlib.Omega.{arith}
 use Rattle.prelude.specs.Search.{count}
-use Rattle.prelude.proofs.Bools.{by-cases}
-use Rattle.prelude.proofs.Counts.{count-within, count-hit, count-miss}
+use Rattle.prelude.proofs.Counts.{count-within, count-more}
 use Rattle.language.specs.MoveBounds.{isNotNil, isParallel, isWhile}
 use Rattle.layout.specs.Entries.{partOf, node}
 use Rattle.bound.specs.declared.NodeCounts.{NodeCounts}
@@ -17,11 +16,6 @@ pub with-kind-is :
     (n : NodeCounts) (kind : ℕ) {a b c : ℕ} → a ≡ oneIf (isNotNil kind) → b ≡ oneIf (isParallel kind) → c ≡ oneIf (isWhile kind) →
     record { others = n .others + a; parallels = n .parallels + b; whiles = n .whiles + c } ≡ withKind n kind
 with-kind-is n kind d e f = rw (d, e, f)
-
-count-one-more : (f : ℕ → Bool) (n : ℕ) → count f n + oneIf (f n) ≡ count f (n + 1)
-count-one-more f n =
-    by-cases (λ m. count f n + m ≡ count f (n + 1)) (f n) (λ t. sym (count-hit f n t))
-    (λ t. add-zero (count f n) ∙ sym (count-miss f n t))
 
 module _ (s : List ℕ) where
   pub no-counts : record { others = 0; parallels = 0; whiles = 0 } ≡ countsUpTo s 0
@@ -35,7 +29,7 @@ module _ (s : List ℕ) where
           (f : ℕ → Bool) →
           count (λ k. f (partOf s (node s k) .kind)) n + oneIf (f (partOf s (node s n) .kind))
           ≡ count (λ k. f (partOf s (node s k) .kind)) (n + 1)
-      more f = count-one-more (λ k. f (partOf s (node s k) .kind)) n
+      more f = sym (count-more (λ k. f (partOf s (node s k) .kind)) n)
 
   pub counts-few : (n : ℕ) → Few (countsUpTo s n) n
   counts-few n =

@@ -1,11 +1,11 @@
 -- How often a test holds: what one number more adds; that it is one number, and which; and a table that counts how
 -- often a function has each value.
 use mathlib.Core.Path.{_≡_, refl, sym, ap, _∙_}
-use mathlib.Core.Bool.{Bool, true, false, true≢false}
+use mathlib.Core.Bool.{Bool, true, false, cond, true≢false}
 use mathlib.Core.Logic.{⊎-elim}
 use mathlib.Core.List.{List}
 use Prim.Native.Nat.{ℕ, zero, suc, _+_, _≤_, _<_, zero-le}
-use native.Mathlib.Nat.{le-of-suc-le-suc, not-suc-le-zero, eq-or-lt-of-le, le-antisymm}
+use native.Mathlib.Nat.{add-zero, le-of-suc-le-suc, not-suc-le-zero, eq-or-lt-of-le, le-antisymm}
 use native.Mathlib.Numerals.{add-one}
 use native.Mathlib.Omega.{arith}
 use native.Mathlib.Decide.{ℕ-discrete}
@@ -30,6 +30,16 @@ module _ (f : ℕ → Bool) where
   pub count-miss : (n : ℕ) → f n ≡ false → count f (n + 1) ≡ count f n
   unfolding count
   count-miss n e = rw (add-one, e)
+
+  -- one number more, whether the test holds there or not
+  pub count-more : (n : ℕ) → count f (n + 1) ≡ count f n + cond (f n) 1 0
+  count-more n =
+      by-cases (λ m. count f (n + 1) ≡ count f n + m) (f n) (count-hit n) (λ e. count-miss n e ∙ sym (add-zero (count f n)))
+
+  pub count-every : (n : ℕ) → ((k : ℕ) → f k ≡ true) → count f n ≡ n
+  unfolding count
+  count-every zero h = refl
+  count-every (suc n) h = rw (h n, count-every n h)
 
   pub count-found : (n : ℕ) → 0 < count f n → (i : ℕ) × (i < n) × (f i ≡ true)
   unfolding count

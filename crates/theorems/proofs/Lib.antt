@@ -2,4 +2,5 @@
 pub mod Records
 pub mod Theorems
 pub mod Flows
+pub mod Moves
 pub mod Worked

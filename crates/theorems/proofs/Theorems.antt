@@ -43,6 +43,7 @@ use Rattle.results.specs.declared.Verdict.{Verdict}
 use Rattle.checker.specs.Refusals.{checkRefusal}
 use Rattle.arguments.specs.Refusals.{runRefusal}
 use Rattle.arguments.specs.Contracts.{ListRight}
+use Rattle.bound.specs.Bound.{boundOf}
 use Rattle.results.specs.Results.{verdictBy}
 use Rattle.engine.specs.Answers.{verdict, runOf, Left, leftBy, left}
 use Rattle.theorems.specs.Records.{stamp}
@@ -79,7 +80,7 @@ module _ (b s : List ℕ) where
   verdict-is :
       passes (checkRefusal b s) ≡ true →
       verdict b s
-      ≡ verdictBy (checkRefusal b s) (writeLevel 𝓛 (namesOf s) (tree s)) (testLevel 𝓛 (namesOf s) (tree s))
+      ≡ verdictBy (checkRefusal b s) (writeLevel 𝓛 (namesOf s) (tree s)) (testLevel 𝓛 (namesOf s) (tree s)) (boundOf s)
   unfolding verdict
   verdict-is h = rw h
 

@@ -17,6 +17,7 @@ use Rattle.uses.specs.Uses.{used, timesUsed, useRefusal}
 use Rattle.scope.specs.Reach.{isOutOfReach, reachRefusal}
 use Rattle.script.specs.Refusals as scripts
 use Rattle.tree.specs.Tree.{expressionOf, processOf}
+use Rattle.bound.specs.Bound.{boundOf}
 use Rattle.checker.specs.Refusals.{checkRefusal}
 use Rattle.inputs.specs.Lists.{listed}
 use Rattle.arguments.specs.Refusals.{valuesRefusal, listRefusal, callRefusal, runRefusal}
@@ -24,5 +25,5 @@ use Rattle.engine.specs.Answers.{verdict, left}
 use Rattle.theorems.specs.Examples.{ExamplesHold}
 
 pub examples-hold : ExamplesHold
-unfolding firstFrom first any all count total course entry table leastUpper top orders.isFaulty orders.firstFaulty orders.refusal pairs.firstLacking books.refusal clamped rounded quotient isNil expLevel writeLevel testLevel need evaluate value suspended move change instantStart step calledAt givenBack noted reach used timesUsed isOutOfReach fieldIsRight faultRefusal useRefusal reachRefusal scripts.entryRefusal scripts.refusal expressionOf processOf words checkRefusal listed valuesRefusal listRefusal callRefusal runRefusal verdict left
+unfolding firstFrom first any all count total course entry table leastUpper top orders.isFaulty orders.firstFaulty orders.refusal pairs.firstLacking books.refusal clamped rounded quotient isNil expLevel writeLevel testLevel need evaluate value suspended move change instantStart step calledAt givenBack noted reach used timesUsed isOutOfReach fieldIsRight faultRefusal useRefusal reachRefusal scripts.entryRefusal scripts.refusal expressionOf processOf words boundOf checkRefusal listed valuesRefusal listRefusal callRefusal runRefusal verdict left
 examples-hold = refl

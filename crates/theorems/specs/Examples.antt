@@ -8,6 +8,8 @@ use lib.ListN.{length, replicate}
 use Rattle.layout.specs.Entries.{session}
 use Rattle.layout.specs.Files.{name, part, all, file}
 use Rattle.language.specs.Kinds.{nil, assign, ifThenElse, while, sequence, emit, watching, when, parallel}
+use Rattle.bound.specs.declared.MoveBound.{MoveBound}
+use Rattle.bound.specs.declared.MoveBound.the-variants.{AtMost, Unbounded}
 use Rattle.results.specs.declared.Verdict.{Verdict}
 use Rattle.results.specs.Results.{resultBy}
 use Rattle.engine.specs.Answers.{Left, verdict, left}
@@ -75,7 +77,7 @@ call s values limit checked ran =
 abbrev refusedAt : ℕ → List ℕ → List ℤ → Example
 refusedAt place s values =
     call s values 1000
-    (record { number = 11; place = place; write = 0; test = 0 })
+    (record { number = 11; place = place; write = 0; test = 0; moves = Unbounded })
     (record {
       result = record { number = 11; place = place; ending = 0; steps = 0; instants = 0; lines = 0 };
       values = values;
@@ -88,12 +90,13 @@ finished = 0
 abbrev spent : ℕ
 spent = 1
 
--- a script with this W and T that runs: how it ends, after how many steps and instants, its lines, its values
+-- a script with this W and T, and this bound on its moves, that runs: how it ends, after how many steps and instants, its
+-- lines, its values
 abbrev runs :
-    List ℕ → List ℤ → ℕ → ℕ → ℕ → ℕ → ℕ → ℕ → List (List ℕ) → List ℤ → Example
-runs s values limit write test ending steps instants lines after =
+    List ℕ → List ℤ → ℕ → ℕ → ℕ → MoveBound → ℕ → ℕ → ℕ → List (List ℕ) → List ℤ → Example
+runs s values limit write test moves ending steps instants lines after =
     call s values limit
-    (record { number = 0; place = 0; write = write; test = test })
+    (record { number = 0; place = 0; write = write; test = test; moves = moves })
     (record { result = resultBy ending steps instants (length lines); values = after; log = logWith lines })
 
 -- x := e, for the register x at L and an operator of two constants: the value that x gets, and its word in the log
@@ -101,7 +104,7 @@ abbrev assigns : ℕ → ℕ → List ℕ → ℤ → ℕ → Example
 assigns a b operator v word =
     runs
     (file (register L ∷ []) (constant a ∷ constant b ∷ operator ∷ []) (part assign 0 2 0 ∷ []))
-    (pos 0 ∷ []) 1000 L L
+    (pos 0 ∷ []) 1000 L L (AtMost 1)
     finished 1 0 ((1 ∷ 0 ∷ 0 ∷ word ∷ []) ∷ []) (v ∷ [])
 
 -- emit a; emit a, for the signal a at L, absent or present before: its lines
@@ -109,13 +112,13 @@ abbrev emitsTwice : ℤ → List (List ℕ) → Example
 emitsTwice before lines =
     runs
     (file (signal L ∷ []) [] (part emit 0 0 0 ∷ part emit 0 0 0 ∷ part sequence 0 1 0 ∷ []))
-    (before ∷ []) 1000 L L
+    (before ∷ []) 1000 L L (AtMost 3)
     finished 3 0 lines (pos 1 ∷ [])
 
 abbrev pub examples : List Example
 examples =
     -- nil: W 1, T 0
-    runs (file [] [] (part nil 0 0 0 ∷ [])) [] 1000 H L finished 0 0 [] []
+    runs (file [] [] (part nil 0 0 0 ∷ [])) [] 1000 H L (AtMost 0) finished 0 0 [] []
     -- y_L := x_H: 11
     ∷ refusedAt 0
     (file (register L ∷ register H ∷ []) (valueOf 1 ∷ []) (part assign 0 0 0 ∷ []))
@@ -163,12 +166,12 @@ examples =
     -- when b do nil, b absent, limit 3: spent, 3 steps, 3 instants
     ∷ runs
     (file (signal L ∷ []) [] (part nil 0 0 0 ∷ part when 0 0 0 ∷ []))
-    (pos 0 ∷ []) 3 H L
+    (pos 0 ∷ []) 3 H L (AtMost 1)
     spent 3 3 [] (pos 0 ∷ [])
     -- (when b do nil) watching a, a present, b absent: finished, 1 step, 1 instant
     ∷ runs
     (file (signal L ∷ signal L ∷ []) [] (part nil 0 0 0 ∷ part when 1 0 0 ∷ part watching 0 1 0 ∷ []))
-    (pos 1 ∷ pos 0 ∷ []) 1000 H L
+    (pos 1 ∷ pos 0 ∷ []) 1000 H L (AtMost 2)
     finished 1 1 [] (pos 0 ∷ pos 0 ∷ [])
     -- (when a do x := 1) parallel emit a, all L, a absent: 5 steps; lines stamped 2 and 4
     ∷ runs
@@ -176,7 +179,7 @@ examples =
     (register L ∷ signal L ∷ [])
     (constant 1 ∷ [])
     (part assign 0 0 0 ∷ part when 1 0 0 ∷ part emit 1 0 0 ∷ part parallel 1 2 0 ∷ []))
-    (pos 0 ∷ pos 0 ∷ []) 1000 L L
+    (pos 0 ∷ pos 0 ∷ []) 1000 L L (AtMost 8)
     finished 5 0 ((2 ∷ 0 ∷ 1 ∷ 1 ∷ []) ∷ (4 ∷ 0 ∷ 0 ∷ 1 ∷ []) ∷ []) (pos 1 ∷ pos 1 ∷ [])
     -- 2147483647 + 1 is 2147483647; −2147483648 / −1 is 2147483647; −7 / 2 is −4; 5 / 0 is 0
     ∷ assigns 2147483647 1 (add 0 1) (pos 2147483647) 2147483647
@@ -194,6 +197,11 @@ examples =
     -- emit a; emit a, a absent: 3 steps, a line stamped 1; a present: no line
     ∷ emitsTwice (pos 0) ((1 ∷ 0 ∷ 0 ∷ 1 ∷ []) ∷ [])
     ∷ emitsTwice (pos 1) []
+    -- while x do nil, x 0: no bound on the moves; one step
+    ∷ runs
+    (file (register L ∷ []) (valueOf 0 ∷ []) (part nil 0 0 0 ∷ part while 0 0 0 ∷ []))
+    (pos 0 ∷ []) 1000 H L Unbounded
+    finished 1 0 [] (pos 0 ∷ [])
     -- values 00000000 and script 0000FFFF 0000000000000007 0100000000000000 0004000C00145354: 'accepted 0 0', '1 0 0 7',
     -- 'finished 1 0'
     ∷ runs
@@ -202,7 +210,7 @@ examples =
     ∷ 1 ∷ 0 ∷ 0 ∷ 0 ∷ 0 ∷ 0 ∷ 0 ∷ 0
     ∷ 0 ∷ 4 ∷ 0 ∷ 12 ∷ 0 ∷ 20 ∷ 83 ∷ 84
     ∷ [])
-    (pos 0 ∷ []) 1000 L L
+    (pos 0 ∷ []) 1000 L L (AtMost 1)
     finished 1 0 ((1 ∷ 0 ∷ 0 ∷ 7 ∷ []) ∷ []) (pos 7 ∷ [])
     ∷ []
 

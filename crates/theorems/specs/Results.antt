@@ -1,29 +1,31 @@
--- Demands 2 and 3 and 02 (e) about the calls. `verdict` is what check answers, `left` what run leaves and `flowsFound` what
--- flows answers: their contracts in engine/src/lib.rt say so, for every input. The proofs are in proofs/Theorems.antt and
--- proofs/Flows.antt.
+-- Demands 2 and 3 and 02 (e) and (f) about the calls. `verdict` is what check answers, `left` what run leaves and
+-- `flowsFound` what flows answers: their contracts in engine/src/lib.rt say so, for every input. The proofs are in
+-- proofs/Theorems.antt, proofs/Flows.antt and proofs/Moves.antt.
 use mathlib.Core.Path.{_≡_}
 use mathlib.Core.Bool.{Bool, true, false}
 use mathlib.Core.Logic.{_↔_}
 use mathlib.Core.List.{List, []}
-use Prim.Native.Nat.{ℕ, _/_, _≤_, _<_}
+use Prim.Native.Nat.{ℕ, _-_, _/_, _≤_, _<_}
 use lib.IntN.{ℤ}
 use lib.ListN.{getD, length}
 use Rattle.prelude.specs.Sets.{has}
 use Rattle.book.specs.LevelBook.{count, rows, atOrBelow}
 use Rattle.lattice.specs.Lattice.{Laws, bookLattice}
 use Rattle.lattice.specs.Refusals as books
-use Rattle.language.specs.Steps.{held, noInputs}
+use Rattle.language.specs.Steps.{held, Inputs, noInputs}
 use Rattle.language.specs.Calls.{Run, starts, readable, run}
 use Rattle.language.specs.Typing.{Environment, environment, Typed, Tightest}
 use Rattle.language.specs.Paths.{IsRun}
 use Rattle.language.specs.Results.{stampedUpTo}
 use Rattle.report.specs.Configurations.{Configuration, Begins, begun}
+use Rattle.report.specs.Paths.{NamedLine, ExecutionPath, movesIn}
 use Rattle.report.specs.Results.{Reported}
 use Rattle.inputs.specs.Lists.{listed}
 use Rattle.layout.specs.Layout.{nameCount}
 use Rattle.layout.specs.Entries.{isSessionName}
 use Rattle.script.specs.Refusals as scripts
 use Rattle.tree.specs.Tree.{namesOf, tree}
+use Rattle.bound.specs.declared.MoveBound.the-variants.{AtMost}
 use Rattle.engine.specs.Answers.{verdict, flowsFound, runOf, Left, leftBy, left}
 use Rattle.theorems.specs.Records.{recordOf, stamp}
 
@@ -109,6 +111,24 @@ pub record RunReported (b s : List ℕ) (reader : ℕ) (values : List ℤ) (limi
       Begins (sessionEnvironment s) (starts (tree s) values) C →
       Reported (namesOf s) (sessionEnvironment s) (listed list) (λ δ. bookLattice b .leq δ reader) limit
       (starts (tree s) values) C (runOf b s reader values limit list log)
+
+-- 02 (f): 'such a script makes at most k × (p + 1) moves in its whole run, whatever values and signals it meets', where
+-- check gives m as the figure. 'Instant changes are not moves': the moves of a run are its steps less its instants.
+pub record MovesBounded (b s : List ℕ) (m : ℕ) : Type 0 where
+  pub instants :
+      (reader : ℕ) (values : List ℤ) (limit : ℕ) (list log : List ℕ) →
+      left b s reader values limit list log .result .instants ≤ left b s reader values limit list log .result .steps
+  pub moves :
+      (reader : ℕ) (values : List ℤ) (limit : ℕ) (list log : List ℕ) →
+      left b s reader values limit list log .result .steps - left b s reader values limit list log .result .instants ≤ m
+  -- The same of every path of the report's own relation, with fresh names, from any ⟨Γ, S, E, script⟩; `inputs` are the
+  -- signals that each instant begins with.
+  pub reported :
+      (below : ℕ → Bool) (inputs : Inputs) (n : ℕ) (C D : Configuration ℕ) (ls : List NamedLine) → C .process ≡ tree s →
+      (path : ExecutionPath below inputs n C ls D) → movesIn below path ≤ m
+
+abbrev pub FigureHolds : Type 0
+FigureHolds = (b s : List ℕ) (m : ℕ) → verdict b s .moves ≡ AtMost m → MovesBounded b s m
 
 -- a session name at or below the reader's level
 pub record Readable (b s : List ℕ) (reader x : ℕ) : Type 0 where

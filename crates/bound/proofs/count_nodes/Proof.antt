@@ -51,9 +51,9 @@ loop-again c =
     let loop = c .before .before .before .before .loop in (
       search needs,
       c .with-kind .ensures
-      ∙ ap (λ n. withKind n (c .before .part-at .result .kind)) (loop .inv .1)
-      ∙ counts-more (start .args .s .now) (loop .k) (c .before .part-at .result .kind)
-      (ap (λ (x : Part). x .kind) (c .before .part-at .ensures) ∙ ap (λ e. partOf (start .args .s .now) (e + loop .k) .kind) (expressions-are (start .pre))),
+          ∙ ap (λ n. withKind n (c .before .part-at .result .kind)) (loop .inv .1)
+          ∙ counts-more (start .args .s .now) (loop .k) (c .before .part-at .result .kind)
+          (ap (λ (x : Part). x .kind) (c .before .part-at .ensures) ∙ ap (λ e. partOf (start .args .s .now) (e + loop .k) .kind) (expressions-are (start .pre))),
     )
 
 returns : tie.Need-returns Inv-loop μ-loop
