@@ -1,6 +1,8 @@
-// What the calls answer of a script, printed in the form that 01 gives.
+// What the calls answer of a script, printed in the form that 01 gives; and the bound on its moves.
+use bound::MoveBound;
 use results::RunResult;
 use results::Verdict;
+use text::say;
 use text::say_byte;
 use text::say_number;
 use text::say_pair;
@@ -59,4 +61,28 @@ pub fn show_run(book: &[u8], script: &[u8], values: &mut [i32], limit: u32, list
     let v = engine::check(book, script);
     let r = engine::run(book, script, 0, values, limit, list, &mut log);
     say_answers(v, r, &log);
+}
+
+fn say_bound(bound: MoveBound) {
+    match bound {
+        MoveBound::AtMost(moves) => say_moves(moves),
+        MoveBound::Unbounded => say(b"no bound\n"),
+    }
+}
+
+fn say_moves(moves: u32) {
+    say(b"at most ");
+    say_number(moves as u64, b' ');
+    say(b"moves\n");
+}
+
+// Checks a script and prints how many moves it can make.
+pub fn show_bound(book: &[u8], script: &[u8]) {
+    let v = engine::check(book, script);
+    if v.number != 0 {
+        say_refusal(v.number, v.place);
+        return;
+    }
+    let moves = v.moves;
+    say_bound(moves);
 }

@@ -1,5 +1,5 @@
-// The calls for C. A slice is a pointer and then a length in elements. With an `out` of another length than 6, 6 or 2, or
-// `flows` of another than the most levels, nothing happens: every buffer is left untouched.
+// The calls for C. A slice is a pointer and then a length in elements. With an `out` of another length than the call's
+// words, or `flows` of another than the most levels, nothing happens: every buffer is left untouched.
 use book::Book;
 use results::words::put_flows;
 use results::words::put_result;
@@ -10,12 +10,19 @@ ghost use Rattle.results.specs.Words.{verdictWords, resultWords, flowsWords};
 ghost use Rattle.engine.specs.Interface.{whereAsked, whereBothAsked};
 ghost use Rattle.book.specs.LevelBook.{mostLevels};
 
+// The words of `out`.
+const CHECK_WORDS: usize = 6;
+
+const RUN_WORDS: usize = 6;
+
+const FLOWS_WORDS: usize = 2;
+
 // `out` becomes number, place, W, T, whether there is a bound on the moves, and that bound.
 #[no_mangle]
 pub extern "C" fn station_check(book: &[u8], script: &[u8], out: &mut [u32])
     ensures { λ _. ⌜ now (out .exit) ≡ whereAsked 6 (now (out .entry)) (verdictWords (verdict (now (book .entry)) (now (script .entry)))) (now (out .entry)) ⌝ }
 {
-    if out.len() != 6 {
+    if out.len() != CHECK_WORDS {
         return;
     }
     let v = crate::check(book, script);
@@ -38,7 +45,7 @@ pub extern "C" fn station_run(
     ensures { λ _. ⌜ now (values .exit) ≡ whereAsked 6 (now (out .entry)) (left (now (book .entry)) (now (script .entry)) reader (now (values .entry)) limit (now (list .entry)) (now (log .entry)) .values) (now (values .entry)) ⌝ }
     ensures { λ _. ⌜ now (log .exit) ≡ whereAsked 6 (now (out .entry)) (left (now (book .entry)) (now (script .entry)) reader (now (values .entry)) limit (now (list .entry)) (now (log .entry)) .log) (now (log .entry)) ⌝ }
 {
-    if out.len() != 6 {
+    if out.len() != RUN_WORDS {
         return;
     }
     let r = crate::run(book, script, reader, values, limit, list, log);
@@ -51,7 +58,7 @@ pub extern "C" fn station_flows(script: &[u8], flows: &mut [u32], out: &mut [u32
     ensures { λ _. ⌜ now (flows .exit) ≡ whereBothAsked 2 (now (out .entry)) mostLevels (now (flows .entry)) (flowsFound (now (script .entry)) .to) (now (flows .entry)) ⌝ }
     ensures { λ _. ⌜ now (out .exit) ≡ whereBothAsked 2 (now (out .entry)) mostLevels (now (flows .entry)) (flowsWords (flowsFound (now (script .entry)))) (now (out .entry)) ⌝ }
 {
-    if out.len() != 2 {
+    if out.len() != FLOWS_WORDS {
         return;
     }
     if flows.len() != Book::MAX_LEVELS {

@@ -35,12 +35,12 @@ pub struct Flows {
     pub to: [u16; Book::MAX_LEVELS],
 }
 
-pub fn refused_verdict(r: Refusal) -> Verdict
-    ensures { λ a. ⌜ a ≡ refusedVerdict r ⌝ }
+pub fn refused_verdict(refusal: Refusal) -> Verdict
+    ensures { λ r. ⌜ r ≡ refusedVerdict refusal ⌝ }
 {
     Verdict {
-        number: r.number,
-        place: r.place,
+        number: refusal.number,
+        place: refusal.place,
         write: 0,
         test: 0,
         moves: MoveBound::Unbounded,

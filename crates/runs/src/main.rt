@@ -1,6 +1,6 @@
 // Runs the examples of 01 that are not proved, those of the report and some of 02, as the file stdin has them. For each it
-// prints a title and what comes of the script, for the reader 0. What it prints is held to the file stdout, which was worked
-// out from the papers alone.
+// prints a title and what comes of the script, for the reader 0; of some, also the bound on the moves. What it prints is held
+// to the file stdout, which was worked out from the papers alone.
 use libc::STDIN_FILENO;
 use text::hex;
 ghost use Prim.Native.Nat.{_≤_, _<_};
@@ -82,8 +82,14 @@ fn run_listed(line: &[u8], script: &[u8]) {
     text::say_byte(b'\n');
 }
 
-// A line's first byte says what it is: a title, the start of a script, a part of it, a run, or a run with a list. Answers how
-// many bytes of the script there are.
+fn bound(line: &[u8], script: &[u8]) {
+    let mut book = [0u8; CALL];
+    let n = hex::read(line, &mut book, 0);
+    display::show_bound(&book[0..n], script);
+}
+
+// A line's first byte says what it is: a title, the start of a script, a part of it, a run, a run with a list, or the bound on
+// the moves of the script's runs. Answers how many bytes of the script there are.
 fn take_line(line: &[u8], script: &mut [u8], end: usize) -> usize
     requires { ⌜ (0 < length (now line)) × (end ≤ length (now script)) ⌝ }
     ensures { λ r. ⌜ r ≤ length (now (script .entry)) ⌝ }
@@ -94,6 +100,7 @@ fn take_line(line: &[u8], script: &mut [u8], end: usize) -> usize
         b's' => return hex::read(line, script, end),
         b'r' => run(line, &script[0..end]),
         b'l' => run_listed(line, &script[0..end]),
+        b'b' => bound(line, &script[0..end]),
         _ => {}
     }
     end
