@@ -11,8 +11,9 @@
  *  - `book`, `script` and `list` are only read; they may overlap each other. `values`, `log`, `flows` and `out` are
  *    written: each of them must overlap no other buffer of the call.
  *  - `values`, `list`, `log`, `flows` and `out` must be aligned for their element types; `book` and `script` need not.
- *  - `out` must have exactly STATION_CHECK_WORDS, STATION_FLOWS_WORDS or STATION_RUN_WORDS elements, and `flows` exactly
- *    STATION_MAX_LEVELS. With any other length of either the call does nothing at all: no buffer is written.
+ *  - `out` must have exactly the words of its call, STATION_CHECK_WORDS, STATION_FLOWS_WORDS or STATION_RUN_WORDS, and
+ *    `flows` exactly STATION_MAX_LEVELS. With any other length of either the call does nothing at all: no buffer is
+ *    written.
  *
  * REENTRANCY. There is no static state and no lock: calls may run at the same time, in any thread, as long
  * as no buffer that one of them writes belongs to another call.
@@ -38,18 +39,20 @@ extern "C" {
 #define STATION_MAX_STEPS 1000000
 
 /* The lengths of `out`, and the words of one pair of the list and of one line of the log. */
-#define STATION_CHECK_WORDS 4
+#define STATION_CHECK_WORDS 6
 #define STATION_FLOWS_WORDS 2
 #define STATION_RUN_WORDS 6
 #define STATION_PAIR_WORDS 2
 #define STATION_LINE_WORDS 4
 
-/* The words of `out` after station_check. A refusal's W and T are 0. */
+/* The words of `out` after station_check. Of a refused script all but number and place are 0. */
 enum station_check_word {
-    STATION_CHECK_NUMBER = 0, /* a station_refusal */
-    STATION_CHECK_PLACE = 1,  /* where, as the refusal says; 0 if accepted */
-    STATION_CHECK_WRITE = 2,  /* W, a level: the meet of what the script may write */
-    STATION_CHECK_TEST = 3    /* T, a level: the join of what the script tests */
+    STATION_CHECK_NUMBER = 0,  /* a station_refusal */
+    STATION_CHECK_PLACE = 1,   /* where, as the refusal says; 0 if accepted */
+    STATION_CHECK_WRITE = 2,   /* W, a level: the meet of what the script may write */
+    STATION_CHECK_TEST = 3,    /* T, a level: the join of what the script tests */
+    STATION_CHECK_BOUNDED = 4, /* 1, or 0 where the script holds a while */
+    STATION_CHECK_MOVES = 5    /* no run of a bounded script makes more moves than this; 0 if not bounded */
 };
 
 /* The words of `out` after station_flows. The words of `flows` are described with the call. */
@@ -117,7 +120,12 @@ enum station_ending {
 };
 
 /*
- * Checks a script under a level book. `out` becomes number, place, W, T.
+ * Checks a script under a level book. `out` becomes number, place, W, T, bounded, moves.
+ *
+ * The moves of a run are its steps less its instants. For a script without while, with k nodes other than nil, p of
+ * them parallel, the figure is k * (p + 1), and no run makes more moves: from any values, with any reader, limit, list
+ * and log. It bounds moves, not steps: a run may still wait any number of instants. With a while there is no figure.
+ * Ask `bounded` for that, since the figure of nil is 0, too.
  */
 void station_check(const uint8_t *book, size_t book_len,
                    const uint8_t *script, size_t script_len,

@@ -43,17 +43,37 @@ static const uint8_t copy_script[] = {
     0x00, 0x08, 0x00, 0x10, 0x00, 0x18, 0x53, 0x54  /* tail */
 };
 
+/* while x do nil, with a session register x at level 0. */
+static const uint8_t loop_script[] = {
+    0x00, 0x00, 0xFF, 0xFF,                         /* name 0 */
+    0x01, 0x00, 0x00, 0x00, 0x00, 0x00, 0x00, 0x00, /* expression 0 */
+    0x00, 0x00, 0x00, 0x00, 0x00, 0x00, 0x00, 0x00, /* node 0 */
+    0x04, 0x00, 0x00, 0x00, 0x00, 0x00, 0x00, 0x00, /* node 1 */
+    0x00, 0x04, 0x00, 0x0C, 0x00, 0x1C, 0x53, 0x54  /* tail */
+};
+
+/* (when a do nil) parallel emit a, with a session signal a at level 0. */
+static const uint8_t parallel_script[] = {
+    0x01, 0x00, 0xFF, 0xFF,                         /* name 0 */
+    0x00, 0x00, 0x00, 0x00, 0x00, 0x00, 0x00, 0x00, /* node 0 */
+    0x09, 0x00, 0x00, 0x00, 0x00, 0x00, 0x00, 0x00, /* node 1 */
+    0x06, 0x00, 0x00, 0x00, 0x00, 0x00, 0x00, 0x00, /* node 2 */
+    0x0A, 0x00, 0x00, 0x01, 0x00, 0x02, 0x00, 0x00, /* node 3 */
+    0x00, 0x04, 0x00, 0x04, 0x00, 0x24, 0x53, 0x54  /* tail */
+};
+
 /* The buffers of a call begin AT words into these arrays; what stands around them must not change, nor the list. */
 #define AT 2
 #define GUARD 0x5AA5C33C
 #define LIST_WORDS 5
+#define MOST_OUT_WORDS 8
 
 struct buffers {
     int32_t values[2 * AT + 1];
     uint32_t list[2 * AT + LIST_WORDS];
     uint32_t log[2 * AT + 2 * STATION_LINE_WORDS];
     uint32_t flows[2 * AT + STATION_MAX_LEVELS + 1];
-    uint32_t out[2 * AT + STATION_RUN_WORDS + 1];
+    uint32_t out[2 * AT + MOST_OUT_WORDS];
 };
 
 static int failures = 0;
@@ -90,8 +110,14 @@ static int same(const struct buffers *a, const struct buffers *b) {
     return memcmp(a, b, sizeof *a) == 0;
 }
 
+/* What station_run leaves where it is refused, and station_check as well: both have six words. */
 static void put_refusal(struct buffers *b, uint32_t number, uint32_t place) {
     const uint32_t words[STATION_RUN_WORDS] = {number, place, 0, 0, 0, 0};
+    memcpy(b->out + AT, words, sizeof words);
+}
+
+static void put_accepted(struct buffers *b, uint32_t write, uint32_t test, uint32_t bounded, uint32_t moves) {
+    const uint32_t words[STATION_CHECK_WORDS] = {0, 0, write, test, bounded, moves};
     memcpy(b->out + AT, words, sizeof words);
 }
 
@@ -122,9 +148,10 @@ static void run_wait(struct buffers *b, uint32_t limit, size_t list_len) {
 static void wrong_out_lengths(void) {
     const struct buffers before = fresh(0);
     struct buffers b = before;
-    for (size_t n = 0; n <= STATION_RUN_WORDS + 1; n++) {
+    for (size_t n = 0; n <= MOST_OUT_WORDS; n++) {
         if (n != STATION_CHECK_WORDS) {
             station_check(book, sizeof book, script, sizeof script, b.out + AT, n);
+            station_check(book, sizeof book, NULL, 0, b.out + AT, n);
         }
         if (n != STATION_RUN_WORDS) {
             run(&b, 0, 1000, 2 * STATION_LINE_WORDS, n);
@@ -148,7 +175,7 @@ static void wrong_flows_lengths(void) {
         if (n != STATION_MAX_LEVELS) {
             ask(&b, n, STATION_FLOWS_WORDS);
         }
-        if (n != STATION_FLOWS_WORDS && n <= STATION_RUN_WORDS + 1) {
+        if (n != STATION_FLOWS_WORDS && n <= MOST_OUT_WORDS) {
             ask(&b, STATION_MAX_LEVELS, n);
         }
     }
@@ -185,14 +212,42 @@ static void flows_of_wrong_scripts(void) {
                   STATION_REFUSED_NAME, 1);
 }
 
-static void check_of_nothing(void) {
-    uint32_t out[STATION_CHECK_WORDS];
-    const uint32_t no_book[] = {STATION_REFUSED_BOOK, 0, 0, 0};
-    const uint32_t no_script[] = {STATION_REFUSED_TAIL, 0, 0, 0};
-    station_check(NULL, 0, NULL, 0, out, STATION_CHECK_WORDS);
-    report("check: book NULL, script NULL", memcmp(out, no_book, sizeof out) == 0);
-    station_check(book, sizeof book, NULL, 0, out, STATION_CHECK_WORDS);
-    report("check: script NULL", memcmp(out, no_script, sizeof out) == 0);
+/* A script that is accepted, with this W, T 0 and this bound on its moves. */
+static void accepted(const char *what, const uint8_t *part, size_t length, uint32_t write, uint32_t bounded,
+                     uint32_t moves) {
+    struct buffers b = fresh(0), expected = b;
+    put_accepted(&expected, write, 0, bounded, moves);
+    station_check(book, sizeof book, part, length, b.out + AT, STATION_CHECK_WORDS);
+    report(what, same(&b, &expected));
+}
+
+static void bounds_of_scripts(void) {
+    accepted("check of nil: bounded, with no move", nil_script, sizeof nil_script, 1, 1, 0);
+    accepted("check of x := 7: bounded, with one move", script, sizeof script, 0, 1, 1);
+    accepted("check of a parallel: bounded, with three nodes times two", parallel_script, sizeof parallel_script, 0, 1,
+             6);
+    accepted("check of a while: not bounded, and moves is 0", loop_script, sizeof loop_script, 1, 0, 0);
+}
+
+/* A check that is refused with this number, at place 0. */
+static void refused_check(const char *what, const uint8_t *levels, size_t levels_len, const uint8_t *part,
+                          size_t length, uint32_t number) {
+    struct buffers b = fresh(0), expected = b;
+    put_refusal(&expected, number, 0);
+    station_check(levels, levels_len, part, length, b.out + AT, STATION_CHECK_WORDS);
+    report(what, same(&b, &expected));
+}
+
+static void refused_checks(void) {
+    uint8_t flow[sizeof copy_script];
+    memcpy(flow, copy_script, sizeof flow);
+    flow[5] = 1;
+    refused_check("check: book NULL, script NULL", NULL, 0, NULL, 0, STATION_REFUSED_BOOK);
+    refused_check("check: script NULL", book, sizeof book, NULL, 0, STATION_REFUSED_TAIL);
+    refused_check("check of x := 7 without a book: every word but the number is 0", NULL, 0, script, sizeof script,
+                  STATION_REFUSED_BOOK);
+    refused_check("check of a script that is refused for flow: every word but the number is 0", book, sizeof book, flow,
+                  sizeof flow, STATION_REFUSED_FLOW);
 }
 
 static void run_of_nothing(void) {
@@ -324,7 +379,8 @@ int main(void) {
     wrong_flows_lengths();
     flows_of_scripts();
     flows_of_wrong_scripts();
-    check_of_nothing();
+    bounds_of_scripts();
+    refused_checks();
     run_of_nothing();
     log_lengths();
     log_null();

@@ -32,7 +32,7 @@ const OURS_BELOW: [u8; 9] = [0x04, 0x00, 0x0F, 0x00, 0x0E, 0x00, 0x0C, 0x00, 0x0
 
 fn print_check(agreed: &str, book: &[u8]) {
     match check(book, &SCRIPT) {
-        Ok(levels) => println!("{agreed}: accepted {} {}", levels.write, levels.test),
+        Ok(accepted) => println!("{agreed}: accepted {} {}", accepted.write, accepted.test),
         Err(refusal) => println!(
             "{agreed}: refused {} {}",
             refusal.reason.number(),

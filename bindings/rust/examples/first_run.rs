@@ -24,9 +24,9 @@ fn ending_name(ending: Ending) -> &'static str {
 fn check_and_run() -> Result<(), Refusal> {
     let mut values = [0];
     let mut log = [0; 4 * 256];
-    let levels = check(&BOOK, &SCRIPT)?;
+    let accepted = check(&BOOK, &SCRIPT)?;
     let run = run(&BOOK, &SCRIPT, 0, &mut values, 1000, &[], &mut log)?;
-    println!("accepted {} {}", levels.write, levels.test);
+    println!("accepted {} {}", accepted.write, accepted.test);
     for line in lines(&log, run.lines) {
         println!(
             "{} {} {} {}",

@@ -11,13 +11,19 @@ pub const MAX_STEPS: u32 = 1_000_000;
 /// The words of a pair of the signal list.
 pub const PAIR_WORDS: usize = 2;
 
-/// What [`check`] answers for an accepted script. Both are levels of the book.
+/// What [`check`] answers for an accepted script: two levels of the book, and a bound on the script's moves.
 #[derive(Clone, Copy, Debug, PartialEq, Eq, Hash)]
-pub struct Levels {
+pub struct Accepted {
     /// W: the meet of the levels of what the script may write.
     pub write: u32,
     /// T: the join of the levels of what the script tests.
     pub test: u32,
+    /// The most moves, steps less instants, that the script makes in its whole run, whatever values and signals it
+    /// meets; `None` where it holds a while.
+    ///
+    /// With k nodes other than nil, p of them parallel, that is k * (p + 1). It is a bound, which a run need not reach,
+    /// and it bounds moves, not steps: a run may still wait any number of instants.
+    pub moves: Option<u32>,
 }
 
 /// How a run ended.
@@ -69,7 +75,7 @@ pub struct Run {
 }
 
 /// Checks a script under a level book.
-pub fn check(book: &[u8], script: &[u8]) -> Result<Levels, Refusal> {
+pub fn check(book: &[u8], script: &[u8]) -> Result<Accepted, Refusal> {
     let mut out = [0; raw::CHECK_WORDS];
     // SAFETY: every pointer and length is that of one live slice; `out` is borrowed for this call alone, so that it
     // overlaps neither of the others.
@@ -83,9 +89,13 @@ pub fn check(book: &[u8], script: &[u8]) -> Result<Levels, Refusal> {
             out.len(),
         );
     }
-    let [number, place, write, test] = out;
-    accepted(number, place)?;
-    Ok(Levels { write, test })
+    let [number, place, write, test, bounded, moves] = out;
+    not_refused(number, place)?;
+    Ok(Accepted {
+        write,
+        test,
+        moves: (bounded != 0).then_some(moves),
+    })
 }
 
 /// The flows that a script would need, whatever the level book will be.
@@ -109,7 +119,7 @@ pub fn flows(script: &[u8]) -> Result<Flows, Refusal> {
         );
     }
     let [number, place] = out;
-    accepted(number, place)?;
+    not_refused(number, place)?;
     Ok(Flows::new(words))
 }
 
@@ -171,7 +181,7 @@ pub fn run(
         );
     }
     let [number, place, ending, steps, instants, lines] = out;
-    accepted(number, place)?;
+    not_refused(number, place)?;
     Ok(Run {
         ending: Ending::from_number(ending),
         steps,
@@ -181,7 +191,7 @@ pub fn run(
 }
 
 /// 0 means not refused.
-fn accepted(number: u32, place: u32) -> Result<(), Refusal> {
+fn not_refused(number: u32, place: u32) -> Result<(), Refusal> {
     if number == 0 {
         return Ok(());
     }

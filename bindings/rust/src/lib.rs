@@ -21,8 +21,9 @@
 //!     0x00, 0x04, 0x00, 0x0C, 0x00, 0x14, 0x53, 0x54, // tail: offsets 4, 12 and 20, then the mark
 //! ];
 //!
-//! let levels = station::check(&book, &script)?;
-//! assert_eq!((levels.write, levels.test), (0, 0));
+//! let accepted = station::check(&book, &script)?;
+//! assert_eq!((accepted.write, accepted.test), (0, 0));
+//! assert_eq!(accepted.moves, Some(1)); // no run makes more moves; None where there is a while
 //!
 //! let mut values = [0];
 //! let mut log = [0; 4 * 256];
@@ -45,7 +46,7 @@ mod log;
 pub mod raw;
 mod refusal;
 
-pub use calls::{check, flows, run, Ending, Levels, Run, MAX_STEPS, PAIR_WORDS};
+pub use calls::{check, flows, run, Accepted, Ending, Run, MAX_STEPS, PAIR_WORDS};
 pub use flows::{Flows, MAX_LEVELS};
 pub use log::{lines, Line, LINE_WORDS};
 pub use refusal::{Place, Reason, Refusal};

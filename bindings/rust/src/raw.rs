@@ -3,7 +3,7 @@
 //! A slice is a pointer, then a length in elements. The pointer of a slice of length 0 is never followed.
 
 /// The length of `out` that [`station_check`] asks for.
-pub const CHECK_WORDS: usize = 4;
+pub const CHECK_WORDS: usize = 6;
 
 /// The length of `out` that [`station_flows`] asks for.
 pub const FLOWS_WORDS: usize = 2;
@@ -15,8 +15,8 @@ pub const MAX_LEVELS: usize = 16;
 pub const RUN_WORDS: usize = 6;
 
 extern "C" {
-    /// Checks a script: `out` becomes number, place, W, T. An `out` of another length than 4 is left untouched, and
-    /// nothing else happens.
+    /// Checks a script: `out` becomes number, place, W, T, bounded (1, or 0 where there is a while), moves (0 where not
+    /// bounded). An `out` of another length than 6 is left untouched, and nothing else happens.
     ///
     /// # Safety
     /// Each pointer is good for reads of its length, `out` also for writes, and `out` overlaps no other slice.

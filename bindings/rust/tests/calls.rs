@@ -1,5 +1,5 @@
 //! `check` and `run`: the first example, and the edges of their buffers.
-use station::{check, lines, run, Ending, Levels, Line, Reason, Run, MAX_STEPS};
+use station::{check, lines, run, Accepted, Ending, Line, Reason, Run, MAX_STEPS};
 
 /// Two levels, 0 at or below 1.
 const BOOK: [u8; 5] = [0x02, 0x00, 0x03, 0x00, 0x02];
@@ -24,8 +24,12 @@ const UNTOUCHED: u32 = 0xA5A5_A5A5;
 fn first_example() {
     let mut values = [0];
     let mut log = [UNTOUCHED; 9];
-    let levels = check(&BOOK, &SCRIPT);
-    assert_eq!(levels, Ok(Levels { write: 0, test: 0 }));
+    let accepted = Accepted {
+        write: 0,
+        test: 0,
+        moves: Some(1),
+    };
+    assert_eq!(check(&BOOK, &SCRIPT), Ok(accepted));
     let answer = run(&BOOK, &SCRIPT, 0, &mut values, 1000, &[], &mut log);
     let (ending, steps, instants) = (Ending::Finished, 1, 0);
     let expected = Run {
