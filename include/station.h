@@ -2,8 +2,8 @@
  * station.h: checks and runs station scripts. C99 and C++; link with libengine.a.
  *
  * Three calls take any bytes and any numbers. What the rules do not allow is refused with a number and a place.
- * docs/FORMATS.md has the formats of level book, script file, value list, signal list, log and flows, docs/REFUSALS.md
- * an example of each refusal.
+ * docs/FORMATS.md has the formats of level book, script file, value list, signal list, log, flows and the answer of
+ * station_check, docs/REFUSALS.md an example of each refusal.
  *
  * BUFFERS. A buffer is a pointer, then a length in elements (not in bytes).
  *  - The caller owns every buffer. A call keeps no pointer after it returns, and allocates nothing.

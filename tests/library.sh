@@ -57,6 +57,14 @@ our claim below theirs: accepted 2 1
 END
 }
 
+prints_the_bound() {
+    diff <("$@") - <<'END'
+lock and tilt: at most 10 moves
+a run: 6 moves of at most 10, 13 steps less 7 instants
+lock again and again: no bound
+END
+}
+
 rust() {
     local command=$1 folder=$2
     shift 2
@@ -70,6 +78,8 @@ try 'C: first_run builds' "${cc[@]}" bindings/c/first_run.c $library -o target/f
 try 'C: first_run prints the example' prints_the_example target/first_run
 try 'C: flows builds' "${cc[@]}" bindings/c/flows.c $library -o target/flows
 try 'C: flows prints those of the boundary job' prints_the_flows target/flows
+try 'C: move_bound builds' "${cc[@]}" bindings/c/move_bound.c $library -o target/move_bound
+try 'C: move_bound prints the bound and a run' prints_the_bound target/move_bound
 try 'C: edges builds' "${cc[@]}" bindings/c/edges.c $library -o target/edges
 try 'C: edges' target/edges
 try 'C: stack builds' cc -O2 -Wall -Wextra -I include tests/speed/stack.c $library -pthread -Wl,-z,now -o target/stack
@@ -78,6 +88,7 @@ tally 'Rust: crate station' "$counted" rust test bindings/rust
 try 'Rust: first_run prints the example' prints_the_example rust run bindings/rust -q --example first_run
 try 'Rust: prism_lock prints its line' prints_the_lock rust run bindings/rust -q --example prism_lock
 try 'Rust: boundary_job prints its flows' prints_the_flows rust run bindings/rust -q --example boundary_job
+try 'Rust: move_bound prints the bound and a run' prints_the_bound rust run bindings/rust -q --example move_bound
 tally 'Rust: tests' "$counted" rust test tests --release
 tally 'Rust: comparison' '([0-9]+) passed, ([0-9]+) failed' rust run tests -q --release -p compare -- all
 

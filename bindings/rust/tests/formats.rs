@@ -2,7 +2,7 @@
 mod documents;
 
 use documents::{blocks, hex, Block};
-use station::{check, flows, lines, run, Ending, Levels, Reason, Refusal, MAX_LEVELS};
+use station::{check, flows, lines, run, Accepted, Ending, Reason, Refusal, MAX_LEVELS};
 
 /// The bytes of a table: each line has an offset of four digits, bytes, two blanks, and what they mean.
 fn bytes(block: &Block) -> Vec<u8> {
@@ -24,8 +24,8 @@ fn values(bytes: &[u8]) -> Vec<i32> {
     whole.iter().map(|&four| i32::from_be_bytes(four)).collect()
 }
 
-/// The words of a list, or in hexadecimal those of flows: each line has the number of its first word, words, two
-/// blanks, and what they mean.
+/// The words of a list or of an answer, or in hexadecimal those of flows: each line has the number of its first word,
+/// words, two blanks, and what they mean.
 fn words(block: &Block, radix: u32) -> Vec<u32> {
     let mut words = Vec::new();
     for line in &block.lines {
@@ -62,14 +62,16 @@ fn printed_with(
         values,
         list,
     } = example;
-    let levels = check(book, script)?;
+    let accepted = check(book, script)?;
     let run = run(book, script, 0, values, 1000, list, log)?;
+    let most = accepted.moves.expect("no script with a while");
+    assert!(run.steps - run.instants <= most);
     let ending = match run.ending {
         Ending::Finished => "finished",
         Ending::Spent => "spent",
         _ => "log full",
     };
-    let mut text = vec![format!("accepted {} {}", levels.write, levels.test)];
+    let mut text = vec![format!("accepted {} {}", accepted.write, accepted.test)];
     let line = |l: station::Line| format!("{} {} {} {}", l.step, l.instant, l.name, l.value);
     text.extend(lines(log, run.lines).map(line));
     text.push(format!("{ending} {} {}", run.steps, run.instants));
@@ -86,13 +88,14 @@ fn all(kind: &str) -> Vec<Vec<u8>> {
         .collect()
 }
 
-/// The examples with their answers: a script begins one, an answer ends it. A script with flows is none of them.
+/// The examples with what the program answers: a script begins one, an answer ends it. A script with flows is none of
+/// them.
 fn examples() -> Vec<(Example, Vec<String>)> {
     let mut examples = Vec::new();
     let mut example = Example::default();
     for block in blocks("FORMATS.md") {
         match &block.kind[..] {
-            "book" => {}
+            "book" | "check" => {}
             "script" => example.script = bytes(&block),
             "values" => example.values = values(&bytes(&block)),
             "list" => example.list = words(&block, 10),
@@ -108,10 +111,10 @@ fn examples() -> Vec<(Example, Vec<String>)> {
 fn scripts_are_answered_as_the_document_says() {
     let book = &all("book")[0];
     let examples = examples();
-    assert_eq!(examples.len(), 5);
-    assert_eq!((all("script").len(), all("values").len()), (6, 5));
+    assert_eq!(examples.len(), 6);
+    assert_eq!((all("script").len(), all("values").len()), (7, 6));
     let lists = examples.iter().map(|(example, _)| example.list.len());
-    assert_eq!(lists.collect::<Vec<usize>>(), [0, 0, 0, 6, 0]);
+    assert_eq!(lists.collect::<Vec<usize>>(), [0, 4, 0, 0, 6, 0]);
     for (mut example, answer) in examples {
         assert_eq!(printed(book, &mut example), Ok(answer));
     }
@@ -122,8 +125,8 @@ fn the_script_that_waits_finishes_only_with_its_list() {
     let book = &all("book")[0];
     let mut examples = examples().into_iter().map(|(example, _)| example);
     let mut example = examples
-        .find(|example| !example.list.is_empty())
-        .expect("an example with a list");
+        .find(|example| example.list.len() == 6)
+        .expect("the script that waits");
     printed(book, &mut example).expect("accepted");
     assert_eq!(example.values, [1, 1]);
     (example.values, example.list) = (vec![0, 0], vec![]);
@@ -160,14 +163,35 @@ fn books_are_accepted() {
     }
 }
 
-/// The script before the block of flows, and what that says.
-fn script_with_flows() -> (Vec<u8>, Vec<u32>) {
+/// The script before the block of this kind, and the words of that, in decimal or hexadecimal.
+fn script_with(kind: &str, radix: u32) -> (Vec<u8>, Vec<u32>) {
     let blocks = blocks("FORMATS.md");
     let mut pairs = blocks.windows(2);
-    let found = pairs.find(|pair| pair[1].kind == "flows");
-    let pair = found.expect("a block of flows");
+    let found = pairs.find(|pair| pair[1].kind == kind);
+    let pair = found.expect("a block of this kind");
     assert_eq!(pair[0].kind, "script");
-    (bytes(&pair[0]), words(&pair[1], 16))
+    (bytes(&pair[0]), words(&pair[1], radix))
+}
+
+fn script_with_flows() -> (Vec<u8>, Vec<u32>) {
+    script_with("flows", 16)
+}
+
+#[test]
+fn the_answer_of_check_is_that_of_the_document() {
+    let (script, words) = script_with("check", 10);
+    let accepted = check(&all("book")[0], &script).expect("accepted");
+    let Accepted { write, test, moves } = accepted;
+    let (bounded, figure) = (moves.is_some() as u32, moves.unwrap_or(0));
+    assert_eq!(words, [0, 0, write, test, bounded, figure]);
+}
+
+#[test]
+fn the_figures_are_those_of_the_nodes() {
+    let book = &all("book")[0];
+    let figure = |(example, _): (Example, _)| check(book, &example.script).expect("accepted").moves;
+    let figures: Vec<Option<u32>> = examples().into_iter().map(figure).collect();
+    assert_eq!(figures, [1, 5 * 2, 4 * 2, 2, 2, 5].map(Some));
 }
 
 #[test]
@@ -183,8 +207,8 @@ fn the_script_with_flows_needs_the_last_book() {
     let (script, books) = (script_with_flows().0, all("book"));
     let refusal = check(&books[1], &script).expect_err("claims side by side");
     assert_eq!((refusal.reason, refusal.place), (Reason::Flow, 2));
-    let levels = check(&books[2], &script);
-    assert_eq!(levels, Ok(Levels { write: 2, test: 1 }));
+    let accepted = check(&books[2], &script).expect("our claim below theirs");
+    assert_eq!((accepted.write, accepted.test), (2, 1));
 }
 
 #[test]

@@ -2,7 +2,7 @@
 mod documents;
 
 use documents::{blocks, hex, Block};
-use station::{check, flows, run, Flows, Reason, Refusal};
+use station::{check, flows, raw, run, Flows, Reason, Refusal};
 
 /// What an example gives beside book and script if it calls `run`.
 #[derive(Clone)]
@@ -93,8 +93,8 @@ fn outcome(example: &Example) -> Result<String, Refusal> {
             &mut [0; 64],
         )?;
     }
-    let levels = check(&example.book, &example.script)?;
-    Ok(format!("accepted {} {}", levels.write, levels.test))
+    let accepted = check(&example.book, &example.script)?;
+    Ok(format!("accepted {} {}", accepted.write, accepted.test))
 }
 
 fn answer(example: &Example) -> String {
@@ -155,6 +155,35 @@ fn a_refused_run_changes_neither_values_nor_log() {
         assert_eq!(refusal.err(), outcome(example).err());
         assert_eq!(values, call.values);
         assert_eq!(log, [0xA5A5_A5A5; 9]);
+    }
+}
+
+/// The words that `check` leaves, of which each was another before the call.
+fn words_of_check(book: &[u8], script: &[u8]) -> [u32; raw::CHECK_WORDS] {
+    let mut out = [0xA5A5_A5A5; raw::CHECK_WORDS];
+    let (words, length) = (out.as_mut_ptr(), out.len());
+    // SAFETY: every pointer and length is that of one live slice, and `out` overlaps neither of the others.
+    unsafe {
+        raw::station_check(
+            book.as_ptr(),
+            book.len(),
+            script.as_ptr(),
+            script.len(),
+            words,
+            length,
+        );
+    }
+    out
+}
+
+#[test]
+fn a_refused_check_leaves_number_and_place_alone() {
+    for Example { book, script, .. } in examples() {
+        let Err(refusal) = check(&book, &script) else {
+            continue;
+        };
+        let expected = [refusal.reason.number(), refusal.place, 0, 0, 0, 0];
+        assert_eq!(words_of_check(&book, &script), expected);
     }
 }
 
