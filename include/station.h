@@ -122,10 +122,10 @@ enum station_ending {
 /*
  * Checks a script under a level book. `out` becomes number, place, W, T, bounded, moves.
  *
- * The moves of a run are its steps less its instants. For a script without while, with k nodes other than nil, p of
- * them parallel, the figure is k * (p + 1), and no run makes more moves: from any values, with any reader, limit, list
- * and log. It bounds moves, not steps: a run may still wait any number of instants. With a while there is no figure.
- * Ask `bounded` for that, since the figure of nil is 0, too.
+ * The moves of a run are its steps less its instants. For an accepted script without while, with k nodes other than
+ * nil, p of them parallel, the figure is k * (p + 1), and no run makes more moves: from any values, with any reader,
+ * limit, list and log. It bounds moves, not steps: a run may still wait any number of instants. With a while there is
+ * no figure. Ask `bounded` for that, since the figure of nil is 0, too.
  */
 void station_check(const uint8_t *book, size_t book_len,
                    const uint8_t *script, size_t script_len,
