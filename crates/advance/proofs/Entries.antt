@@ -21,7 +21,7 @@ use Rattle.residual.specs.Residual.{own}
 use Rattle.residual.specs.Nodes.{residualOf, inFront}
 use Rattle.residual.proofs.Sights.{alone-within, beside-above, Sight, sees-nothing, sees-itself, sees-alone, sees-before, sees-watched, sees-guarded, sees-beside}
 use Rattle.moves.specs.Contracts.{IsWriter}
-use Rattle.language.specs.Kinds.{hasWrite}
+use Rattle.language.specs.KindGroups.{hasWrite}
 use Rattle.moves.proofs.OwnMoves.{writer-is}
 use Rattle.advance.specs.Contracts.{ownNext, Leads, ownMove, Follows}
 

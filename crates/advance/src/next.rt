@@ -10,7 +10,7 @@ ghost use lib.Dec.{eqb};
 ghost use Prim.Native.Nat.{_<_};
 ghost use Rattle.program.specs.Program.{mostNodes, kindAt};
 ghost use Rattle.residual.specs.Nodes.{NodeIn};
-ghost use Rattle.language.specs.Kinds.{hasWrite};
+ghost use Rattle.language.specs.KindGroups.{hasWrite};
 ghost use Rattle.advance.specs.Contracts.{ownNext, Follows};
 
 // Nothing, since the node is nil or suspended; or its part in front takes its place, since it stands alone; or that part is

@@ -11,7 +11,7 @@ use Rattle.pairs.specs.Table.{kept}
 use Rattle.lattice.proofs.Theorems.{as-level-own}
 use Rattle.flow.specs.declared.nodes.Flow.{Flow}
 use Rattle.flow.specs.declared.nodes.Own.{Own}
-use Rattle.language.specs.Kinds.{hasTest, hasWrite}
+use Rattle.language.specs.KindGroups.{hasTest, hasWrite}
 use Rattle.flow.specs.Nodes.{writeFrom, testFrom, ownNeed, flowFrom, OwnWithin, FlowWithin}
 use Rattle.flow.specs.Flow.{Levels, lattice, Ordered, Joins, Meets}
 

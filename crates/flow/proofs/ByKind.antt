@@ -7,7 +7,7 @@ use Rattle.lattice.specs.Lattice.{Lattice}
 use Rattle.language.specs.Syntax.{Names, Proc, nil, assign, letIn, ifThenElse, while, sequence, emit, local, watching, when, parallel}
 use Rattle.language.specs.Levels.{writeLevel, testLevel, need, needs}
 use Rattle.flow.specs.declared.nodes.Flow.{Flow}
-use Rattle.language.specs.Kinds.{kindOf, childrenOf}
+use Rattle.language.specs.KindGroups.{kindOf, childrenOf}
 use Rattle.flow.specs.Nodes.{ownOf, writeFrom, testFrom, ownNeed, pairNeed}
 
 module _ (𝓛 : Lattice ℕ) (names : Names ℕ) where

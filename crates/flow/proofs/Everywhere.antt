@@ -21,7 +21,7 @@ use Rattle.script.specs.Checked.{Checked}
 use Rattle.layout.proofs.Layouts.{few-bounds, few-parts}
 use Rattle.scope.specs.Reach.{liesIn}
 use Rattle.scope.proofs.Reaching.{lies-last}
-use Rattle.language.specs.Kinds.{childrenOf}
+use Rattle.language.specs.KindGroups.{childrenOf}
 use Rattle.flow.specs.Flow.{Smallest, FailsIn}
 use Rattle.flow.specs.Needs.{needAt, firstFailing}
 use Rattle.flow.proofs.ByKind.{needsOf, needs-by-kind}

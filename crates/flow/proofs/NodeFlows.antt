@@ -21,7 +21,7 @@ use Rattle.layout.proofs.Layouts.{nodes-are}
 use Rattle.flow.specs.declared.nodes.Flow.{Flow}
 use Rattle.flow.specs.declared.nodes.Own.{Own}
 use Rattle.language.specs.Kinds as kind
-use Rattle.language.specs.Kinds.{kindOf, hasWrite, hasTest, childrenOf}
+use Rattle.language.specs.KindGroups.{kindOf, hasWrite, hasTest, childrenOf}
 use Rattle.flow.specs.Nodes.{ownOf, writeFrom, testFrom, ownNeed, pairNeed, bothFrom, flowFrom, OwnWithin, FlowWithin}
 use Rattle.flow.specs.Flow.{Levels, Smallest, FailsIn, lattice, Ready, Joins, Meets, FlowAt}
 use Rattle.flow.specs.Needs.{needAt}

@@ -13,7 +13,7 @@ use Rattle.layout.specs.Entries.{nameOf, partOf, node}
 use Rattle.tree.specs.Tree.{namesOf, processOf}
 use Rattle.layout.proofs.Layouts.{names-are, expressions-are}
 use Rattle.tree.proofs.Views.{NodeView, aNil, anAssign, aLet, anIf, aWhile, aSequence, anEmit, aLocal, aWatching, aWhen, aParallel, node-view}
-use Rattle.language.specs.Kinds.{hasValue, hasCondition, hasSignal}
+use Rattle.language.specs.KindGroups.{hasValue, hasCondition, hasSignal}
 use Rattle.flow.specs.Nodes.{brings, ownOf}
 use Rattle.flow.specs.Flow.{Levels, lattice, Ready, LevelAt, IsNodeAt, IsNode, OwnOf}
 use Rattle.flow.proofs.BookLevels.{bottom-is, bottom-inside}

@@ -17,7 +17,7 @@ use Rattle.layout.specs.Entries.{partOf, node}
 use Rattle.tree.specs.Tree.{processOf}
 use Rattle.script.specs.Checked.{Checked}
 use Rattle.tree.proofs.Views.{NodeView, aNil, anAssign, aLet, anIf, aWhile, aSequence, anEmit, aLocal, aWatching, aWhen, aParallel, node-view, role}
-use Rattle.language.specs.Kinds.{kindOf, childrenOf}
+use Rattle.language.specs.KindGroups.{kindOf, childrenOf}
 
 module _ (s : List ℕ) (k : ℕ) where
   abbrev part : Part

@@ -12,7 +12,7 @@ use Rattle.language.specs.Levels.{expLevel}
 use Rattle.flow.specs.declared.nodes.Flow.{Flow}
 use Rattle.flow.specs.declared.nodes.Own.{Own}
 use Rattle.language.specs.Kinds as kind
-use Rattle.language.specs.Kinds.{hasValue, hasTest, hasWrite}
+use Rattle.language.specs.KindGroups.{hasValue, hasTest, hasWrite}
 
 -- What a node brings itself: 'D is the level of its expression or signal', and the level of its name. What it has not
 -- counts as bottom.

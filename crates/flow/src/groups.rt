@@ -3,7 +3,7 @@ use language::process_kinds;
 ghost use mathlib.Core.Path.{_≡_};
 ghost use mathlib.Core.Bool.{_||_};
 ghost use lib.Dec.{eqb};
-ghost use Rattle.language.specs.Kinds.{hasSignal, hasTest};
+ghost use Rattle.language.specs.KindGroups.{hasSignal, hasTest};
 
 pub fn is_either(kind: usize, one: usize, other: usize) -> bool
     ensures { λ r. ⌜ r ≡ (eqb kind one || eqb kind other) ⌝ }

@@ -1,5 +1,6 @@
 -- The language of scripts: 01, 'Script file' to 'Calls', then the figures of RR-5594, then what is proved.
 pub mod Syntax
+pub mod Kinds
 pub mod Shapes
 pub mod NameKinds
 pub mod Scope
@@ -14,5 +15,5 @@ pub mod Instants
 pub mod Typing
 pub mod Paths
 pub mod Results
-pub mod Kinds
+pub mod KindGroups
 pub mod Frames

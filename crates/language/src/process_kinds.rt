@@ -1,6 +1,6 @@
 // The kinds of processes, by their numbers in files and programs.
 ghost use mathlib.Core.Path.{_≡_};
-ghost use Rattle.language.specs.Kinds.{hasWrite};
+ghost use Rattle.language.specs.KindGroups.{hasWrite};
 
 pub const NIL: usize = 0;
 

@@ -25,7 +25,7 @@ use Rattle.residual.specs.Residual.{own, firstOf, secondOf, residual}
 use Rattle.moves.specs.Moves.{Live, Silent}
 use Rattle.residual.specs.Nodes.{Valued, At, residualOf}
 use Rattle.moves.specs.Contracts.{Unmoved, IsSilent, IsWriter, WriterAt, Written}
-use Rattle.language.specs.Kinds.{hasWrite}
+use Rattle.language.specs.KindGroups.{hasWrite}
 use Rattle.residual.proofs.Residuals.{zeros, own-set-at, some-bytes}
 use Rattle.residual.proofs.Sights.{MovesItself, not-itself, alone-within, beside-above, Sight, sees-nothing, sees-itself, sees-alone, sees-before, sees-watched, sees-guarded, sees-beside, own-put, length-put, first-put}
 

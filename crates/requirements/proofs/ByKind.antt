@@ -6,7 +6,7 @@ use mathlib.Core.List.{List, [], _∷_}
 use Prim.Native.Nat.{ℕ}
 use Rattle.language.specs.Syntax.{Names, Proc, nil, assign, letIn, ifThenElse, while, sequence, emit, local, watching, when, parallel}
 use Rattle.language.specs.RequiredFlows.{tests, writes, needsFlow, mustFlow}
-use Rattle.language.specs.Kinds.{kindOf, childrenOf}
+use Rattle.language.specs.KindGroups.{kindOf, childrenOf}
 use Rattle.requirements.specs.Nodes.{ownReads, ownName, testedBy, writtenBy, sourceBy, targetBy, pairBy}
 
 -- some child has it

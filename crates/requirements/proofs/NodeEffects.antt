@@ -7,7 +7,7 @@ use Rattle.prelude.specs.Sets.{has, IsSet}
 use Rattle.book.specs.LevelBook.{mostLevels}
 use Rattle.language.specs.Syntax.{Names, Proc}
 use Rattle.language.specs.RequiredFlows.{tests, writes, needsFlow, mustFlow}
-use Rattle.language.specs.Kinds.{kindOf, childrenOf}
+use Rattle.language.specs.KindGroups.{kindOf, childrenOf}
 use Rattle.requirements.specs.declared.nodes.Own.{Own}
 use Rattle.requirements.specs.declared.nodes.Effects.{Effects}
 use Rattle.requirements.specs.Nodes.{ownReads, ownName, testedBy, writtenBy, sourceBy, targetBy}

@@ -8,7 +8,7 @@ use Rattle.prelude.specs.Sets.{has}
 use Rattle.prelude.proofs.Sets.{has-zero}
 use Rattle.language.specs.Syntax.{Proc}
 use Rattle.language.specs.RequiredFlows.{tests, writes}
-use Rattle.language.specs.Kinds.{kindOf, childrenOf}
+use Rattle.language.specs.KindGroups.{kindOf, childrenOf}
 use Rattle.layout.specs.declared.parts.Part.{Part}
 use Rattle.layout.specs.Layout.{nodeCount}
 use Rattle.layout.specs.Entries.{partOf, node}

@@ -14,7 +14,7 @@ use Rattle.layout.specs.Entries.{nameOf, partOf, node}
 use Rattle.language.specs.Syntax.{Proc}
 use Rattle.language.specs.RequiredFlows.{isLevel, reads}
 use Rattle.language.specs.Kinds as kind
-use Rattle.language.specs.Kinds.{hasValue, hasCondition, hasWait}
+use Rattle.language.specs.KindGroups.{hasValue, hasCondition, hasWait}
 use Rattle.tree.specs.Tree.{namesOf, expressionOf, processOf}
 use Rattle.tree.proofs.Views.{NodeView, aNil, anAssign, aLet, anIf, aWhile, aSequence, anEmit, aLocal, aWatching, aWhen, aParallel, node-view}
 use Rattle.flow.specs.Flow.{IsNodeAt, IsNode}

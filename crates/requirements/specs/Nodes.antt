@@ -7,7 +7,7 @@ use lib.Dec.{eqb}
 use Rattle.language.specs.Syntax.{Names, Proc, nil, assign, letIn, ifThenElse, while, sequence, emit, local, watching, when, parallel}
 use Rattle.language.specs.RequiredFlows.{isLevel, reads}
 use Rattle.language.specs.Kinds as kind
-use Rattle.language.specs.Kinds.{hasValue, hasTest, hasWrite}
+use Rattle.language.specs.KindGroups.{hasValue, hasTest, hasWrite}
 
 module _ (names : Names ℕ) where
   -- the register levels of a node's expression, or the level of the signal that it tests

@@ -1,7 +1,7 @@
 -- `writes_next`: by the byte, then by the kind.
 use mathlib.Core.Path.{ap, _∙_}
 use borrow.Author.Tests.{eq-eqb, ne-eqb}
-use Rattle.language.specs.Kinds.{hasWrite}
+use Rattle.language.specs.KindGroups.{hasWrite}
 use borrow.Author.Needs.{needs}
 use Rattle.advance.proofs.next.writes_next.Statement.{statement}
 use Rattle.advance.proofs.next.writes_next.Tie as tie

@@ -10,7 +10,7 @@ use Rattle.book.specs.LevelBook.{mostLevels, atOrBelow}
 use Rattle.pairs.specs.Table.{kept}
 use Rattle.flow.specs.declared.nodes.Flow.{Flow}
 use Rattle.flow.specs.declared.nodes.Own.{Own}
-use Rattle.language.specs.Kinds.{hasWrite}
+use Rattle.language.specs.KindGroups.{hasWrite}
 use Rattle.flow.specs.Nodes.{OwnWithin, FlowWithin, writeFrom, testFrom, ownNeed, flowFrom}
 use Rattle.flow.proofs.nodes.node_flow.Statement.{statement}
 use Rattle.flow.proofs.nodes.node_flow.Tie as tie

@@ -1,7 +1,7 @@
 -- `own_levels`: by the three tests of the kind.
 use mathlib.Core.Path.{_≡_, sym, _∙_, subst}
 use mathlib.Core.Bool.{true, false}
-use Rattle.language.specs.Kinds.{hasValue, hasCondition, hasSignal}
+use Rattle.language.specs.KindGroups.{hasValue, hasCondition, hasSignal}
 use Rattle.flow.specs.Nodes.{brings}
 use Rattle.flow.specs.Flow.{OwnOf}
 use Rattle.layout.proofs.Layouts.{name-within}

@@ -2,7 +2,7 @@
 use mathlib.Core.Path.{_≡_, refl, sym, _∙_}
 use mathlib.Core.Bool.{true, false}
 use borrow.Author.Needs.{needs}
-use Rattle.language.specs.Kinds.{hasValue}
+use Rattle.language.specs.KindGroups.{hasValue}
 use Rattle.requirements.proofs.nodes.target_of.Statement.{statement}
 use Rattle.requirements.proofs.nodes.target_of.Tie as tie
 

@@ -3,7 +3,7 @@ use mathlib.Core.Path.{_≡_, sym, _∙_}
 use mathlib.Core.Bool.{true, false}
 use borrow.Author.Needs.{needs}
 use borrow.Author.Tests.{eq-eqb, ne-eqb}
-use Rattle.language.specs.Kinds.{hasValue, hasCondition, hasWait}
+use Rattle.language.specs.KindGroups.{hasValue, hasCondition, hasWait}
 use Rattle.layout.proofs.Layouts.{name-within}
 use Rattle.requirements.proofs.ExpressionLevels.{level-inside}
 use Rattle.requirements.proofs.OwnViews.{value-known, value-brings, condition-known, condition-brings, wait-known, wait-brings, emission-known, emission-brings, nothing-brings}
