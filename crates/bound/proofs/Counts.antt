@@ -2,12 +2,13 @@
 use mathlib.Core.Path.{_≡_, refl, sym}
 use mathlib.Core.Bool.{Bool}
 use mathlib.Core.List.{List}
-use Prim.Native.Nat.{ℕ, _+_, _*_, _≤_}
+use Prim.Native.Nat.{ℕ, _+_, _*_, _≤_, _<_}
 use native.Mathlib.Nat.{mul-le-mul}
 use native.Mathlib.Omega.{arith}
 use Rattle.prelude.specs.Search.{count}
 use Rattle.prelude.proofs.Counts.{count-within, count-more}
 use Rattle.language.specs.MoveBounds.{isNotNil, isParallel, isWhile}
+use Rattle.layout.specs.Layout.{mostNodes}
 use Rattle.layout.specs.Entries.{partOf, node}
 use Rattle.bound.specs.declared.NodeCounts.{NodeCounts}
 use Rattle.bound.specs.Contracts.{oneIf, countsUpTo, withKind, Few}
@@ -43,6 +44,6 @@ few-more l f =
       whiles = omega (arith, f .whiles, l);
     }
 
--- the figure of so few nodes
-pub product-small : (k p n : ℕ) → k ≤ n → p ≤ n → k * (p + 1) ≤ n * (n + 1)
-product-small k p n h l = mul-le-mul h (omega (arith, l))
+-- the figure of so few nodes is a number of 32 bits
+pub product-small : (k q : ℕ) → k ≤ mostNodes → q ≤ mostNodes + 1 → k * q < 65793
+product-small k q h l = omega (arith, mul-le-mul h l)

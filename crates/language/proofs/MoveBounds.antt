@@ -9,7 +9,7 @@ use mathlib.Core.Bool.{Bool, true, false, cond}
 use Rattle.prelude.proofs.Bools.{by-cases}
 use Rattle.language.specs.Syntax.{Proc, nil, assign, letIn, ifThenElse, while, sequence, emit, local, watching, when, parallel}
 use Rattle.language.specs.Kinds as kinds
-use Rattle.language.specs.Shapes.{counted}
+use Rattle.language.specs.NodeCounts.{counted}
 use Rattle.language.specs.MoveBounds.{isNotNil, isParallel, isWhile}
 use Rattle.language.specs.Frames.{Frame, alone, beforeThe, watchedBy, guardedBy, besideThe, around}
 use Rattle.language.specs.Suspension.{Suspended}

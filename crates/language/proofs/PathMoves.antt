@@ -8,7 +8,7 @@ use mathlib.Core.List.{List}
 use lib.IntN.{ℤ}
 use borrow.Author.Tests.{eqb-true}
 use Rattle.language.specs.Syntax.{Names, Proc}
-use Rattle.language.specs.Shapes.{counted}
+use Rattle.language.specs.NodeCounts.{counted}
 use Rattle.language.specs.MoveBounds.{isNotNil, isParallel, isWhile, holdsNoWhile, mostMoves}
 use Rattle.language.specs.Frames.{beforeThe, watchedBy, guardedBy, besideThe}
 use Rattle.language.specs.Steps.{present, Output, Inputs, instantStart}

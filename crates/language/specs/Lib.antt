@@ -1,7 +1,7 @@
 -- The language of scripts: 01, 'Script file' to 'Calls', then the figures of RR-5594, then what is proved.
 pub mod Syntax
 pub mod Kinds
-pub mod Shapes
+pub mod NodeCounts
 pub mod NameKinds
 pub mod Scope
 pub mod Levels
@@ -15,5 +15,6 @@ pub mod Instants
 pub mod Typing
 pub mod Paths
 pub mod Results
+pub mod Shapes
 pub mod KindGroups
 pub mod Frames

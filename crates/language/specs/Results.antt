@@ -12,7 +12,7 @@ use Rattle.lattice.specs.Lattice.{Lattice}
 use Rattle.language.specs.Syntax.{Names, Proc, isNil}
 use Rattle.language.specs.Levels.{writeLevel, testLevel, needs}
 use Rattle.language.specs.RequiredFlows.{mustFlow}
-use Rattle.language.specs.Shapes.{counted}
+use Rattle.language.specs.NodeCounts.{counted}
 use Rattle.language.specs.MoveBounds.{holdsNoWhile, mostMoves}
 use Rattle.language.specs.Steps.{held, Output, Inputs, noInputs, instantStart}
 use Rattle.language.specs.Calls.{finished, spent, System, Run, Stop, starts, readable, calledFor, output, next, behind, reach, run}

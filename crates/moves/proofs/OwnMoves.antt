@@ -17,7 +17,7 @@ use Rattle.language.specs.Calls.{calledAt}
 use Rattle.packing.specs.Packing.{levelIn}
 use Rattle.program.specs.Program.{nameCount, expressionCount, nodeCount, nameWord, bAt, firstAt, secondAt, kindAt, aAt, expressionOf, processOf}
 use Rattle.program.specs.Runnable.{Runnable}
-use Rattle.language.specs.Shapes.{counted, size}
+use Rattle.language.specs.NodeCounts.{counted, size}
 use Rattle.program.proofs.Views.{NodeView, aNil, anAssign, aLet, anIf, aWhile, aSequence, anEmit, aLocal, aWatching, aWhen, aParallel, node-view}
 use Rattle.program.specs.declared.forms.Front.{Front}
 use Rattle.program.specs.Forms.{itself}

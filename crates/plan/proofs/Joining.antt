@@ -12,7 +12,8 @@ use mir.Syntax.{w32}
 use mir.Val.{toZ}
 use Rattle.prelude.specs.Course.{course, entry}
 use Rattle.language.specs.Syntax.{Exp, constant, Proc, nil, assign, while, sequence, emit, watching, when, parallel}
-use Rattle.language.specs.Shapes.{size, watches, leavesAlone}
+use Rattle.language.specs.NodeCounts.{size}
+use Rattle.language.specs.Shapes.{watches, leavesAlone}
 use Rattle.layout.specs.declared.Script.{Script}
 use Rattle.layout.specs.declared.parts.Part.{Part}
 use Rattle.layout.specs.Layout.{layoutOf, nameCount, expressionCount, nodeCount}

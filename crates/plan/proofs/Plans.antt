@@ -16,7 +16,8 @@ use Rattle.layout.specs.declared.parts.Name.{Name}
 use Rattle.layout.specs.declared.parts.Part.{Part}
 use Rattle.layout.specs.Entries.{nameOf, session, partOf, node}
 use Rattle.fields.specs.Children.{firstChild, secondChild}
-use Rattle.language.specs.Shapes.{size, watches}
+use Rattle.language.specs.NodeCounts.{size}
+use Rattle.language.specs.Shapes.{watches}
 use Rattle.tree.specs.Tree.{processOf}
 use Rattle.program.specs.Program.{mostNames, mostExpressions, mostNodes, nameStart, expressionStart, nodeStart}
 use Rattle.program.specs.Forms.{formOf, formsOf}

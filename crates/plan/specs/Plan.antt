@@ -8,7 +8,8 @@ use lib.ListN.{length}
 use Rattle.book.specs.declared.Book.{Book}
 use Rattle.book.specs.LevelBook.{mostLevels, atOrBelow}
 use Rattle.packing.specs.Packing.{kindIn, constantIn, operandIn, laterIn, formIn, aIn, bIn, firstIn, sizeIn, nodeKindIn, watchesIn, levelIn, signalIn, sessionIn, seenIn}
-use Rattle.language.specs.Shapes.{size, watches}
+use Rattle.language.specs.NodeCounts.{size}
+use Rattle.language.specs.Shapes.{watches}
 use Rattle.layout.specs.declared.Script.{Script}
 use Rattle.layout.specs.Layout.{nameCount, expressionCount, nodeCount}
 use Rattle.layout.specs.Contracts.{Laid}

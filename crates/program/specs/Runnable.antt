@@ -5,7 +5,8 @@ use mathlib.Core.List.{List}
 use Prim.Native.Nat.{ℕ, suc, _≤_, _<_}
 use lib.IntN.{ℤ}
 use lib.ListN.{length}
-use Rattle.language.specs.Shapes.{size, watches, leavesAlone}
+use Rattle.language.specs.NodeCounts.{size}
+use Rattle.language.specs.Shapes.{watches, leavesAlone}
 use Rattle.packing.specs.Packing.{kindIn, operandIn, laterIn, formIn, sizeIn, watchesIn, signalIn}
 use Rattle.program.specs.Rows.{Role, nothing, name, expression, part, rowOf}
 use Rattle.program.specs.Program.{mostNames, mostExpressions, mostNodes, nameCount, expressionCount, nodeCount, nameWord, expressionWord, nodeWord, kindAt, aAt, bAt, firstAt, processOf, script}

@@ -8,7 +8,7 @@ use mathlib.Core.List.{List}
 use lib.IntN.{ℤ}
 use Rattle.language.specs.Syntax.{Proc}
 use Rattle.language.specs.Kinds as kinds
-use Rattle.language.specs.Shapes.{counted}
+use Rattle.language.specs.NodeCounts.{counted}
 use Rattle.language.specs.MoveBounds.{isNotNil, isParallel, isWhile}
 use Rattle.language.specs.Frames.{beforeThe, watchedBy, guardedBy, besideThe}
 use Rattle.language.specs.Typing.{Environment}

@@ -11,7 +11,7 @@ use mathlib.Core.Option.{some}
 use mathlib.Core.List.{List, [], _∷_}
 use lib.ListN.{length}
 use Rattle.language.specs.Syntax.{Names}
-use Rattle.language.specs.Shapes.{counted}
+use Rattle.language.specs.NodeCounts.{counted}
 use Rattle.language.specs.MoveBounds.{holdsNoWhile, mostMoves}
 use Rattle.language.specs.NameKinds.{Kind, var, sig, isOf}
 use Rattle.language.specs.Typing.{Environment}

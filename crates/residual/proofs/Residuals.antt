@@ -11,7 +11,8 @@ use lib.ListN.{getD, set, length, take, drop, replicate}
 use lib.Seq.{getD-set-same}
 use Rattle.prelude.proofs.Bools.{and-intro, and-left, and-right}
 use Rattle.language.specs.Syntax.{Proc, nil, assign, letIn, ifThenElse, while, sequence, emit, local, watching, when, parallel}
-use Rattle.language.specs.Shapes.{counted, size, leavesAlone}
+use Rattle.language.specs.NodeCounts.{counted, size}
+use Rattle.language.specs.Shapes.{leavesAlone}
 use Rattle.program.specs.Program.{processOf}
 use Rattle.residual.specs.Residual.{own, firstOf, secondOf, residual}
 use Rattle.residual.specs.Nodes.{At}

@@ -9,7 +9,8 @@ use borrow.Rule.Slice.PartMut.{putMid, same-len-mid, mid-len, take-put, drop-put
 use lib.ListN.{length, take, drop, set, length-set, length-drop, List·getD-append, drop-of-length-le}
 use lib.Seq.{length-take-le, getD-take, getD-set-same, set-getD, drop-set-lt, take-nil, take-all, take-at, drop-at}
 use Rattle.language.specs.Syntax.{Exp, Proc, nil, assign, letIn, ifThenElse, while, sequence, emit, local, watching, when, parallel}
-use Rattle.language.specs.Shapes.{counted, size, leavesAlone}
+use Rattle.language.specs.NodeCounts.{counted, size}
+use Rattle.language.specs.Shapes.{leavesAlone}
 use Rattle.program.specs.Program.{nameCount, nodeCount, kindAt, aAt, firstAt, secondAt, processOf}
 use Rattle.program.specs.Runnable.{FirstPart, Runnable}
 use Rattle.program.proofs.Views.{NodeView, aNil, anAssign, aLet, anIf, aWhile, aSequence, anEmit, aLocal, aWatching, aWhen, aParallel, node-view}

@@ -5,7 +5,7 @@ use Prim.Native.Nat.{ℕ, _-_, _<_}
 use lib.IntN.{ℤ}
 use lib.ListN.{length}
 use Rattle.language.specs.Syntax.{Proc}
-use Rattle.language.specs.Shapes.{size}
+use Rattle.language.specs.NodeCounts.{size}
 use Rattle.program.specs.Program.{nodeCount, processOf}
 use Rattle.program.specs.declared.forms.Front.{Front}
 use Rattle.program.specs.Forms.{frontOf}

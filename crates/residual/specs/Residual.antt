@@ -4,7 +4,7 @@ use mathlib.Core.List.{List, [], _∷_}
 use Prim.Native.Nat.{ℕ, suc}
 use lib.ListN.{getD, take, drop}
 use Rattle.language.specs.Syntax.{Proc, nil, assign, letIn, ifThenElse, while, sequence, emit, local, watching, when, parallel}
-use Rattle.language.specs.Shapes.{size}
+use Rattle.language.specs.NodeCounts.{size}
 
 -- a node's own byte
 abbrev pub own : List ℕ → ℕ

@@ -11,7 +11,7 @@ use lib.ListN.{length}
 use Rattle.prelude.specs.Refusals.{passes}
 use Rattle.prelude.proofs.Bools.{by-cases}
 use Rattle.lattice.specs.Lattice.{bookLattice}
-use Rattle.language.specs.Shapes.{counted}
+use Rattle.language.specs.NodeCounts.{counted}
 use Rattle.language.specs.MoveBounds.{isNotNil, isParallel, isWhile, holdsNoWhile, mostMoves}
 use Rattle.language.specs.Calls.{readable}
 use Rattle.language.specs.Results as language

@@ -25,7 +25,7 @@ use Rattle.uses.specs.Uses.{usedBy, used, timesIn, timesUsed}
 use Rattle.uses.proofs.Used.{used-of, used-child}
 use Rattle.script.specs.Checked.{Checked}
 use Rattle.scope.proofs.Joining.{field-uses}
-use Rattle.language.specs.Shapes.{counted}
+use Rattle.language.specs.NodeCounts.{counted}
 use Rattle.tree.specs.Tree.{processOf, tree}
 use Rattle.tree.proofs.Views.{NodeView, aNil, anAssign, aLet, anIf, aWhile, aSequence, anEmit, aLocal, aWatching, aWhen, aParallel, node-view, role}
 

@@ -20,7 +20,7 @@ use Rattle.fields.specs.declared.Field.{Field}
 use Rattle.fields.specs.Roles.{child}
 use Rattle.fields.specs.Fields.{fieldCount, fieldOf}
 use Rattle.script.specs.Checked.{Checked}
-use Rattle.language.specs.Shapes.{size}
+use Rattle.language.specs.NodeCounts.{size}
 use Rattle.tree.specs.Tree.{processOf, tree}
 use Rattle.tree.specs.Contracts.{childSize, KeepsSizes}
 use Rattle.tree.proofs.NodeCounts as counts

@@ -5,7 +5,7 @@ use mathlib.Core.List.{List}
 use Prim.Native.Nat.{ℕ, _<_}
 use lib.Dec.{eqb}
 use lib.ListN.{getD}
-use Rattle.language.specs.Shapes.{size}
+use Rattle.language.specs.NodeCounts.{size}
 use Rattle.fields.specs.declared.Field.{Field}
 use Rattle.fields.specs.Roles.{child}
 use Rattle.tree.specs.Tree.{processOf}

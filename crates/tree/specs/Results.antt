@@ -8,7 +8,7 @@ use Rattle.language.specs.Scope.{Scoped, Declared, Once}
 use Rattle.layout.specs.Layout.{nameCount, nodeCount}
 use Rattle.layout.specs.Entries.{isSession, isSessionName, nodesWith}
 use Rattle.script.specs.Checked.{Checked}
-use Rattle.language.specs.Shapes.{counted, size}
+use Rattle.language.specs.NodeCounts.{counted, size}
 use Rattle.tree.specs.Tree.{namesOf, processOf, tree}
 
 -- The script of a checked file is scoped as the theorems about scripts ask.

@@ -9,7 +9,7 @@ ghost use Rattle.layout.specs.Contracts.{Laid};
 ghost use Rattle.layout.specs.Entries.{node};
 ghost use Rattle.fields.specs.Fields.{fieldCount, fieldOf};
 ghost use Rattle.script.specs.Checked.{Checked};
-ghost use Rattle.language.specs.Shapes.{size};
+ghost use Rattle.language.specs.NodeCounts.{size};
 ghost use Rattle.tree.specs.Tree.{processOf};
 ghost use Rattle.tree.specs.Contracts.{childSize, KeepsSizes};
 

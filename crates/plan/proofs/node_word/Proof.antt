@@ -8,7 +8,8 @@ use Rattle.layout.specs.declared.parts.Part.{Part}
 use Rattle.layout.specs.Layout.{mostNodes, nodeCount}
 use Rattle.layout.specs.Entries.{partOf, node}
 use Rattle.fields.specs.Children.{firstChild, secondChild}
-use Rattle.language.specs.Shapes.{size, watches}
+use Rattle.language.specs.NodeCounts.{size}
+use Rattle.language.specs.Shapes.{watches}
 use Rattle.tree.specs.Tree.{processOf}
 use Rattle.layout.proofs.Layouts.{few-bounds, nodes-are, part-within}
 use Rattle.tree.proofs.Views.{kind-below}
