@@ -1,17 +1,19 @@
--- Counts of nodes: what one node more adds, and that none is above the number of nodes.
+-- Counts of nodes: what one node more adds, that none is above the number of nodes, and the bound that they give.
 use mathlib.Core.Path.{_≡_, refl, sym}
 use mathlib.Core.Bool.{Bool}
 use mathlib.Core.List.{List}
 use Prim.Native.Nat.{ℕ, _+_, _*_, _≤_, _<_}
 use native.Mathlib.Nat.{mul-le-mul}
 use native.Mathlib.Omega.{arith}
+use borrow.Author.Tests.{eq-eqb, ne-eqb}
 use Rattle.prelude.specs.Search.{count}
 use Rattle.prelude.proofs.Counts.{count-within, count-more}
 use Rattle.language.specs.MoveBounds.{isNotNil, isParallel, isWhile}
 use Rattle.layout.specs.Layout.{mostNodes}
 use Rattle.layout.specs.Entries.{partOf, node}
+use Rattle.bound.specs.declared.MoveBound.the-variants.{AtMost, Unbounded}
 use Rattle.bound.specs.declared.NodeCounts.{NodeCounts}
-use Rattle.bound.specs.Contracts.{oneIf, countsUpTo, withKind, Few}
+use Rattle.bound.specs.Contracts.{oneIf, countsUpTo, withKind, boundBy, Few}
 
 pub with-kind-is :
     (n : NodeCounts) (kind : ℕ) {a b c : ℕ} → a ≡ oneIf (isNotNil kind) → b ≡ oneIf (isParallel kind) → c ≡ oneIf (isWhile kind) →
@@ -47,3 +49,10 @@ few-more l f =
 -- the figure of so few nodes is a number of 32 bits
 pub product-small : (k q : ℕ) → k ≤ mostNodes → q ≤ mostNodes + 1 → k * q < 65793
 product-small k q h l = omega (arith, mul-le-mul h l)
+
+-- the bound, where there is a while and where there is none
+pub no-bound : (n : NodeCounts) → (n .whiles ≡ 0 → ⊥) → Unbounded ≡ boundBy n
+no-bound n h = sym (rw (ne-eqb (n .whiles) 0 h))
+
+pub bound-is : (n : NodeCounts) → n .whiles ≡ 0 → AtMost (n .others * (n .parallels + 1)) ≡ boundBy n
+bound-is n h = sym (rw (eq-eqb (n .whiles) 0 h))

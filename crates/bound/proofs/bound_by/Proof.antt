@@ -1,14 +1,12 @@
 -- `bound_by`: by whether there is a while; the figure fits, since there are few nodes.
-use mathlib.Core.Path.{_≡_, sym}
 use native.Mathlib.Omega.{arith}
 use borrow.Author.Needs.{needs, fits-under}
-use borrow.Author.Tests.{eq-eqb, ne-eqb}
-use Rattle.bound.proofs.Counts.{product-small}
+use Rattle.bound.proofs.Counts.{product-small, no-bound, bound-is}
 use Rattle.bound.proofs.bound_by.Statement.{statement}
 use Rattle.bound.proofs.bound_by.Tie as tie
 
 returns : tie.Need-returns
-returns c = sym (rw (ne-eqb _ 0 (c .if1 .taken)))
+returns c = no-bound (c .before .before .args .n) (c .if1 .taken)
 
 add-t3 : tie.Need-add-t3
 add-t3 c = search needs
@@ -24,7 +22,7 @@ cast-t5 c =
     fits-under _ _ 65793 (product-small _ _ (few .others) (omega (arith, few .parallels, few .whiles))) tt
 
 returns-2 : tie.Need-returns-2
-returns-2 c = sym (rw (eq-eqb _ 0 (c .before .before .if1 .left)))
+returns-2 c = bound-is (c .before .before .before .before .args .n) (c .before .before .if1 .left)
 
 pub bound-by-spec : {M : Type 1} → statement M
 bound-by-spec = tie.close (tie.spec returns add-t3 mul-t4 cast-t5 returns-2)
