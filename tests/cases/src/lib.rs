@@ -12,6 +12,7 @@ mod rng;
 mod shapes;
 pub mod text;
 pub mod tree;
+pub mod turns;
 mod two_levels;
 
 use damage::{Draft, Sort};
@@ -104,9 +105,16 @@ fn careless(rng: &mut Rng) -> Careless {
     }
 }
 
-/// A well-formed case.
+/// A well-formed case. Few scripts make more moves than they have nodes unless their threads take turns.
 fn draft(rng: &mut Rng) -> Draft {
     let lattice = order::lattice(rng);
+    match rng.chance(1, 24) {
+        true => turns::drawn::draft(rng, lattice),
+        false => any_draft(rng, lattice),
+    }
+}
+
+fn any_draft(rng: &mut Rng, lattice: Lattice) -> Draft {
     let shape = rng.below(100);
     // A wait of hundreds of thousands of instants is slow.
     let long_wait = rng.chance(1, 400);

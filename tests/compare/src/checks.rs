@@ -3,12 +3,13 @@
 use crate::coverage::Coverage;
 use crate::demand_three::{self, Vary};
 use crate::engine::{Engine, Raw, Reference, Wrapper};
+use crate::move_claims;
 use crate::needed_books;
 use crate::needed_tally;
 use crate::report::Report;
 use crate::small_books::Books;
 use crate::tally::Tally;
-use crate::{examples, faults, long_runs, small_lists, small_loops, sweep};
+use crate::{examples, faults, long_runs, near_figure, small_lists, small_loops, sweep};
 use reference::{Fault, Rules};
 
 /// Faults that let a reader see what is sealed; demand 3 must not hold under any of them, where the runs
@@ -70,6 +71,37 @@ const WRONG_NEEDS: [Fault; 33] = [
     Fault::SequenceReversed,
     Fault::ParallelOneWay,
 ];
+
+/// Wrong figures, wrong counts and wrong steps: under each, some run makes more moves than 02 (f) says, or steps and
+/// instants do not give its moves.
+const WRONG_MOVES: [Fault; 23] = [
+    Fault::ParallelIsNoNode,
+    Fault::ParallelsForgotten,
+    Fault::ParallelsWithoutOne,
+    Fault::OneAddedToProduct,
+    Fault::FigureOneLess,
+    Fault::ParallelsCountAsOne,
+    Fault::FigureInOneByte,
+    Fault::FirstBranchCounts,
+    Fault::SecondBranchCounts,
+    Fault::WhileHasFigure,
+    Fault::NestedWhileOverlooked,
+    Fault::WhileInBranchOverlooked,
+    Fault::WhileInSecondPartOverlooked,
+    Fault::FigureOfWhileKept,
+    Fault::WhileIsBoundedByNothing,
+    Fault::FigureKeptByRefusal,
+    Fault::RefusedIsBounded,
+    Fault::ChangesAreMoves,
+    Fault::TradesAreNoMoves,
+    Fault::ListedTakesStep,
+    Fault::TradesWithSuspended,
+    Fault::NilLeftPartTrades,
+    Fault::AbsentWhenMoves,
+];
+
+/// The most cases that are tried under wrong moves.
+const MOVES_CASES: u64 = 20_000;
 
 /// The number of scripts whose flows are asked for beside every book of few levels.
 const SCRIPTS: u64 = 1000;
@@ -189,6 +221,28 @@ pub fn needed_books(report: &mut Report, seed: u64) {
         };
         report.line(
             &format!("flows and refusal 11 under '{}'", fault.says()),
+            result,
+        );
+    }
+}
+
+/// Scripts that come near the figure of 02 (f), every small script, and that the claim fails under wrong rules. The
+/// comparison has it of the library and of the second interpreter, case by case.
+pub fn moves(report: &mut Report, seed: u64) {
+    let nearest = near_figure::nearest().map(|scripts| format!("of {scripts} small scripts"));
+    report.line("the most moves", nearest);
+    let turns = near_figure::turns().map(|scripts| format!("in {scripts} scripts"));
+    report.line("threads that take turns", turns);
+    let small = near_figure::small_scripts().map(|runs| format!("in {runs} runs"));
+    report.line("every script of up to three nodes", small);
+    for fault in WRONG_MOVES {
+        let engine = Reference(Rules { fault: Some(fault) });
+        let result = match move_claims::first_broken(&engine, MOVES_CASES, seed) {
+            Some(number) => Ok(format!("breaks it, seen at case {number}")),
+            None => Err(format!("not seen in {MOVES_CASES} cases")),
+        };
+        report.line(
+            &format!("at most k × (p + 1) moves under '{}'", fault.says()),
             result,
         );
     }

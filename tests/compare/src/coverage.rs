@@ -6,6 +6,7 @@ use crate::emissions;
 use crate::floors;
 use crate::flows;
 use crate::lists;
+use crate::moves;
 use crate::outcome::Outcome;
 use crate::pair_levels;
 use cases::damage::{self, Sort};
@@ -29,6 +30,7 @@ enum Topic {
     PairLevels,
     Flows,
     FlowAt,
+    Moves,
     Ending,
     Run,
     List,
@@ -80,6 +82,7 @@ const NOTES: [(&str, u64); 12] = [
 /// Notes about cases and what was compared beside them.
 pub const PAIRS_COMPARED: &str = "compared with every pair of Figure 5";
 pub const WRONG_OUT: &str = "called with a wrong out";
+pub const FOUR_WORDS: &str = "called with an out of the four words before 02 (f)";
 pub const WRONG_FLOWS: &str = "called with wrong flows";
 pub const OTHER_LEVELS: &str = "compared again with other levels";
 pub const NEAR_ENDING: &str = "compared again near the ending";
@@ -158,6 +161,13 @@ impl Coverage {
             .for_each(|note| self.count(Topic::Flows, note));
     }
 
+    /// Counts what the figure of a script and the moves of a run show.
+    pub fn record_moves(&mut self, notes: Vec<&'static str>) {
+        notes
+            .into_iter()
+            .for_each(|note| self.count(Topic::Moves, note));
+    }
+
     /// Counts what the list of a run brought about.
     pub fn record_list(&mut self, reached: [bool; lists::NOTES.len()]) {
         self.count_notes(Topic::List, &lists::NOTES, &reached);
@@ -211,11 +221,11 @@ impl Coverage {
 
     /// Everything that has a floor: its topic, its name, and the floor for the usual number of cases.
     fn floors() -> Vec<(Topic, String, u64)> {
-        let mut all = vec![];
-        all.push((Topic::Cases, ACCEPTED.to_string(), USUAL / 3));
+        let mut all = vec![(Topic::Cases, ACCEPTED.to_string(), USUAL / 3)];
         for note in [
             PAIRS_COMPARED,
             WRONG_OUT,
+            FOUR_WORDS,
             WRONG_FLOWS,
             OTHER_LEVELS,
             NEAR_ENDING,
@@ -234,6 +244,8 @@ impl Coverage {
         all.extend(flows.map(|(note, floor)| (Topic::Flows, note, floor)));
         let needs = [1, 2, 3, 4, 5, 8, 9, 10].map(|kind: usize| KINDS[kind]);
         all.extend(needs.map(|kind| (Topic::FlowAt, kind.to_string(), SORT_FLOOR)));
+        let moves = moves::floors().into_iter();
+        all.extend(moves.map(|(note, floor)| (Topic::Moves, note.to_string(), floor)));
         all.extend(ENDINGS.map(|ending| (Topic::Ending, ending.to_string(), FLOOR)));
         all.extend(NOTES.map(|(note, floor)| (Topic::Run, note.to_string(), floor)));
         all.extend(lists::NOTES.map(|(note, floor)| (Topic::List, note.to_string(), floor)));
@@ -302,6 +314,7 @@ fn title(topic: Topic) -> &'static str {
         Topic::PairLevels => "levels of a script",
         Topic::Flows => "flows",
         Topic::FlowAt => "refusal 11 at",
+        Topic::Moves => "moves",
         Topic::Ending => "ending",
         Topic::Run => "run",
         Topic::List => "list",

@@ -4,7 +4,7 @@
 //! level end equal.
 
 use crate::book::at_or_below;
-use crate::engine::{Engine, RunArguments};
+use crate::engine::{Engine, RunArguments, CHECK_WORDS};
 use crate::outcome::fresh_log;
 use crate::sweep::case_seed;
 use crate::tally::Tally;
@@ -79,7 +79,7 @@ pub fn sweep(engine: &dyn Engine, vary: Vary, count: u64, seed: u64) -> Result<T
 }
 
 fn accepted(engine: &dyn Engine, case: &Case) -> bool {
-    let mut out = [1; 4];
+    let mut out = [1; CHECK_WORDS];
     engine.check(&case.book, &case.script, &mut out);
     out[0] == 0
 }

@@ -29,12 +29,7 @@ pub fn compare(one: &dyn Engine, other: &dyn Engine, case: &Case) -> Result<Outc
         return Ok(first);
     }
     let mut says = String::new();
-    if first.check != second.check {
-        says += &format!(
-            "\n  check      {:?} against {:?}",
-            first.check, second.check
-        );
-    }
+    add_unequal(&mut says, "check", &first.check, &second.check);
     if first.flows != second.flows {
         let (one, other) = (&first.flows, &second.flows);
         says += &format!("\n  flows      {:?} against {:?}", one.out, other.out);
@@ -43,15 +38,9 @@ pub fn compare(one: &dyn Engine, other: &dyn Engine, case: &Case) -> Result<Outc
             one.sets, other.sets
         );
     }
-    if first.run != second.run {
-        says += &format!("\n  run        {:?} against {:?}", first.run, second.run);
-    }
-    if first.values != second.values {
-        says += &format!(
-            "\n  values     {:?} against {:?}",
-            first.values, second.values
-        );
-    }
+    add_unequal(&mut says, "run", &first.run, &second.run);
+    add_unequal(&mut says, "moves", &first.moves, &second.moves);
+    add_unequal(&mut says, "values", &first.values, &second.values);
     if let Some(place) = (0..case.log).find(|&place| first.log[place] != second.log[place]) {
         says += &format!(
             "\n  log word {place}: {} against {}",
@@ -59,6 +48,13 @@ pub fn compare(one: &dyn Engine, other: &dyn Engine, case: &Case) -> Result<Outc
         );
     }
     Err(says)
+}
+
+/// Adds a line for what is not equal.
+fn add_unequal<T: PartialEq + fmt::Debug>(says: &mut String, what: &str, one: &T, other: &T) {
+    if one != other {
+        *says += &format!("\n  {what:<10} {one:?} against {other:?}");
+    }
 }
 
 fn hex(bytes: &[u8]) -> String {

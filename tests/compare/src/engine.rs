@@ -1,8 +1,8 @@
 //! The three calls of the C interface, answered by the library or by the reference.
 
 use crate::raw;
-use reference::Rules;
 pub use reference::RunArguments;
+use reference::{CheckAnswer, Rules};
 pub use station::raw::{CHECK_WORDS, FLOWS_WORDS, RUN_WORDS};
 use station::{Refusal, MAX_LEVELS};
 
@@ -11,7 +11,16 @@ use station::{Refusal, MAX_LEVELS};
 pub trait Engine {
     fn check(&self, book: &[u8], script: &[u8], out: &mut [u32]);
     fn flows(&self, script: &[u8], flows: &mut [u32], out: &mut [u32]);
-    fn run(&self, book: &[u8], script: &[u8], arguments: RunArguments, out: &mut [u32]);
+    /// Gives the moves of the run as well: counted where an engine counts them, else steps less instants.
+    fn run(&self, book: &[u8], script: &[u8], arguments: RunArguments, out: &mut [u32]) -> u32;
+}
+
+/// The steps less the instants of a run; none where `out` has another length.
+pub fn moves_by_steps(out: &[u32]) -> u32 {
+    match *out {
+        [_, _, _, steps, instants, _] => steps.wrapping_sub(instants),
+        _ => 0,
+    }
 }
 
 /// The library by its C interface.
@@ -26,8 +35,9 @@ impl Engine for Raw {
         raw::flows(script, flows, out);
     }
 
-    fn run(&self, book: &[u8], script: &[u8], arguments: RunArguments, out: &mut [u32]) {
+    fn run(&self, book: &[u8], script: &[u8], arguments: RunArguments, out: &mut [u32]) -> u32 {
         raw::run(book, script, arguments, out);
+        moves_by_steps(out)
     }
 }
 
@@ -37,10 +47,14 @@ pub struct Wrapper;
 impl Engine for Wrapper {
     fn check(&self, book: &[u8], script: &[u8], out: &mut [u32]) {
         let answer = match station::check(book, script) {
-            Ok(levels) => [0, 0, levels.write, levels.test],
+            Ok(accepted) => {
+                let bounded = u32::from(accepted.moves.is_some());
+                let moves = accepted.moves.unwrap_or(0);
+                [0, 0, accepted.write, accepted.test, bounded, moves]
+            }
             Err(refusal) => {
                 let [number, place] = numbers(refusal);
-                [number, place, 0, 0]
+                [number, place, 0, 0, 0, 0]
             }
         };
         put(out, &answer);
@@ -54,7 +68,7 @@ impl Engine for Wrapper {
         put_both(flows, &sets, out, &answer);
     }
 
-    fn run(&self, book: &[u8], script: &[u8], arguments: RunArguments, out: &mut [u32]) {
+    fn run(&self, book: &[u8], script: &[u8], arguments: RunArguments, out: &mut [u32]) -> u32 {
         let RunArguments {
             reader,
             values,
@@ -73,6 +87,7 @@ impl Engine for Wrapper {
             }
         };
         put(out, &answer);
+        moves_by_steps(&answer)
     }
 }
 
@@ -81,11 +96,7 @@ pub struct Reference(pub Rules);
 
 impl Engine for Reference {
     fn check(&self, book: &[u8], script: &[u8], out: &mut [u32]) {
-        let answer = reference::check(self.0, book, script);
-        put(
-            out,
-            &[answer.number, answer.place, answer.write, answer.test],
-        );
+        put(out, &check_words(reference::check(self.0, book, script)));
     }
 
     fn flows(&self, script: &[u8], flows: &mut [u32], out: &mut [u32]) {
@@ -93,8 +104,8 @@ impl Engine for Reference {
         put_both(flows, &answer.flows, out, &[answer.number, answer.place]);
     }
 
-    fn run(&self, book: &[u8], script: &[u8], arguments: RunArguments, out: &mut [u32]) {
-        let answer = reference::run(self.0, book, script, arguments);
+    fn run(&self, book: &[u8], script: &[u8], arguments: RunArguments, out: &mut [u32]) -> u32 {
+        let (answer, moves) = reference::run_counted(self.0, book, script, arguments);
         let (ending, steps) = (answer.ending, answer.steps);
         put(
             out,
@@ -107,7 +118,15 @@ impl Engine for Reference {
                 answer.lines,
             ],
         );
+        moves.all
     }
+}
+
+/// What check gives, in the order of the C interface.
+pub fn check_words(answer: CheckAnswer) -> [u32; CHECK_WORDS] {
+    let CheckAnswer { number, place, .. } = answer;
+    let CheckAnswer { write, test, .. } = answer;
+    [number, place, write, test, answer.bounded, answer.moves]
 }
 
 fn numbers(refusal: Refusal) -> [u32; 2] {

@@ -1,6 +1,6 @@
 //! The papers' examples, against the library by both ways in and against the reference.
 
-use crate::engine::{Engine, Raw, Reference, Wrapper, CHECK_WORDS};
+use crate::engine::{check_words, Engine, Raw, Reference, Wrapper, CHECK_WORDS};
 use crate::outcome::{outcome, Flows};
 use cases::Case;
 use reference::examples::{Example, ExampleRun};
@@ -27,12 +27,7 @@ pub fn holds(example: &Example) -> Result<(), String> {
 fn checks(engine: &dyn Engine, example: &Example) -> Result<(), String> {
     let mut out = [u32::MAX; CHECK_WORDS];
     engine.check(&example.book, &example.script, &mut out);
-    let answer = example.expected_check;
-    equal(
-        "check",
-        &out,
-        &[answer.number, answer.place, answer.write, answer.test],
-    )
+    equal("check", &out, &check_words(example.expected_check))
 }
 
 fn flows(engine: &dyn Engine, example: &Example) -> Result<(), String> {
@@ -66,6 +61,7 @@ fn runs(engine: &dyn Engine, example: &Example, run: &ExampleRun) -> Result<(), 
         answer.lines,
     ];
     equal("run", &seen.run, &expected)?;
+    equal("moves", &[seen.moves], &[answer.steps - answer.instants])?;
     equal("values", &seen.values, &run.values_after)?;
     let lines: Vec<u32> = run.lines.iter().flatten().copied().collect();
     equal("log", &seen.log[..lines.len().min(seen.log.len())], &lines)

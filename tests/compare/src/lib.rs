@@ -1,6 +1,6 @@
 //! The library against the second interpreter: on seeded cases, on the papers' examples, on pairs of runs
-//! (demand 3), on scripts under every book of few levels (02 (e)), and against the second interpreter
-//! with planted faults, each of which must show.
+//! (demand 3), on scripts under every book of few levels (02 (e)), on scripts that make many moves (02 (f)), and
+//! against the second interpreter with planted faults, each of which must show.
 #![deny(unsafe_code)]
 
 mod book;
@@ -20,6 +20,9 @@ pub mod flows;
 pub mod guarded;
 pub mod lists;
 pub mod long_runs;
+pub mod move_claims;
+pub mod moves;
+pub mod near_figure;
 pub mod needed_books;
 pub mod needed_tally;
 pub mod outcome;

@@ -10,6 +10,7 @@ const USAGE: &str = "\
 compare [cases] [seed]                 the comparison, with a table of what it reached
 compare demand-three [pairs] [seed]    two runs from starts and with lists that agree for a reader
 compare flows [seed]                   what scripts would need, under every book of few levels
+compare moves [seed]                   how many moves scripts make, and that wrong rules make more
 compare faults [seed]                  every planted fault must be found
 compare examples                       the papers' examples
 compare case SEED                      one case again, by the seed that a difference names
@@ -31,6 +32,7 @@ fn main() -> ExitCode {
             number(1, PAIRS).and_then(|pairs| Ok(demand_three(pairs, number(2, SEED)?)))
         }
         "flows" => number(1, SEED).map(flows),
+        "moves" => number(1, SEED).map(|seed| reported(|report| checks::moves(report, seed))),
         "faults" => number(1, SEED).map(|seed| reported(|report| checks::faults(report, seed))),
         "examples" => Ok(reported(checks::examples)),
         "case" => number(1, SEED).map(one_case),
@@ -109,6 +111,7 @@ fn all() -> bool {
         checks::demand_three(report, PAIRS, SEED);
         checks::leaks(report, SEED);
         checks::needed_books(report, SEED);
+        checks::moves(report, SEED);
         checks::faults(report, SEED);
     })
 }

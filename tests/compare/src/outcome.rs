@@ -15,11 +15,13 @@ const UNWRITTEN: u32 = 0xdead_c0de;
 /// Everything that a caller sees after check, flows and run.
 #[derive(Clone, Debug, PartialEq, Eq)]
 pub struct Outcome {
-    /// Number, place, W, T.
+    /// Number, place, W, T, bounded, moves.
     pub check: Vec<u32>,
     pub flows: Flows,
     /// Number, place, ending, steps, instants, lines.
     pub run: Vec<u32>,
+    /// The moves of the run.
+    pub moves: u32,
     pub values: Vec<i32>,
     pub log: Vec<u32>,
 }
@@ -78,6 +80,11 @@ impl Outcome {
     pub fn accepted(&self) -> bool {
         self.check[0] == 0
     }
+
+    /// The most moves that check says a run makes; none where not bounded.
+    pub fn figure(&self) -> Option<u32> {
+        (self.check[4] != 0).then_some(self.check[5])
+    }
 }
 
 /// What a log holds before a run: words that no line has.
@@ -125,8 +132,13 @@ impl Buffers {
         })
     }
 
-    /// Calls run with an `out` of `words`, and gives `out`.
-    fn run(&mut self, engine: &dyn Engine, case: &Case, words: usize) -> Result<Vec<u32>, String> {
+    /// Calls run with an `out` of `words`, and gives `out` and the moves.
+    fn run(
+        &mut self,
+        engine: &dyn Engine,
+        case: &Case,
+        words: usize,
+    ) -> Result<(Vec<u32>, u32), String> {
         let mut out = Guarded::new(&vec![UNWRITTEN; words], WORD_GUARD);
         let arguments = RunArguments {
             reader: case.reader,
@@ -135,14 +147,10 @@ impl Buffers {
             list: self.list.slice(),
             log: self.log.slice_mut(),
         };
-        engine.run(
-            self.book.slice(),
-            self.script.slice(),
-            arguments,
-            out.slice_mut(),
-        );
+        let (book, script) = (self.book.slice(), self.script.slice());
+        let moves = engine.run(book, script, arguments, out.slice_mut());
         guards_hold("run", &[("out", out.intact())])?;
-        Ok(out.slice().to_vec())
+        Ok((out.slice().to_vec(), moves))
     }
 
     /// Book, script and list are read only; no call writes outside a buffer.
@@ -181,7 +189,7 @@ pub fn outcome(engine: &dyn Engine, case: &Case) -> Result<Outcome, String> {
     if !buffers.untouched(case) {
         return Err("check or flows changed values or log".into());
     }
-    let run = buffers.run(engine, case, RUN_WORDS)?;
+    let (run, moves) = buffers.run(engine, case, RUN_WORDS)?;
     buffers.hold(case, "run")?;
     if run[0] != 0 && !buffers.untouched(case) {
         return Err("a refused run changed values or log".into());
@@ -200,6 +208,7 @@ pub fn outcome(engine: &dyn Engine, case: &Case) -> Result<Outcome, String> {
         check,
         flows,
         run,
+        moves,
         values: buffers.values.slice().to_vec(),
         log: buffers.log.slice().to_vec(),
     })
@@ -213,7 +222,7 @@ pub fn wrong_out(engine: &dyn Engine, case: &Case, words: usize) -> Result<(), S
         outs.extend(buffers.check(engine, words)?);
     }
     if words != RUN_WORDS {
-        outs.extend(buffers.run(engine, case, words)?);
+        outs.extend(buffers.run(engine, case, words)?.0);
     }
     buffers.hold(case, "a call with a wrong out")?;
     if !buffers.untouched(case) || outs.iter().any(|&word| word != UNWRITTEN) {
@@ -264,14 +273,21 @@ mod tests {
             Reference(Rules::default()).flows(script, flows, out);
         }
 
-        fn run(&self, book: &[u8], script: &[u8], mut arguments: RunArguments, out: &mut [u32]) {
+        fn run(
+            &self,
+            book: &[u8],
+            script: &[u8],
+            mut arguments: RunArguments,
+            out: &mut [u32],
+        ) -> u32 {
             let again = RunArguments {
                 values: &mut *arguments.values,
                 log: &mut *arguments.log,
                 ..arguments
             };
-            Reference(Rules::default()).run(book, script, again, out);
+            let moves = Reference(Rules::default()).run(book, script, again, out);
             (self.0)(&mut arguments, out);
+            moves
         }
     }
 
@@ -300,7 +316,8 @@ mod tests {
     #[test]
     fn the_example_of_01() {
         let seen = outcome(&Raw, &example()).unwrap();
-        assert_eq!(seen.check, [0, 0, 0, 0]);
+        assert_eq!(seen.check, [0, 0, 0, 0, 1, 1]);
+        assert_eq!((seen.figure(), seen.moves), (Some(1), 1));
         assert_eq!(seen.flows.out, [0, 0]);
         assert_eq!(seen.flows.sets, [0; MOST_LEVELS]);
         assert_eq!(seen.run, [0, 0, 0, 1, 0, 1]);
@@ -359,7 +376,9 @@ mod tests {
             out.iter_mut().take(1).for_each(|word| *word = 0);
         }
 
-        fn run(&self, _: &[u8], _: &[u8], _: RunArguments, _: &mut [u32]) {}
+        fn run(&self, _: &[u8], _: &[u8], _: RunArguments, _: &mut [u32]) -> u32 {
+            0
+        }
     }
 
     #[test]

@@ -199,6 +199,7 @@ mod tests {
             Fault::ListPlaceLast,
             Fault::RepeatNeedsRoom,
             Fault::WhileBodyUnlisted,
+            Fault::ParallelsByDepth,
         ] {
             let wrong = Reference(Rules { fault: Some(fault) });
             let differs = |case: &Case| compare(&right, &wrong, case).is_err();

@@ -9,6 +9,8 @@ use crate::engine::{Engine, Raw, Reference, Wrapper, FLOWS_WORDS};
 use crate::flow_claims;
 use crate::flows;
 use crate::lists;
+use crate::move_claims;
+use crate::moves;
 use crate::outcome::{outcome, wrong_flows, wrong_out, Outcome};
 use crate::pair_levels;
 use crate::shrink::shrink;
@@ -71,9 +73,12 @@ pub fn one(seed: u64, coverage: &mut Coverage) -> Result<(), Difference> {
         }
     }
     if rng.chance(1, 16) {
-        let words = [0, 1, 2, 3, 4, 5, 6, 7, 8, 12, 24][rng.below(11)];
+        let words = [0, 1, 2, 3, 4, 4, 5, 7, 8, 12, 24][rng.below(11)];
         wrong_out(&Raw, &made.case, words).map_err(difference)?;
         coverage.extra(coverage::WRONG_OUT);
+        if words == 4 {
+            coverage.extra(coverage::FOUR_WORDS);
+        }
         let (sets, words) = WRONG_FLOWS[rng.below(WRONG_FLOWS.len())];
         wrong_flows(&Raw, &made.case, sets, words).map_err(difference)?;
         coverage.extra(coverage::WRONG_FLOWS);
@@ -89,6 +94,7 @@ pub fn one(seed: u64, coverage: &mut Coverage) -> Result<(), Difference> {
     record_list(seed, &made.case, &outcome, coverage).map_err(difference)?;
     record_divisions(seed, &made.case, &outcome, coverage).map_err(difference)?;
     record_emissions(&made.case, &outcome, &mut rng, coverage);
+    record_moves(&made.case, &outcome, &mut rng, coverage);
     record_flows(seed, &made.case, &outcome, &mut rng, coverage)?;
     other_levels(seed, &made.case, &mut rng, coverage)?;
     near(seed, &made, &outcome, &mut rng, coverage)
@@ -123,6 +129,23 @@ fn record_emissions(case: &Case, outcome: &Outcome, rng: &mut Rng, coverage: &mu
     let is_short = outcome.steps() <= MOST_STEPS_AGAIN;
     if outcome.refusal() == 0 && is_short && rng.chance(1, 3) {
         coverage.record_emissions(emissions::reached(case, outcome));
+    }
+}
+
+/// What the figure and the moves show; by wrong rules of one script in four, since each asks for it anew.
+fn record_moves(case: &Case, outcome: &Outcome, rng: &mut Rng, coverage: &mut Coverage) {
+    if rng.chance(1, 4) {
+        coverage.record_moves(moves::shown(case, outcome));
+    }
+    if outcome.accepted() {
+        coverage.record_moves(moves::said(case, outcome));
+    }
+    let is_short = outcome.steps() <= MOST_STEPS_AGAIN;
+    match outcome.figure() {
+        Some(figure) if outcome.refusal() == 0 && is_short => {
+            coverage.record_moves(moves::ran(case, outcome, figure));
+        }
+        _ => {}
     }
 }
 
@@ -182,16 +205,16 @@ pub fn describe(seed: u64) -> String {
     show(&cases::case(&mut Rng::new(seed)))
 }
 
-/// Library and reference agree on a case, or the difference, shrunk.
+/// Library and reference agree on a case and keep what 02 (f) says of moves, or the difference, shrunk.
 fn agree(seed: u64, case: &Case) -> Result<Outcome, Difference> {
     let reference = Reference(Rules::default());
-    compare(library(seed), &reference, case).map_err(|_| {
-        let case = shrink(case, |case| {
-            compare(library(seed), &reference, case).is_err()
-        });
-        let says = compare(library(seed), &reference, &case)
-            .err()
-            .unwrap_or_default();
+    let agreed = |case: &Case| {
+        let seen = compare(library(seed), &reference, case)?;
+        move_claims::hold(&seen).map(|()| seen)
+    };
+    agreed(case).map_err(|_| {
+        let case = shrink(case, |case| agreed(case).is_err());
+        let says = agreed(&case).err().unwrap_or_default();
         Difference::new(seed, &case, says)
     })
 }

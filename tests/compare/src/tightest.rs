@@ -65,7 +65,7 @@ mod tests {
             let levels = u32::from(case.book[0]);
             for (write, test) in (0..levels).flat_map(|w| (0..levels).map(move |t| (w, t))) {
                 let mut other = right.clone();
-                other.check[2..].copy_from_slice(&[write, test]);
+                other.check[2..4].copy_from_slice(&[write, test]);
                 assert_eq!(
                     matches!(compare(&case, &other), Some(Ok(()))),
                     other == right

@@ -61,8 +61,19 @@ pub enum Effect {
     ChangesInstant(SignalEnvironment),
 }
 
+/// 'A step is a move or an instant change' (01). The rule that makes a step says which.
+#[derive(Clone, Copy, Debug, PartialEq, Eq)]
+pub enum Kind {
+    /// (PAR-OP3), the one move that leaves every node in place.
+    Trade,
+    /// A move by any other rule.
+    Move,
+    Change,
+}
+
 /// A step C ↦ C': what it does to Γ, S and E, and the process that it leaves.
 pub struct Step {
+    pub kind: Kind,
     pub effect: Effect,
     pub process: Rc<Process>,
 }

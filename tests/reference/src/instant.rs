@@ -2,7 +2,7 @@
 
 use std::rc::Rc;
 
-use crate::configuration::{Configuration, Effect, SignalEnvironment, Step};
+use crate::configuration::{Configuration, Effect, Kind, SignalEnvironment, Step};
 use crate::fault::{Fault, Rules};
 use crate::tree::Process;
 
@@ -14,6 +14,7 @@ pub fn instant_change(rules: Rules, c: &Configuration, i: SignalEnvironment) -> 
         false => residual(rules, &c.signals, &c.process),
     };
     Step {
+        kind: Kind::Change,
         effect: Effect::ChangesInstant(i),
         process,
     }

@@ -1,6 +1,6 @@
 //! A second interpreter of station scripts, written from the papers and not from
 //! the code: the scope paper (called 01 in the comments), the changes of its rules
-//! (called 02: (a) to (e)) and report RR-5594 (called the report). Where 01
+//! (called 02: (a) to (f)) and report RR-5594 (called the report). Where 01
 //! leaves refusals 4 to 10 and 13 open it takes the readings of docs/DECISIONS.md.
 //! It checks a script file against a level book, runs it by rewriting trees by the
 //! report's Figures 1 to 4, and derives the types of Figure 5 by brute force. A
@@ -23,7 +23,9 @@ mod inputs;
 mod instant;
 mod levels;
 mod log;
+mod move_bound;
 mod moves;
+pub mod nearest;
 mod order;
 #[cfg(test)]
 mod properties;
@@ -31,6 +33,7 @@ mod reach;
 mod refusal;
 mod runner;
 mod shape;
+pub mod small_scripts;
 mod suspension;
 mod sweep;
 #[cfg(test)]
@@ -42,15 +45,21 @@ mod value;
 
 pub use fault::{Fault, Rules};
 pub use flows::Flows;
+use move_bound::{bound_of_refused, move_bound, MoveBound};
 use refusal::Refusal;
+use tree::Process;
 
-/// What `check` returns (01, 'Calls').
+/// What `check` returns (01, 'Calls', and 02, request (f)).
 #[derive(Clone, Copy, Debug, PartialEq, Eq)]
 pub struct CheckAnswer {
     pub number: u32,
     pub place: u32,
     pub write: u32,
     pub test: u32,
+    /// 1, or 0 where there is a while.
+    pub bounded: u32,
+    /// The most moves of a run; 0 where not bounded.
+    pub moves: u32,
 }
 
 /// What `flows` returns (02, request (e)).
@@ -83,14 +92,24 @@ pub struct RunAnswer {
     pub lines: u32,
 }
 
+/// The moves of a run, each counted where it is made.
+#[derive(Clone, Copy, Debug, Default, PartialEq, Eq)]
+pub struct Moves {
+    pub all: u32,
+    /// Those by which the parts of a parallel trade places.
+    pub trades: u32,
+}
+
 impl CheckAnswer {
     /// 01: 'A refusal's other returned numbers are 0'.
-    fn refused(refusal: Refusal) -> Self {
+    fn refused(refusal: Refusal, bound: MoveBound) -> Self {
         CheckAnswer {
             number: refusal.number,
             place: refusal.place,
             write: 0,
             test: 0,
+            bounded: bound.bounded,
+            moves: bound.moves,
         }
     }
 }
@@ -109,16 +128,26 @@ impl RunAnswer {
     }
 }
 
-/// Checks a script file under a level book: refusals 1 to 11, or W and T.
+/// Checks a script file under a level book: refusals 1 to 11, or W and T, and the
+/// most moves.
 pub fn check(rules: Rules, book: &[u8], script: &[u8]) -> CheckAnswer {
     match check::accepted(rules, book, script) {
-        Err(refusal) => CheckAnswer::refused(refusal),
-        Ok(accepted) => CheckAnswer {
-            number: 0,
-            place: 0,
-            write: accepted.levels.write as u32,
-            test: accepted.levels.test as u32,
-        },
+        Err(refusal) => {
+            let bound = bound_of_refused(rules, refusal, book, script);
+            CheckAnswer::refused(refusal, bound)
+        }
+        Ok(accepted) => {
+            let script = Process::of(&accepted.file, accepted.file.script());
+            let MoveBound { bounded, moves } = move_bound(rules, &script);
+            CheckAnswer {
+                number: 0,
+                place: 0,
+                write: accepted.levels.write as u32,
+                test: accepted.levels.test as u32,
+                bounded,
+                moves,
+            }
+        }
     }
 }
 
@@ -142,11 +171,21 @@ pub fn flows(rules: Rules, script: &[u8]) -> FlowsAnswer {
 /// Runs a script: refusals 1 to 15, or the steps, with the lines in `log` and
 /// the state at the end in `values`. A refusal leaves both untouched.
 pub fn run(rules: Rules, book: &[u8], script: &[u8], arguments: RunArguments) -> RunAnswer {
+    run_counted(rules, book, script, arguments).0
+}
+
+/// Runs a script, and counts its moves; a refused run has none.
+pub fn run_counted(
+    rules: Rules,
+    book: &[u8],
+    script: &[u8],
+    arguments: RunArguments,
+) -> (RunAnswer, Moves) {
     let answer = check::accepted(rules, book, script).and_then(|accepted| {
         arguments::refusals(rules, &accepted, &arguments)?;
         Ok(runner::run(rules, &accepted, arguments))
     });
-    answer.unwrap_or_else(RunAnswer::refused)
+    answer.unwrap_or_else(|refusal| (RunAnswer::refused(refusal), Moves::default()))
 }
 
 /// Every pair (W, T) that Figure 5 derives for the script, subsumption

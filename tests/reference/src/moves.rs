@@ -2,7 +2,7 @@
 
 use std::rc::Rc;
 
-use crate::configuration::{Configuration, Effect, Step};
+use crate::configuration::{Configuration, Effect, Kind, Step};
 use crate::fault::{Fault, Rules};
 use crate::suspension::takes_over;
 use crate::tree::{Declaration, Expression, Name, Process};
@@ -28,6 +28,7 @@ pub fn moves(rules: Rules, c: &Configuration, process: &Process) -> Option<Step>
 /// A move that changes neither Γ nor S nor E.
 fn silent(process: &Rc<Process>) -> Step {
     Step {
+        kind: Kind::Move,
         effect: Effect::Nothing,
         process: Rc::clone(process),
     }
@@ -35,6 +36,7 @@ fn silent(process: &Rc<Process>) -> Step {
 
 fn to_nil(effect: Effect) -> Step {
     Step {
+        kind: Kind::Move,
         effect,
         process: Rc::new(Process::Nil),
     }
@@ -43,6 +45,7 @@ fn to_nil(effect: Effect) -> Step {
 /// The move of a part, put back into its context.
 fn inside(step: Step, context: impl FnOnce(Rc<Process>) -> Process) -> Step {
     Step {
+        kind: step.kind,
         effect: step.effect,
         process: Rc::new(context(step.process)),
     }
@@ -61,8 +64,8 @@ fn seq(rules: Rules, c: &Configuration, p: &Rc<Process>, q: &Rc<Process>) -> Opt
     let step = moves(rules, c, p)?;
     if step.process.is_nil() && rules.has(Fault::NilDroppedAtOnce) {
         return Some(Step {
-            effect: step.effect,
             process: Rc::clone(q),
+            ..step
         });
     }
     Some(inside(step, |p| Process::Sequence(p, Rc::clone(q))))
@@ -78,6 +81,7 @@ fn let_in(
 ) -> Step {
     let x = c.fresh_name();
     Step {
+        kind: Kind::Move,
         effect: Effect::DeclaresRegister(x, d, c.evaluate(rules, e)),
         process: p.substitute(x, d.name),
     }
@@ -112,6 +116,7 @@ fn local(rules: Rules, c: &Configuration, d: Declaration, p: &Rc<Process>) -> St
         a = c.newest_made_for(d.name).unwrap_or(a);
     }
     Step {
+        kind: Kind::Move,
         effect: Effect::DeclaresSignal(a, d),
         process: p.substitute(a, d.name),
     }
@@ -130,7 +135,8 @@ fn watch(rules: Rules, c: &Configuration, p: &Rc<Process>, a: Name) -> Option<St
 /// (WHEN-OP1) and (WHEN-OP2)
 fn when(rules: Rules, c: &Configuration, a: Name, p: &Rc<Process>) -> Option<Step> {
     if !c.signals.contains(&a) {
-        return None;
+        let stays = || silent(&Rc::new(Process::When(a, Rc::clone(p))));
+        return rules.has(Fault::AbsentWhenMoves).then(stays);
     }
     if p.is_nil() {
         return Some(to_nil(Effect::Nothing));
@@ -146,14 +152,29 @@ fn when(rules: Rules, c: &Configuration, a: Name, p: &Rc<Process>) -> Option<Ste
 /// move is suspended (Proposition 2.4).
 fn par(rules: Rules, c: &Configuration, p: &Rc<Process>, q: &Rc<Process>) -> Option<Step> {
     if p.is_nil() {
-        return Some(silent(q));
+        return Some(match rules.has(Fault::NilLeftPartTrades) {
+            true => trade(p, q),
+            false => silent(q),
+        });
     }
     if q.is_nil() && rules.has(Fault::NilRightPartDropped) {
         return Some(silent(p));
     }
     if let Some(step) = moves(rules, c, p) {
-        return Some(inside(step, |p| Process::Parallel(p, Rc::clone(q))));
+        let put_back = |p| match rules.has(Fault::TradesAfterEachMove) {
+            true => Process::Parallel(Rc::clone(q), p),
+            false => Process::Parallel(p, Rc::clone(q)),
+        };
+        return Some(inside(step, put_back));
     }
-    let traded = || Rc::new(Process::Parallel(Rc::clone(q), Rc::clone(p)));
-    takes_over(rules, &c.signals, q).then(|| silent(&traded()))
+    takes_over(rules, &c.signals, q).then(|| trade(p, q))
+}
+
+/// The parts of a parallel change places.
+fn trade(p: &Rc<Process>, q: &Rc<Process>) -> Step {
+    Step {
+        kind: Kind::Trade,
+        effect: Effect::Nothing,
+        process: Rc::new(Process::Parallel(Rc::clone(q), Rc::clone(p))),
+    }
 }

@@ -2,14 +2,14 @@
 
 use crate::book::{Book, Level};
 use crate::check::Accepted;
-use crate::configuration::{step, Configuration, Effect, SignalEnvironment, Step, Typing};
+use crate::configuration::{step, Configuration, Effect, Kind, SignalEnvironment, Step, Typing};
 use crate::emissions::Emissions;
 use crate::fault::{Fault, Rules};
 use crate::file::NameEntry;
 use crate::inputs::Inputs;
 use crate::log::{Line, Log};
 use crate::tree::Name;
-use crate::{RunAnswer, RunArguments};
+use crate::{Moves, RunAnswer, RunArguments};
 
 // 'Run returns how it ended.'
 const FINISHED: u32 = 0;
@@ -26,11 +26,12 @@ struct Run<'a> {
     configuration: Configuration,
     emissions: Emissions,
     steps: u32,
+    moves: Moves,
 }
 
-/// Runs an accepted script. 'Values then hold the state after the counted
-/// steps, owned names 0; log words after the last line are untouched.'
-pub fn run(rules: Rules, accepted: &Accepted, arguments: RunArguments) -> RunAnswer {
+/// Runs an accepted script, and counts its moves. 'Values then hold the state after
+/// the counted steps, owned names 0; log words after the last line are untouched.'
+pub fn run(rules: Rules, accepted: &Accepted, arguments: RunArguments) -> (RunAnswer, Moves) {
     let RunArguments { reader, values, .. } = arguments;
     let mut log = Log::new(arguments.log);
     let mut run = Run {
@@ -42,19 +43,21 @@ pub fn run(rules: Rules, accepted: &Accepted, arguments: RunArguments) -> RunAns
         configuration: Configuration::initial(&accepted.file, values),
         emissions: Emissions::default(),
         steps: 0,
+        moves: Moves::default(),
     };
     let ending = run.take_steps(&mut log);
     for (x, (name, value)) in accepted.file.names.iter().zip(values).enumerate() {
         *value = run.value_at_end(x, name);
     }
-    RunAnswer {
+    let answer = RunAnswer {
         number: 0,
         place: 0,
         ending,
         steps: run.steps,
         instants: run.configuration.instant,
         lines: log.lines() as u32,
-    }
+    };
+    (answer, run.moves)
 }
 
 impl Run<'_> {
@@ -71,6 +74,7 @@ impl Run<'_> {
             };
             self.write_line(&next.effect, log);
             self.steps += self.steps_of(&next.effect);
+            self.count_move(next.kind);
             self.emissions
                 .note(self.rules, &self.configuration, &next.effect);
             self.configuration.take(self.rules, next);
@@ -86,6 +90,17 @@ impl Run<'_> {
             (Effect::Emits(a), Some(Fault::RepeatTakesNoStep)) if !self.makes_line(*a) => 0,
             _ => 1,
         }
+    }
+
+    /// 'Instant changes are not moves' (02 (f)).
+    fn count_move(&mut self, kind: Kind) {
+        let is_move = match kind {
+            Kind::Move => true,
+            Kind::Trade => !self.rules.has(Fault::TradesAreNoMoves),
+            Kind::Change => self.rules.has(Fault::ChangesAreMoves),
+        };
+        self.moves.all += u32::from(is_move);
+        self.moves.trades += u32::from(kind == Kind::Trade);
     }
 
     /// 'Before each step: 0 finished if the script is nil; else 1 spent if the

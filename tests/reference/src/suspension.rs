@@ -6,6 +6,7 @@ use crate::tree::Process;
 
 pub fn suspended(rules: Rules, e: &SignalEnvironment, process: &Process) -> bool {
     match process {
+        Process::When(a, _) if !e.contains(a) && rules.has(Fault::AbsentWhenMoves) => false,
         // (WHEN-SUS1) and (WHEN-SUS2)
         Process::When(a, p) => !e.contains(a) || suspended(rules, e, p),
         // (WATCH-SUS)

@@ -10,7 +10,7 @@ use crate::value::Operation;
 /// A name: of the file, or fresh.
 pub type Name = usize;
 
-#[derive(Debug)]
+#[derive(Debug, PartialEq, Eq, Hash)]
 pub enum Expression {
     Constant(i32),
     Register(Name),
@@ -20,7 +20,7 @@ pub enum Expression {
 
 /// P ::= nil | x := e | let x : δ = e in P | if e then P else Q | while e do P |
 /// P ; Q | emit a | local a : δ in P | do P watching a | when a do P | (P ↾ Q)
-#[derive(Debug)]
+#[derive(Debug, PartialEq, Eq, Hash)]
 pub enum Process {
     Nil,
     Assign(Name, Rc<Expression>),
@@ -36,7 +36,7 @@ pub enum Process {
 }
 
 /// The name that a let or local binds, and its level: x : δ.
-#[derive(Clone, Copy, Debug)]
+#[derive(Clone, Copy, Debug, PartialEq, Eq, Hash)]
 pub struct Declaration {
     pub name: Name,
     pub level: Level,

@@ -5,7 +5,7 @@ use std::cmp::Ordering;
 use crate::fault::{Fault, Rules};
 
 /// An operation with two operands, kinds 2 to 7.
-#[derive(Clone, Copy, Debug, PartialEq, Eq)]
+#[derive(Clone, Copy, Debug, PartialEq, Eq, Hash)]
 pub enum Operation {
     Add,
     Subtract,

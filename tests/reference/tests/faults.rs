@@ -1,7 +1,7 @@
 //! The planted faults: each changes an answer on some example of the papers.
 
 use reference::examples::{all, Example, ExampleRun};
-use reference::{check, flows, run, Fault, Rules, RunArguments};
+use reference::{check, flows, run_counted, Fault, Rules, RunArguments};
 
 fn run_changes(rules: Rules, example: &Example, expected: &ExampleRun) -> bool {
     let mut values = expected.values.clone();
@@ -13,10 +13,12 @@ fn run_changes(rules: Rules, example: &Example, expected: &ExampleRun) -> bool {
         list: &expected.list,
         log: &mut log,
     };
-    let answer = run(rules, &example.book, &example.script, arguments);
+    let (answer, moves) = run_counted(rules, &example.book, &example.script, arguments);
+    let right = expected.answer;
     let mut words = expected.lines.concat();
     words.resize(expected.log, 0);
-    answer != expected.answer || values != expected.values_after || log != words
+    let miscounts = moves.all != right.steps - right.instants;
+    answer != right || miscounts || values != expected.values_after || log != words
 }
 
 fn changes(rules: Rules, example: &Example) -> bool {

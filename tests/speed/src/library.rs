@@ -1,14 +1,17 @@
 //! The library's three calls, through the safe crate, with their answers as numbers.
 
-use station::{Refusal, MAX_LEVELS};
+use station::{Accepted, Refusal, MAX_LEVELS};
 
-/// Number, place, W, T.
-pub fn check(book: &[u8], script: &[u8]) -> [u32; 4] {
+/// Number, place, W, T, whether there is a figure, and the figure: the most moves of a run.
+pub fn check(book: &[u8], script: &[u8]) -> [u32; 6] {
     match station::check(book, script) {
-        Ok(levels) => [0, 0, levels.write, levels.test],
+        Ok(Accepted { write, test, moves }) => {
+            let bounded = u32::from(moves.is_some());
+            [0, 0, write, test, bounded, moves.unwrap_or(0)]
+        }
         Err(refusal) => {
             let [number, place] = numbers(refusal);
-            [number, place, 0, 0]
+            [number, place, 0, 0, 0, 0]
         }
     }
 }

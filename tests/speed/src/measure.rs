@@ -48,7 +48,7 @@ pub fn run_on(
     plain::run(variant, book, script, arguments)
 }
 
-pub fn check_on(side: usize, book: &[u8], script: &[u8]) -> [u32; 4] {
+pub fn check_on(side: usize, book: &[u8], script: &[u8]) -> [u32; 6] {
     match side {
         0 => library::check(book, script),
         _ => plain::check(book, script),
@@ -79,7 +79,7 @@ pub fn agreed_run(name: &str, call: &Call, limit: u32) -> [u32; 6] {
     by_library.0
 }
 
-pub fn agreed_check(name: &str, book: &[u8], script: &[u8]) -> [u32; 4] {
+pub fn agreed_check(name: &str, book: &[u8], script: &[u8]) -> [u32; 6] {
     let out = check_on(0, book, script);
     assert_eq!(out, check_on(1, book, script), "{name}");
     out

@@ -105,15 +105,17 @@ fn damaged_books_agree() {
 #[test]
 fn damaged_scripts_agree() {
     let mut rng = Rng(2);
+    let mut bounded = std::collections::BTreeSet::new();
     for _ in 0..2000 {
         for Workload { name, mut call } in workloads() {
             (0..=rng.below(3)).for_each(|_| rng.damage(&mut call.script));
             call.log = 40;
-            agreed_check(&name, &call.book, &call.script);
+            bounded.insert(agreed_check(&name, &call.book, &call.script)[4]);
             agreed_run(&name, &call, 200);
             agreed_flows(&name, &call.script);
         }
     }
+    assert_eq!(Vec::from_iter(bounded), [0, 1]);
 }
 
 #[test]

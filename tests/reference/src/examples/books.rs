@@ -64,11 +64,13 @@ fn last_of_a_chain() -> Vec<Example> {
     vec![
         example("a chain from low to high, its last pair", &LOW_TO_HIGH)
             .accepted(1, 2)
+            .moves(5)
             .run_with(start(0), end, &[], &[0, 0])
             .run_with(start(1), end, &[x_line], &[0, 0])
             .run_with(start(2), end, &[x_line, y_line], &[0, 0]),
         example("a chain from high to low, its last pair", &HIGH_TO_LOW)
             .accepted(2, 1)
+            .moves(5)
             .run_with(start(0), end, &[x_line, y_line], &[0, 0])
             .run_with(start(1), end, &[x_line, y_line], &[0, 0])
             .run_with(start(2), end, &[y_line], &[0, 0]),
@@ -80,10 +82,18 @@ fn last_of_a_chain() -> Vec<Example> {
 fn first_of_a_chain() -> Vec<Example> {
     let example = writes_and_tests;
     vec![
-        example("a chain from low to high, 0 and 1", &LOW_TO_HIGH, 0, 1).accepted(0, 1),
-        example("a chain from low to high, 1 and 0", &LOW_TO_HIGH, 1, 0).accepted(0, 1),
-        example("a chain from high to low, 0 and 1", &HIGH_TO_LOW, 0, 1).accepted(1, 0),
-        example("a chain from high to low, 1 and 0", &HIGH_TO_LOW, 1, 0).accepted(1, 0),
+        example("a chain from low to high, 0 and 1", &LOW_TO_HIGH, 0, 1)
+            .accepted(0, 1)
+            .moves(5),
+        example("a chain from low to high, 1 and 0", &LOW_TO_HIGH, 1, 0)
+            .accepted(0, 1)
+            .moves(5),
+        example("a chain from high to low, 0 and 1", &HIGH_TO_LOW, 0, 1)
+            .accepted(1, 0)
+            .moves(5),
+        example("a chain from high to low, 1 and 0", &HIGH_TO_LOW, 1, 0)
+            .accepted(1, 0)
+            .moves(5),
     ]
 }
 
@@ -94,10 +104,18 @@ fn last_pair_side_by_side() -> Vec<Example> {
     let bottom_first = [0b1111, 0b0010, 0b0110, 0b1010];
     let top_first = [0b0001, 0b1111, 0b0101, 0b1001];
     vec![
-        writes_and_tests("sides 2 and 3 between 0 and 1", &bottom_first, 2, 3).accepted(0, 1),
-        writes_and_tests("sides 3 and 2 between 0 and 1", &bottom_first, 3, 2).accepted(0, 1),
-        writes_and_tests("sides 2 and 3 between 1 and 0", &top_first, 2, 3).accepted(1, 0),
-        writes_and_tests("sides 3 and 2 between 1 and 0", &top_first, 3, 2).accepted(1, 0),
+        writes_and_tests("sides 2 and 3 between 0 and 1", &bottom_first, 2, 3)
+            .accepted(0, 1)
+            .moves(5),
+        writes_and_tests("sides 3 and 2 between 0 and 1", &bottom_first, 3, 2)
+            .accepted(0, 1)
+            .moves(5),
+        writes_and_tests("sides 2 and 3 between 1 and 0", &top_first, 2, 3)
+            .accepted(1, 0)
+            .moves(5),
+        writes_and_tests("sides 3 and 2 between 1 and 0", &top_first, 3, 2)
+            .accepted(1, 0)
+            .moves(5),
     ]
 }
 
@@ -107,8 +125,12 @@ fn last_pair_side_by_side() -> Vec<Example> {
 fn high_to_low() -> Vec<Example> {
     let rows = [0b0001, 0b0011, 0b0101, 0b1111];
     vec![
-        writes_and_tests("a diamond from high to low, its sides", &rows, 1, 2).accepted(3, 0),
-        writes_and_tests("a diamond from high to low, its last pair", &rows, 2, 3).accepted(3, 2),
+        writes_and_tests("a diamond from high to low, its sides", &rows, 1, 2)
+            .accepted(3, 0)
+            .moves(5),
+        writes_and_tests("a diamond from high to low, its last pair", &rows, 2, 3)
+            .accepted(3, 2)
+            .moves(5),
     ]
 }
 
@@ -120,8 +142,12 @@ fn several_common_levels() -> Vec<Example> {
     let uppers = [0b11111, 0b00010, 0b00110, 0b01110, 0b10110];
     let lowers = [0b00001, 0b11011, 0b11111, 0b01001, 0b10001];
     vec![
-        writes_and_tests("two common upper levels", &uppers, 3, 4).accepted(0, 2),
-        writes_and_tests("two common lower levels", &lowers, 3, 4).accepted(1, 0),
+        writes_and_tests("two common upper levels", &uppers, 3, 4)
+            .accepted(0, 2)
+            .moves(5),
+        writes_and_tests("two common lower levels", &lowers, 3, 4)
+            .accepted(1, 0)
+            .moves(5),
     ]
 }
 
@@ -137,18 +163,30 @@ fn sixteen_levels() -> Vec<Example> {
     };
     let (upward, downward) = (sets(|i, j| i & !j == 0), sets(|i, j| j & !i == 0));
     vec![
-        writes_and_tests("subsets, 7 and 14", &upward, 7, 14).accepted(6, 15),
-        writes_and_tests("subsets, 14 and 15", &upward, 14, 15).accepted(14, 15),
-        writes_and_tests("subsets upside down, 8 and 1", &downward, 8, 1).accepted(9, 0),
-        writes_and_tests("subsets upside down, 14 and 15", &downward, 14, 15).accepted(15, 14),
+        writes_and_tests("subsets, 7 and 14", &upward, 7, 14)
+            .accepted(6, 15)
+            .moves(5),
+        writes_and_tests("subsets, 14 and 15", &upward, 14, 15)
+            .accepted(14, 15)
+            .moves(5),
+        writes_and_tests("subsets upside down, 8 and 1", &downward, 8, 1)
+            .accepted(9, 0)
+            .moves(5),
+        writes_and_tests("subsets upside down, 14 and 15", &downward, 14, 15)
+            .accepted(15, 14)
+            .moves(5),
     ]
 }
 
 /// A level and itself are no pair i < j: W and T are that level.
 fn one_level_twice() -> Vec<Example> {
     vec![
-        writes_and_tests("a middle level and itself", &LOW_TO_HIGH, 1, 1).accepted(1, 1),
-        writes_and_tests("the last level and itself", &LOW_TO_HIGH, 2, 2).accepted(2, 2),
+        writes_and_tests("a middle level and itself", &LOW_TO_HIGH, 1, 1)
+            .accepted(1, 1)
+            .moves(5),
+        writes_and_tests("the last level and itself", &LOW_TO_HIGH, 2, 2)
+            .accepted(2, 2)
+            .moves(5),
     ]
 }
 

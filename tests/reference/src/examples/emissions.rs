@@ -45,6 +45,7 @@ fn one_emission() -> Example {
     let a = n.signal(L);
     Example::script("emit a", APPEARS, n, emit(a))
         .accepted(0, 0)
+        .moves(1)
         .run((&[0], 9), finished(1, 0), &[[1, 0, 0, 1]], &[1])
         .run_with((0, &[0], 9, 4), finished(1, 0), &[[1, 0, 0, 1]], &[1])
         .run_with((0, &[0], 9, 3), log_full(0, 0), &[], &[0])
@@ -63,6 +64,7 @@ fn two_emissions() -> Example {
     let line = [1, 0, 0, 1];
     Example::script("emit a; emit a", REPEATS, n, seq(emit(a), emit(a)))
         .accepted(0, 0)
+        .moves(3)
         .run((&[0], 9), finished(3, 0), &[line], &[1])
         .run((&[0], 3), finished(3, 0), &[line], &[1])
         .run((&[0], 2), spent(2, 0), &[line], &[1])
@@ -81,6 +83,7 @@ fn another_line_between() -> Example {
     let (emits, assigns) = ([1, 0, 0, 1], [3, 0, 1, 5]);
     Example::script("emit a; (x := 5; emit a)", REPEATS, n, process)
         .accepted(0, 0)
+        .moves(5)
         .run((&[0, 0], 9), finished(5, 0), &[emits, assigns], &[1, 5])
         .run_with(
             (0, &[0, 0], 9, 8),
@@ -101,6 +104,7 @@ fn another_signal_between() -> Example {
     let (a_line, b_line) = ([2, 0, 0, 1], [4, 0, 1, 1]);
     Example::script("local b in (emit a; (emit b; emit a))", REPEATS, n, process)
         .accepted(0, 0)
+        .moves(6)
         .run((&[0, 0], 99), finished(6, 0), &[a_line, b_line], &[1, 0])
         .run_with(
             (0, &[0, 0], 99, 8),
@@ -134,6 +138,7 @@ fn emitted_in_two_instants() -> Example {
     let process = seq(emit(a), when(b, emit(a)));
     Example::script(name, APPEARS, n, process)
         .accepted(0, 0)
+        .moves(4)
         .run((&[0, 0], 9), finished(5, 1), &[first, second], &[1, 1])
         .list(&[1, 1])
         .run_with((0, &[0, 0], 9, 4), log_full(3, 1), &[first], &[0, 1])
@@ -174,6 +179,7 @@ fn emitted_after_its_watching() -> Example {
         seq(watching(body, a), emit(a)),
     )
     .accepted(0, 0)
+    .moves(6)
     .run(
         (&[0, 0], 9),
         finished(5, 1),
@@ -274,6 +280,7 @@ fn two_threads() -> Example {
         par(when(b, emit(a)), seq(emit(a), emit(b))),
     )
     .accepted(0, 0)
+    .moves(12)
     .run((&[0, 0], 99), finished(7, 0), &[a_line, b_line], &[1, 1])
     .run_with(
         (0, &[0, 0], 99, 8),
@@ -302,6 +309,7 @@ fn three_threads() -> Example {
         par(par(emit(a), emit(a)), emit(a)),
     )
     .accepted(0, 0)
+    .moves(15)
     .run((&[0], 99), finished(5, 0), &[[1, 0, 0, 1]], &[1])
     .run_with((0, &[0], 99, 4), finished(5, 0), &[[1, 0, 0, 1]], &[1])
     .run_with((0, &[1], 99, 0), finished(5, 0), &[], &[1])
@@ -316,6 +324,7 @@ fn sealed_from_the_start() -> Example {
     let process = seq(emit(a), seq(emit(a), emit(b)));
     Example::script("emit a_H; (emit a_H; emit b_L)", RECORDS, n, process)
         .accepted(0, 0)
+        .moves(5)
         .run_with((0, &[0, 0], 9, 4), finished(5, 0), &[b_line], &[1, 1])
         .run_with((0, &[1, 0], 9, 4), finished(5, 0), &[b_line], &[1, 1])
         .run_with((0, &[0, 0], 9, 3), log_full(4, 0), &[], &[1, 0])
@@ -340,6 +349,7 @@ fn sealed_by_the_list() -> Example {
     let (low, high) = ((0, &[0; 3][..], 9, 4), (1, &[0; 3][..], 9, LOG_WORDS));
     Example::script("when b_L do (emit a_H; y_L := 1)", RECORDS, n, process)
         .accepted(0, 0)
+        .moves(4)
         .run_with(low, finished(5, 1), &[assigns], &[1, 1, 1])
         .list(&[1, 1])
         .run_with(low, finished(5, 1), &[assigns], &[1, 1, 1])
@@ -359,6 +369,7 @@ fn equal_assignments() -> Example {
     let five = || assign(x, constant(5));
     Example::script("x := 5; x := 5", ASSIGNMENTS, n, seq(five(), five()))
         .accepted(0, 0)
+        .moves(3)
         .run((&[0], 9), finished(3, 0), &[first, second], &[5])
         .run((&[5], 9), finished(3, 0), &[first, second], &[5])
         .run_with((0, &[5], 9, 4), log_full(2, 0), &[first], &[5])
@@ -370,6 +381,7 @@ fn register_to_itself() -> Example {
     let x = n.register(L);
     Example::script("x := x", ASSIGNMENTS, n, assign(x, read(x)))
         .accepted(0, 0)
+        .moves(1)
         .run((&[-3], 9), finished(1, 0), &[[1, 0, 0, 4294967293]], &[-3])
         .run((&[0], 9), finished(1, 0), &[[1, 0, 0, 0]], &[0])
         .run_with((0, &[0], 9, 0), log_full(0, 0), &[], &[0])

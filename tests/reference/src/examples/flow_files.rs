@@ -32,21 +32,25 @@ fn owned_names() -> Vec<Example> {
     vec![
         after("(when b2 do nil); (local a5 in nil)", local(a, nil()))
             .accepted(TOP, 2)
+            .moves(3)
             .flows(&[]),
         after(
             "(when b2 do nil); (let u5 = 0 in nil)",
             let_in(u, constant(0), nil()),
         )
         .accepted(TOP, 2)
+        .moves(3)
         .flows(&[]),
         after("(when b2 do nil); (local a5 in emit a5)", local(a, emit(a)))
             .accepted(5, 2)
+            .moves(4)
             .flows(&[(2, 5)]),
         after(
             "(when b2 do nil); (let u5 = 0 in u5 := 0)",
             let_in(u, constant(0), clear(u)),
         )
         .accepted(5, 2)
+        .moves(4)
         .flows(&[(2, 5)]),
         needs(
             "local c5 in (when c5 do emit d6)",
@@ -55,6 +59,7 @@ fn owned_names() -> Vec<Example> {
             local(c, when(c, emit(d))),
         )
         .accepted(6, 5)
+        .moves(3)
         .flows(&[(5, 6)]),
     ]
 }
@@ -69,12 +74,14 @@ fn sets() -> Vec<Example> {
     vec![
         needs("y2 := x1; z3 := y2", SETS, n.clone(), rises)
             .accepted(2, 0)
+            .moves(3)
             .flows(&[(1, 2), (2, 3)]),
         needs("y2 := x1; x1 := y2", SETS, n, both_ways)
             .refused(11, 1)
             .flows(&[(1, 2), (2, 1)]),
         needs("nil, with a name of level 9", SETS, m, nil())
             .accepted(TOP, 0)
+            .moves(0)
             .flows(&[]),
     ]
 }
@@ -93,6 +100,7 @@ fn last_level() -> Vec<Example> {
             assign(high, read(low)),
         )
         .accepted(TOP, 0)
+        .moves(1)
         .flows(&[(0, LAST)]),
         needs(
             "y0 := x, with x of the last level",
@@ -104,6 +112,7 @@ fn last_level() -> Vec<Example> {
         .flows(&[(LAST, 0)]),
         needs("nil, with a name of the last level", REFUSALS, m, nil())
             .accepted(TOP, 0)
+            .moves(0)
             .flows(&[]),
         needs("nil, with a level past the last", REFUSALS, l, nil())
             .refused(6, 1)
@@ -196,6 +205,7 @@ fn boundary_job() -> Vec<Example> {
             .flows(&[(1, 0)]),
         below("a claim below the record is told", tells(claim))
             .accepted(0, 1)
+            .moves(2)
             .flows(&[(1, 0)]),
         above(
             "a claim above the record is measured and told",
@@ -211,6 +221,7 @@ fn boundary_job() -> Vec<Example> {
         .flows(&[(0, 1), (1, 0)]),
         above("a claim above the record is measured", keeps())
             .accepted(1, 0)
+            .moves(2)
             .flows(&[(0, 1)]),
         below("a claim below the record is measured", keeps())
             .refused(11, 1)

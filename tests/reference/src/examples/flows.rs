@@ -18,9 +18,11 @@ pub fn all() -> Vec<Example> {
     let groups = [
         expressions(),
         lets(),
+        tests_that_choose(),
         tests_that_guard(),
         loops(),
         sequences(),
+        nested_sequences(),
         parallels(),
         nested_tests(),
         no_tests(),
@@ -70,15 +72,19 @@ fn expressions() -> Vec<Example> {
     vec![
         needs("y5 := x3", NAMES, n.clone(), assign(y, read(x)))
             .accepted(5, 0)
+            .moves(1)
             .flows(&[(3, 5)]),
         needs("y5 := x3 - z2 * not w4", NAMES, n.clone(), assign(y, deep))
             .accepted(5, 0)
+            .moves(1)
             .flows(&[(2, 5), (3, 5), (4, 5)]),
         needs("y5 := y5", NAMES, n.clone(), assign(y, read(y)))
             .accepted(5, 0)
+            .moves(1)
             .flows(&[]),
         needs("y5 := 0", NAMES, n, clear(y))
             .accepted(5, 0)
+            .moves(1)
             .flows(&[]),
         needs("y2 := x7", NAMES, m, assign(low, read(high)))
             .refused(11, 0)
@@ -98,6 +104,7 @@ fn lets() -> Vec<Example> {
             let_in(u, read(x), nil()),
         )
         .accepted(TOP, 0)
+        .moves(1)
         .flows(&[(4, 6)]),
         needs(
             "let u6 = x4 in y9 := u6 + z8",
@@ -106,20 +113,16 @@ fn lets() -> Vec<Example> {
             let_in(u, read(x), sum),
         )
         .accepted(9, 0)
+        .moves(2)
         .flows(&[(4, 6), (6, 9), (8, 9)]),
     ]
 }
 
-/// If, when and watching: the tested levels to what the branches or the body write.
-/// In the last, x2 goes to y7 by the assignment, a3 and then c4 to both b8 and y7.
-fn tests_that_guard() -> Vec<Example> {
+/// If: the tested levels to what the branches write.
+fn tests_that_choose() -> Vec<Example> {
     let mut n = Names::new();
     let (x, z, y, b) = (n.register(2), n.register(4), n.register(6), n.signal(5));
     let choice = if_else(less(read(x), read(z)), clear(y), emit(b));
-    let (m, [a, c, d]) = signals([3, 4, 1]);
-    let mut l = m.clone();
-    let (w, s, y7) = (l.register(2), l.signal(8), l.register(7));
-    let body = par(emit(s), assign(y7, read(w)));
     vec![
         needs(
             "if x2 < z4 then y6 := 0 else emit b5",
@@ -128,15 +131,30 @@ fn tests_that_guard() -> Vec<Example> {
             choice,
         )
         .accepted(5, 4)
+        .moves(3)
         .flows(&[(2, 5), (2, 6), (4, 5), (4, 6)]),
         needs("if x2 then nil else nil", NEEDS, n, looks_at(x))
             .accepted(TOP, 2)
+            .moves(1)
             .flows(&[]),
+    ]
+}
+
+/// When and watching: the tested levels to what the body writes. In the last, x2 goes
+/// to y7 by the assignment, a3 and then c4 to both b8 and y7.
+fn tests_that_guard() -> Vec<Example> {
+    let (m, [a, c, d]) = signals([3, 4, 1]);
+    let mut l = m.clone();
+    let (w, s, y7) = (l.register(2), l.signal(8), l.register(7));
+    let body = par(emit(s), assign(y7, read(w)));
+    vec![
         needs("emit a3", NEEDS, m.clone(), emit(a))
             .accepted(3, 0)
+            .moves(1)
             .flows(&[]),
         needs("when a3 do emit c4", NEEDS, m.clone(), when(a, emit(c)))
             .accepted(4, 3)
+            .moves(2)
             .flows(&[(3, 4)]),
         needs("do emit d1 watching a3", NEEDS, m, watching(emit(d), a))
             .refused(11, 1)
@@ -148,6 +166,7 @@ fn tests_that_guard() -> Vec<Example> {
             watching(when(a, body), c),
         )
         .accepted(7, 4)
+        .moves(10)
         .flows(&[(2, 7), (3, 7), (3, 8), (4, 7), (4, 8)]),
     ]
 }
@@ -191,9 +210,6 @@ fn loops() -> Vec<Example> {
 fn sequences() -> Vec<Example> {
     let mut n = Names::new();
     let (x, b) = (n.register(3), n.signal(8));
-    let (m, [a1, b2, c3]) = signals([1, 2, 3]);
-    let to_the_right = seq(waits_for(a1), seq(waits_for(b2), emit(c3)));
-    let to_the_left = seq(seq(waits_for(a1), waits_for(b2)), emit(c3));
     vec![
         needs(
             "(if x3 then nil else nil); emit b8",
@@ -202,6 +218,7 @@ fn sequences() -> Vec<Example> {
             seq(looks_at(x), emit(b)),
         )
         .accepted(8, 3)
+        .moves(3)
         .flows(&[(3, 8)]),
         needs(
             "emit b8; (if x3 then nil else nil)",
@@ -210,7 +227,17 @@ fn sequences() -> Vec<Example> {
             seq(emit(b), looks_at(x)),
         )
         .accepted(8, 3)
+        .moves(3)
         .flows(&[]),
+    ]
+}
+
+/// Three parts: what the first two test to what the last writes.
+fn nested_sequences() -> Vec<Example> {
+    let (m, [a1, b2, c3]) = signals([1, 2, 3]);
+    let to_the_right = seq(waits_for(a1), seq(waits_for(b2), emit(c3)));
+    let to_the_left = seq(seq(waits_for(a1), waits_for(b2)), emit(c3));
+    vec![
         needs(
             "(when a1 do nil); ((when b2 do nil); emit c3)",
             NEEDS,
@@ -218,6 +245,7 @@ fn sequences() -> Vec<Example> {
             to_the_right,
         )
         .accepted(3, 2)
+        .moves(5)
         .flows(&[(1, 3), (2, 3)]),
         needs(
             "((when a1 do nil); (when b2 do nil)); emit c3",
@@ -226,6 +254,7 @@ fn sequences() -> Vec<Example> {
             to_the_left,
         )
         .accepted(3, 2)
+        .moves(5)
         .flows(&[(1, 3), (2, 3)]),
     ]
 }
@@ -244,6 +273,7 @@ fn parallels() -> Vec<Example> {
             par(looks_at(x), clear(y)),
         )
         .accepted(8, 3)
+        .moves(6)
         .flows(&[(3, 8)]),
         needs(
             "y8 := 0 parallel (if x3 then nil else nil)",
@@ -252,6 +282,7 @@ fn parallels() -> Vec<Example> {
             par(clear(y), looks_at(x)),
         )
         .accepted(8, 3)
+        .moves(6)
         .flows(&[(3, 8)]),
         needs(
             "(if x3 then nil else emit b9) parallel (when a4 do y8 := 0)",
@@ -260,6 +291,7 @@ fn parallels() -> Vec<Example> {
             both,
         )
         .accepted(8, 4)
+        .moves(10)
         .flows(&[(3, 8), (3, 9), (4, 8), (4, 9)]),
     ]
 }
@@ -281,6 +313,7 @@ fn nested_tests() -> Vec<Example> {
             seq(branches, emit(b)),
         )
         .accepted(7, 3)
+        .moves(5)
         .flows(&[(2, 7), (3, 7)]),
         needs(
             "(while 0 do (if x3 then nil else nil)); emit b7",
@@ -297,6 +330,7 @@ fn nested_tests() -> Vec<Example> {
             seq(declared, emit(b)),
         )
         .accepted(7, 6)
+        .moves(6)
         .flows(&[(2, 7), (6, 7)]),
     ]
 }
@@ -313,6 +347,7 @@ fn no_tests() -> Vec<Example> {
             seq(assign(y, read(x)), emit(b)),
         )
         .accepted(3, 0)
+        .moves(3)
         .flows(&[(2, 3)]),
         needs(
             "(let y3 = x2 in nil); emit b4",
@@ -321,6 +356,7 @@ fn no_tests() -> Vec<Example> {
             seq(let_in(y, read(x), nil()), emit(b)),
         )
         .accepted(4, 0)
+        .moves(3)
         .flows(&[(2, 3)]),
     ]
 }

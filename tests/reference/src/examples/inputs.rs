@@ -42,6 +42,7 @@ fn entered_or_not() -> Example {
     let line = [4, 3, 1, 1];
     waits_for_a(L, "when a do x := 1, with a in instant 3", ENTERING)
         .accepted(0, 0)
+        .moves(2)
         .run((&[0, 0], 1000), finished(5, 3), &[line], &[1, 1])
         .list(&[3, 0])
         .run((&[0, 0], 4), spent(4, 3), &[line], &[1, 1])
@@ -68,6 +69,7 @@ fn entered_or_not() -> Example {
 fn repeated_or_far() -> Example {
     waits_for_a(L, "when a do x := 1, with a early and late", LIST)
         .accepted(0, 0)
+        .moves(2)
         .run((&[0, 0], 9), finished(3, 1), &[[2, 1, 1, 1]], &[1, 1])
         .list(&[1, 0, 1, 0])
         .run((&[0, 0], 9), finished(4, 2), &[[3, 2, 1, 1]], &[1, 1])
@@ -96,6 +98,7 @@ fn watched_signal() -> Example {
     let process = watching(when(b, nil()), a);
     Example::script("do (when b do nil) watching a", ENTERING, n, process)
         .accepted(1, 0)
+        .moves(2)
         .run((&[0, 0], 9), finished(2, 2), &[], &[0, 0])
         .list(&[1, 0])
         .run((&[0, 0], 1), spent(1, 1), &[], &[1, 0])
@@ -125,6 +128,7 @@ fn two_threads() -> Example {
         par(waits(a, x), waits(b, y)),
     )
     .accepted(0, 0)
+    .moves(10)
     .run(
         (&[0, 0, 0, 0], 99),
         finished(7, 2),
@@ -156,6 +160,7 @@ fn one_instant_only() -> Example {
     let process = when(a, when(b, assign(x, constant(1))));
     Example::script("when a do when b do x := 1", ENTERING, n, process)
         .accepted(0, 0)
+        .moves(3)
         .run((&[0, 0, 0], 4), spent(4, 4), &[], &[0, 0, 0])
         .list(&[1, 0, 2, 1])
         .run((&[0, 0, 0], 2), spent(2, 2), &[], &[0, 1, 0])
@@ -176,6 +181,7 @@ fn emitted_as_well() -> Example {
     let a = n.signal(L);
     Example::script("when a do emit a", ENTERING, n, when(a, emit(a)))
         .accepted(0, 0)
+        .moves(2)
         .run((&[0], 9), finished(3, 1), &[], &[1])
         .list(&[1, 0])
         .run_with((0, &[0], 9, 0), finished(3, 1), &[], &[1])
@@ -189,6 +195,7 @@ fn without_a_line() -> Example {
     let a = n.signal(L);
     Example::script("when a do nil, without a log", ENTERING, n, when(a, nil()))
         .accepted(1, 0)
+        .moves(1)
         .run_with((0, &[0], 9, 0), finished(2, 1), &[], &[1])
         .list(&[1, 0])
         .run_with((0, &[0], 9, 4), finished(2, 1), &[], &[1])
@@ -199,6 +206,7 @@ fn without_a_line() -> Example {
 fn every_reader() -> Example {
     waits_for_a(H, "when a_H do x_H := 1", READERS)
         .accepted(1, 1)
+        .moves(2)
         .run((&[0, 0], 9), finished(3, 1), &[], &[1, 1])
         .list(&[1, 0])
         .run_with(
@@ -225,6 +233,7 @@ fn lists_that_agree() -> Example {
         seq(waits(b, y), waits(a, x)),
     )
     .accepted(0, 1)
+    .moves(5)
     .run((&[0; 4], 10), finished(7, 2), &[line], &[1, 1, 1, 1])
     .list(&[1, 0, 2, 1, 2, 0])
     .run((&[0; 4], 10), spent(10, 7), &[line], &[0, 0, 0, 1])
@@ -247,7 +256,9 @@ fn declares_two(name: &'static str) -> Example {
     let (b, u) = (n.signal(L), n.register(L));
     let body = seq(assign(x, read(u)), emit(a));
     let process = local(b, let_in(u, constant(4), body));
-    Example::script(name, ERRORS, n, process).accepted(0, 0)
+    Example::script(name, ERRORS, n, process)
+        .accepted(0, 0)
+        .moves(5)
 }
 
 const START: (u32, &[i32], u32) = (0, &[0, 0, 0, 0], 9);

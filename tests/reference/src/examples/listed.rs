@@ -35,6 +35,7 @@ fn explicit_and_implicit_flow() -> Vec<Example> {
     vec![
         Example::script("nil", LIST, Names::new(), nil())
             .accepted(1, 0)
+            .moves(0)
             .flows(&[])
             .run((&[], 1), finished(0, 0), &[], &[]),
         Example::script("y_L := x_H", LIST, n.clone(), assign(y, read(x)))
@@ -118,6 +119,7 @@ fn suspension() -> Vec<Example> {
     vec![
         Example::script("when b do nil", LIST, n.clone(), when(b, nil()))
             .accepted(1, 0)
+            .moves(1)
             .run((&[0, 0], 3), spent(3, 3), &[], &[0, 0]),
         Example::script(
             "(when b do nil) watching a",
@@ -126,6 +128,7 @@ fn suspension() -> Vec<Example> {
             watching(when(b, nil()), a),
         )
         .accepted(1, 0)
+        .moves(2)
         .run((&[1, 0], 1000), finished(1, 1), &[], &[0, 0]),
         // Names: a is 0, x is 1.
         Example::script(
@@ -135,6 +138,7 @@ fn suspension() -> Vec<Example> {
             par(when(c, assign(x, constant(1))), emit(c)),
         )
         .accepted(0, 0)
+        .moves(8)
         .run(
             (&[0, 0], 1000),
             finished(5, 0),
@@ -151,6 +155,7 @@ fn values() -> Vec<Example> {
         let x = n.register(L);
         Example::script(name, LIST, n, assign(x, e))
             .accepted(0, 0)
+            .moves(1)
             .run(
                 (&[0], 1),
                 finished(1, 0),
@@ -180,16 +185,20 @@ fn limits() -> Vec<Example> {
     vec![
         Example::script("64 names", LIST, names(64), nil())
             .accepted(1, 0)
+            .moves(0)
             .run((&[3; 64], 1), finished(0, 0), &[], &[3; 64]),
         Example::script("65 names", LIST, names(65), nil()).refused(5, 0),
         Example::script("nil, limit 0", LIST, Names::new(), nil())
             .accepted(1, 0)
+            .moves(0)
             .run((&[], 0), finished(0, 0), &[], &[]),
         Example::script("x := 1, limit 0", LIST, n.clone(), assign(x, constant(1)))
             .accepted(0, 0)
+            .moves(1)
             .run((&[0, 0], 0), spent(0, 0), &[], &[0, 0]),
         Example::script("when a do nil, limit 0", LIST, n, when(a, nil()))
             .accepted(1, 0)
+            .moves(1)
             .run((&[0, 1], 0), spent(0, 0), &[], &[0, 1]),
     ]
 }
@@ -204,7 +213,7 @@ fn program() -> Vec<Example> {
     ];
     let place = "01, the program's example";
     let example = Example::bytes("x := 7", place, &LOW_HIGH, script.to_vec());
-    vec![example.accepted(0, 0).run_with(
+    vec![example.accepted(0, 0).moves(1).run_with(
         (0, &[0], 1000, 1024),
         finished(1, 0),
         &[[1, 0, 0, 7]],
@@ -243,6 +252,7 @@ fn blunders_of_moves() -> Vec<Example> {
             par(when(a, nil()), when(b, nil())),
         )
         .accepted(1, 0)
+        .moves(6)
         .run((&[0, 0, 0], 3), spent(3, 3), &[], &[0, 0, 0]),
         // Trade, drop nil, then one instant change.
         Example::script(
@@ -252,6 +262,7 @@ fn blunders_of_moves() -> Vec<Example> {
             par(when(a, assign(x, constant(1))), nil()),
         )
         .accepted(0, 0)
+        .moves(6)
         .run((&[0, 0, 0], 3), spent(3, 1), &[], &[0, 0, 0]),
     ]
 }
@@ -293,12 +304,14 @@ fn lines() -> Vec<Example> {
         // the log.' One line of room is enough for reader 0, not for reader 1.
         Example::script("x_H := 1; y_L := 2", BLUNDERS, n, two_writes())
             .accepted(0, 0)
+            .moves(3)
             .run_with((0, &[0, 0], 9, 4), finished(3, 0), &[[3, 0, 0, 2]], &[2, 1])
             .run_with((1, &[0, 0], 9, 4), log_full(2, 0), &[[1, 0, 1, 1]], &[0, 1])
             .run_with((1, &[0, 0], 2, 4), spent(2, 0), &[[1, 0, 1, 1]], &[0, 1])
             .run_with((0, &[0, 0], 9, 3), log_full(2, 0), &[], &[0, 1]),
         Example::script("let u = 5 in z := u * -2", CALLS, m, declares)
             .accepted(0, 0)
+            .moves(2)
             .run(
                 (&[0, 0], 9),
                 finished(2, 0),

@@ -1,9 +1,10 @@
 //! The examples of the papers as data: 01's peg list, the report's programs, one
 //! small file for each row of 01's table, runs with lists for the sentences of 02
 //! (a), divisions for those of 02 (b), emissions for those of 02 (c), level books
-//! for those of 02 (d), and flows for those of 02 (e). Expected answers were typed
-//! from the papers, not computed. Where a paper gives a program and its behaviour in words, the steps
-//! were counted by hand by the rules of Figures 1 to 4.
+//! for those of 02 (d), flows for those of 02 (e), and figures of moves for those of 02
+//! (f). Expected answers were typed from the papers, not computed. Where a paper gives
+//! a program and its behaviour in words, the steps were counted by hand by the rules
+//! of Figures 1 to 4.
 //!
 //! A program that the report shows to be insecure is refused with its levels;
 //! where its behaviour is stated, a second example runs it with all levels low.
@@ -14,6 +15,7 @@ mod flow_files;
 mod flows;
 mod inputs;
 mod listed;
+mod move_bounds;
 mod report;
 mod rules;
 pub mod script;
@@ -64,6 +66,7 @@ pub fn all() -> Vec<Example> {
     all.extend(books::all());
     all.extend(flows::all());
     all.extend(flow_files::all());
+    all.extend(move_bounds::all());
     all
 }
 
@@ -141,8 +144,16 @@ impl Example {
         }
     }
 
+    /// Accepted; with a while, unless a figure follows.
     fn accepted(mut self, write: u32, test: u32) -> Example {
         self.expected_check = check_answer(0, 0, write, test);
+        self
+    }
+
+    /// Without a while: the script makes at most so many moves.
+    fn moves(mut self, moves: u32) -> Example {
+        self.expected_check.bounded = 1;
+        self.expected_check.moves = moves;
         self
     }
 
@@ -226,6 +237,8 @@ fn check_answer(number: u32, place: u32, write: u32, test: u32) -> CheckAnswer {
         place,
         write,
         test,
+        bounded: 0,
+        moves: 0,
     }
 }
 

@@ -71,6 +71,7 @@ fn program_2() -> Example {
         seq(emit(a), if_else(is_zero(x), nil(), pause(a1, b1))),
     )
     .accepted(0, 1)
+    .moves(9)
     .run(
         (&[0, 0, 0, 0], 100),
         finished(3, 0),
@@ -104,6 +105,7 @@ fn example_1() -> Example {
         par(queue, emit(a)),
     )
     .accepted(0, 0)
+    .moves(21)
     .run(
         (&[0, 0, 0], 100),
         finished(8, 0),
@@ -125,6 +127,7 @@ fn not_associative() -> Vec<Example> {
             par(par(when(a, emit(b)), emit(a)), emit(c)),
         )
         .accepted(0, 0)
+        .moves(18)
         .run(
             (&[0, 0, 0], 100),
             finished(7, 0),
@@ -139,6 +142,7 @@ fn not_associative() -> Vec<Example> {
             par(when(a, emit(b)), par(emit(a), emit(c))),
         )
         .accepted(0, 0)
+        .moves(18)
         .run(
             (&[0, 0, 0], 100),
             finished(7, 0),
@@ -154,6 +158,7 @@ fn example_2() -> Example {
     let (a, b) = (n.signal(L), n.signal(L));
     Example::script("Example 2: pause", INSTANTS, n, pause(a, b))
         .accepted(0, 0)
+        .moves(6)
         .run((&[0, 0], 100), finished(5, 1), &[[3, 0, 1, 1]], &[0, 0])
 }
 
@@ -173,6 +178,7 @@ fn two_pauses() -> Example {
         par(first, second),
     )
     .accepted(0, 0)
+    .moves(34)
     .run(
         (&[0, 0, 0, 0, 0, 0], 100),
         finished(15, 1),
@@ -196,6 +202,7 @@ fn pause_and_when() -> Example {
         par(first, when(a, assign(y, constant(2)))),
     )
     .accepted(0, 0)
+    .moves(22)
     .run(
         (&[0, 0, 0, 0, 0], 10),
         spent(10, 3),
@@ -219,6 +226,7 @@ fn causality_cycle() -> Example {
         seq(emit(a), par(when(b, emit(c)), right)),
     )
     .accepted(0, 0)
+    .moves(20)
     .run(
         (&[0, 0, 0], 100),
         finished(9, 1),
@@ -240,6 +248,7 @@ fn program_3() -> Vec<Example> {
         // instant change.
         Example::script("program (3), all low", TYPES, low, process(la, lb, lc))
             .accepted(0, 0)
+            .moves(5)
             .run(
                 (&[1, 0, 0], 100),
                 finished(5, 0),
@@ -288,6 +297,7 @@ fn pin() -> Vec<Example> {
         // If, drop, trade, emit c, drop, emit a, drop, when goes, drop, emit b.
         Example::script("program (5), PIN, all low", TYPES, low_names, low)
             .accepted(0, 0)
+            .moves(30)
             .run(
                 (&[0, 0, 0, 0], 100),
                 finished(10, 0),
@@ -395,6 +405,7 @@ fn program_8_all_low() -> Example {
     ];
     Example::script("program (8), all low", TYPES, names, process)
         .accepted(0, 0)
+        .moves(92)
         .run(
             (&[7, 1, 1, 0, 0, 0, 0, 0], 100),
             finished(22, 1),

@@ -32,7 +32,9 @@ pub fn all() -> Vec<Example> {
 fn assignment(name: &'static str, e: Expression, value: i32) -> Example {
     let mut n = Names::new();
     let x = n.register(L);
-    let example = Example::script(name, VALUES, n, assign(x, e)).accepted(0, 0);
+    let example = Example::script(name, VALUES, n, assign(x, e))
+        .accepted(0, 0)
+        .moves(1);
     let line = [1, 0, 0, value as u32];
     example.run((&[0], 1), finished(1, 0), &[line], &[value])
 }
@@ -136,6 +138,7 @@ fn tests() -> Vec<Example> {
         let process = if_else(constant(value), branch(1), branch(2));
         Example::script(name, VALUES, n, process)
             .accepted(0, 0)
+            .moves(3)
             .run(
                 (&[0], 9),
                 finished(2, 0),
@@ -186,7 +189,8 @@ fn needs() -> Vec<Example> {
             n,
             seq(emit(b), high_test()),
         )
-        .accepted(0, 1),
+        .accepted(0, 1)
+        .moves(3),
     ]
 }
 
@@ -203,6 +207,7 @@ fn watching_changes() -> Vec<Example> {
             watching(inner(), a),
         )
         .accepted(1, 0)
+        .moves(3)
         .run((&[0, 0, 0], 3), spent(3, 3), &[], &[0, 0, 0])
         .run((&[0, 1, 0], 9), finished(2, 1), &[], &[0, 0, 0])
         .run((&[1, 0, 0], 9), finished(1, 1), &[], &[0, 0, 0]),
@@ -210,6 +215,7 @@ fn watching_changes() -> Vec<Example> {
         // instant changes. Emit, then watching goes.
         Example::script("do emit b watching a", STEPS, n, watching(emit(b), a))
             .accepted(0, 0)
+            .moves(2)
             .run((&[1, 0, 0], 9), finished(2, 0), &[[1, 0, 1, 1]], &[1, 1, 0]),
     ]
 }
@@ -230,6 +236,7 @@ fn when_changes() -> Vec<Example> {
         seq(emit(a), threads),
     )
     .accepted(0, 0)
+    .moves(20)
     .run(
         (&[0, 0, 0], 10),
         spent(10, 4),
@@ -250,5 +257,6 @@ fn sequence_changes() -> Vec<Example> {
         seq(abort(), abort()),
     )
     .accepted(1, 0)
+    .moves(5)
     .run((&[1, 0, 0], 5), spent(5, 4), &[], &[0, 0, 0])]
 }

@@ -50,12 +50,15 @@ fn semantically_high() -> Vec<Example> {
     vec![
         Example::script("if true then nil else y_L := 0", SECURITY, n, choice)
             .accepted(0, 0)
+            .moves(2)
             .run((&[6], 100), finished(1, 0), &[], &[6]),
         Example::script("local a : L in nil", SECURITY, m.clone(), local(a, nil()))
             .accepted(1, 0)
+            .moves(1)
             .run((&[0], 100), finished(1, 0), &[], &[0]),
         Example::script("local a : L in emit a", SECURITY, m, local(a, emit(a)))
             .accepted(0, 0)
+            .moves(2)
             .run((&[0], 100), finished(2, 0), &[[2, 0, 0, 1]], &[0]),
     ]
 }
@@ -70,6 +73,7 @@ fn assigns_local() -> Example {
     let (y, x) = (n.register(L), n.register(L));
     Example::script("let x : L = 0 in y_L := x", SECURITY, n, p(x, y))
         .accepted(0, 0)
+        .moves(2)
         .run((&[8, 0], 100), finished(2, 0), &[[2, 0, 0, 0]], &[0, 0])
 }
 
@@ -95,6 +99,7 @@ fn chooses_assignment_low() -> Example {
     let line = [4, 0, 1, 0];
     chooses_assignment(L)
         .accepted(0, 0)
+        .moves(7)
         .run(
             (&[0, 8, 0, 0, 0], 100),
             finished(4, 0),
@@ -123,18 +128,14 @@ fn changes_local() -> Vec<Example> {
     let choice = if_else(is_zero(z), changes(x1, 0), changes(x2, 1));
     let one = |name, value| Example::script(name, SECURITY, n.clone(), changes(x, value));
     vec![
-        one("let x : L = 0 in x := x + 1", 0).accepted(0, 0).run(
-            (&[0], 100),
-            finished(2, 0),
-            &[[2, 0, 0, 1]],
-            &[0],
-        ),
-        one("let x : L = 1 in x := x + 1", 1).accepted(0, 0).run(
-            (&[0], 100),
-            finished(2, 0),
-            &[[2, 0, 0, 2]],
-            &[0],
-        ),
+        one("let x : L = 0 in x := x + 1", 0)
+            .accepted(0, 0)
+            .moves(2)
+            .run((&[0], 100), finished(2, 0), &[[2, 0, 0, 1]], &[0]),
+        one("let x : L = 1 in x := x + 1", 1)
+            .accepted(0, 0)
+            .moves(2)
+            .run((&[0], 100), finished(2, 0), &[[2, 0, 0, 2]], &[0]),
         Example::script("if z_H = 0 then P1 else P2", SECURITY, m, choice).refused(11, 4),
     ]
 }

@@ -58,8 +58,10 @@ fn books() -> Vec<Example> {
         book("not transitive", &[3, 0, 3, 0, 6, 0, 4]).refused(2, 0),
         book("no common upper", &[3, 0, 7, 0, 2, 0, 4]).refused(3, 18),
         book("no common lower", &[3, 0, 5, 0, 6, 0, 4]).refused(3, 1),
-        book("one level", &[1, 0, 1]).accepted(0, 0),
-        book("a diamond", &[4, 0, 15, 0, 10, 0, 12, 0, 8]).accepted(3, 0),
+        book("one level", &[1, 0, 1]).accepted(0, 0).moves(0),
+        book("a diamond", &[4, 0, 15, 0, 10, 0, 12, 0, 8])
+            .accepted(3, 0)
+            .moves(0),
     ]
 }
 
@@ -73,7 +75,7 @@ fn tails() -> Vec<Example> {
     vec![
         file("no script", &[]).refused(4, 0),
         file("7 bytes", &[0, 0, 0, 0, 0, 0x53, 0x54]).refused(4, 0),
-        file("nil", &nil(0, 0, 8, 0x54)).accepted(1, 0),
+        file("nil", &nil(0, 0, 8, 0x54)).accepted(1, 0).moves(0),
         file("no 5354", &nil(0, 0, 8, 0x55)).refused(4, 0),
         file("offsets that fall", &nil(8, 0, 8, 0x54)).refused(4, 0),
         file("a name cut", &nil(2, 2, 8, 0x54)).refused(4, 0),
@@ -110,7 +112,9 @@ fn names() -> Vec<Example> {
         nil("an owner that declares nothing", &[[1, L, 0, 0]]).refused(6, 0),
         local("an owner of the other kind", &[[0, L, 0, 1]]).refused(6, 0),
         local("an owner of another name", &[[1, L, 0, 1], [1, L, 0, 1]]).refused(6, 1),
-        local("an owned signal", &[[1, H, 0, 1]]).accepted(1, 0),
+        local("an owned signal", &[[1, H, 0, 1]])
+            .accepted(1, 0)
+            .moves(1),
         // Node 1 is broken by its field c, but it declares the name: 8, not 6.
         file(
             "an owner otherwise broken",
@@ -140,7 +144,7 @@ fn expressions() -> Vec<Example> {
         two("a second operand not smaller", [2, 0, 0, 0, 0, 1, 0, 0]).refused(7, 1),
         two("a sum with more", [2, 0, 0, 0, 0, 0, 0, 1]).refused(7, 1),
         two("not with a second operand", [8, 0, 0, 0, 0, 1, 0, 0]).refused(7, 1),
-        two("not", [8, 0, 0, 0, 0, 0, 0, 0]).accepted(0, 0),
+        two("not", [8, 0, 0, 0, 0, 0, 0, 0]).accepted(0, 0).moves(1),
     ]
 }
 
@@ -160,7 +164,9 @@ fn nodes() -> Vec<Example> {
         two("a second child not smaller", [5, 0, 0, 0, 0, 1, 0, 0]).refused(8, 1),
         two("a when of a register", [9, 0, 0, 0, 0, 0, 0, 0]).refused(8, 1),
         two("a when with field c", [9, 0, 0, 1, 0, 0, 0, 1]).refused(8, 1),
-        two("a when", [9, 0, 0, 1, 0, 0, 0, 0]).accepted(1, 0),
+        two("a when", [9, 0, 0, 1, 0, 0, 0, 0])
+            .accepted(1, 0)
+            .moves(1),
     ]
 }
 
@@ -210,7 +216,8 @@ fn loose_parts() -> Vec<Example> {
             &[],
             &[NIL, NIL, sequence(1, 0)],
         )
-        .accepted(1, 0),
+        .accepted(1, 0)
+        .moves(1),
     ]
 }
 
@@ -232,7 +239,9 @@ fn out_of_reach() -> Vec<Example> {
         after_local("an emission after the local", emit_0).refused(10, 258),
         around_local("a when around the local", when_0).refused(10, 258),
         around_local("a watching around the local", watching_0).refused(10, 258),
-        file("an emission inside", &[signal], &[], &[emit_0, LOCAL]).accepted(0, 0),
+        file("an emission inside", &[signal], &[], &[emit_0, LOCAL])
+            .accepted(0, 0)
+            .moves(2),
         file("a let of itself", &[register], &[READ_0], &[NIL, LET]).refused(10, 0),
         file(
             "an assignment after the let",
@@ -275,6 +284,7 @@ fn runs() -> Vec<Example> {
     let million = 1_000_000;
     let example = Example::script("local b in (x := 4; emit a)", TABLE, n, process)
         .accepted(0, 0)
+        .moves(4)
         .refused_run((2, &[0, 2], million + 1), 12, 0)
         .refused_run((u32::MAX, &[0, 0, 0], 9), 12, 0)
         .refused_run((1, &[0, 2], million + 1), 13, 0)

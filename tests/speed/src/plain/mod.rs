@@ -15,6 +15,7 @@ mod flow;
 mod flows;
 mod layout;
 mod machine;
+mod move_bound;
 mod reach;
 mod resting;
 mod script;
@@ -42,11 +43,16 @@ fn refusal(number: u32, place: usize) -> Refusal {
 /// The most steps that a call may allow.
 const MAX_STEPS: u32 = 1_000_000;
 
-/// Number, place, W, T.
-pub fn check(book: &[u8], script: &[u8]) -> [u32; 4] {
+/// Number, place, W, T, whether there is a figure, and the figure: the most moves of a run.
+pub fn check(book: &[u8], script: &[u8]) -> [u32; 6] {
     match prepare(book, script) {
-        Ok((_, _, levels)) => [0, 0, levels.write as u32, levels.test as u32],
-        Err(refusal) => [refusal.number, refusal.place, 0, 0],
+        Ok((_, script, levels)) => {
+            let moves = move_bound::most_moves(&script);
+            let bounded = u32::from(moves.is_some());
+            let (write, test) = (levels.write as u32, levels.test as u32);
+            [0, 0, write, test, bounded, moves.unwrap_or(0)]
+        }
+        Err(refusal) => [refusal.number, refusal.place, 0, 0, 0, 0],
     }
 }
 
