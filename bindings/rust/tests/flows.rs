@@ -1,4 +1,7 @@
 //! The flows that a script needs: node by node, beside `check` under several books, and the edges.
+mod kinds;
+
+use kinds::*;
 use station::{check, flows, Flows, Reason, Refusal, MAX_LEVELS};
 
 /// Registers and signals of the session. The level of each is its number, also that of OWNED, which a node declares.
@@ -14,19 +17,6 @@ const OWNED: u8 = 6;
 const CONSTANT: u8 = 0;
 const REGISTER: u8 = 1;
 const ADD: u8 = 2;
-
-/// The kinds of nodes.
-const NIL: u8 = 0;
-const ASSIGN: u8 = 1;
-const LET: u8 = 2;
-const IF: u8 = 3;
-const WHILE: u8 = 4;
-const SEQUENCE: u8 = 5;
-const EMIT: u8 = 6;
-const LOCAL: u8 = 7;
-const WATCHING: u8 = 8;
-const WHEN: u8 = 9;
-const PARALLEL: u8 = 10;
 
 /// Kind, a, b, c: every number here fits into one byte.
 type Entry = [u8; 4];

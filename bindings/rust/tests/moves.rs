@@ -1,21 +1,11 @@
 //! The bound on a script's moves: the figure of `check` by the nodes of a script, and that runs keep to it.
+mod kinds;
+
+use kinds::*;
 use station::{check, run, Ending, Reason, Run, MAX_STEPS};
 
 /// One level.
 const BOOK: [u8; 3] = [0x01, 0x00, 0x01];
-
-/// The kinds of nodes.
-const NIL: u8 = 0;
-const ASSIGN: u8 = 1;
-const LET: u8 = 2;
-const IF: u8 = 3;
-const WHILE: u8 = 4;
-const SEQUENCE: u8 = 5;
-const EMIT: u8 = 6;
-const LOCAL: u8 = 7;
-const WATCHING: u8 = 8;
-const WHEN: u8 = 9;
-const PARALLEL: u8 = 10;
 
 /// Session names: the register that every expression reads and every assignment sets, and the signal of every other
 /// node. Names from 2 on are owned, one by each declaration.
