@@ -11,7 +11,7 @@ use Rattle.prelude.proofs.Counts.{count-within, count-more}
 use Rattle.language.specs.MoveBounds.{isNotNil, isParallel, isWhile}
 use Rattle.layout.specs.Layout.{mostNodes}
 use Rattle.layout.specs.Entries.{partOf, node}
-use Rattle.bound.specs.declared.MoveBound.the-variants.{AtMost, Unbounded}
+use Rattle.results.specs.declared.MoveBound.the-variants.{AtMost, Unbounded}
 use Rattle.bound.specs.declared.NodeCounts.{NodeCounts}
 use Rattle.bound.specs.Contracts.{oneIf, countsUpTo, withKind, boundBy, Few}
 

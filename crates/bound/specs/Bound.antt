@@ -4,8 +4,8 @@ use mathlib.Core.List.{List}
 use Prim.Native.Nat.{ℕ}
 use Rattle.language.specs.MoveBounds.{holdsNoWhile, mostMoves}
 use Rattle.layout.specs.Entries.{nodesWith}
-use Rattle.bound.specs.declared.MoveBound.{MoveBound}
-use Rattle.bound.specs.declared.MoveBound.the-variants.{AtMost, Unbounded}
+use Rattle.results.specs.declared.MoveBound.{MoveBound}
+use Rattle.results.specs.declared.MoveBound.the-variants.{AtMost, Unbounded}
 
 unfoldable pub boundOf : List ℕ → MoveBound
 boundOf s = cond (holdsNoWhile (nodesWith s)) (AtMost (mostMoves (nodesWith s))) Unbounded

@@ -6,8 +6,8 @@ use lib.Dec.{eqb}
 use Rattle.prelude.specs.Search.{count}
 use Rattle.language.specs.MoveBounds.{isNotNil, isParallel, isWhile}
 use Rattle.layout.specs.Entries.{partOf, node}
-use Rattle.bound.specs.declared.MoveBound.{MoveBound}
-use Rattle.bound.specs.declared.MoveBound.the-variants.{AtMost, Unbounded}
+use Rattle.results.specs.declared.MoveBound.{MoveBound}
+use Rattle.results.specs.declared.MoveBound.the-variants.{AtMost, Unbounded}
 use Rattle.bound.specs.declared.NodeCounts.{NodeCounts}
 
 -- of the first n nodes

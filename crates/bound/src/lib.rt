@@ -2,18 +2,13 @@
 use language::process_kinds;
 use layout::Script;
 use layout::parts;
+use results::MoveBound;
 ghost use mathlib.Core.Path.{_≡_};
 ghost use Prim.Native.Nat.{_≤_};
 ghost use Rattle.layout.specs.Contracts.{Laid};
 ghost use Rattle.layout.specs.Layout.{mostNodes};
 ghost use Rattle.bound.specs.Bound.{boundOf};
 ghost use Rattle.bound.specs.Contracts.{oneIf, countsUpTo, withKind, boundBy, Few};
-
-// The most moves, or none where the script holds a while.
-pub enum MoveBound {
-    AtMost(u32),
-    Unbounded,
-}
 
 // How many nodes are other than nil, how many are parallels, how many are whiles.
 struct NodeCounts {

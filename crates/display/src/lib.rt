@@ -1,5 +1,5 @@
 // What the calls answer of a script, printed in the form that 01 gives; and the bound on its moves.
-use bound::MoveBound;
+use results::MoveBound;
 use results::RunResult;
 use results::Verdict;
 use text::say;

@@ -3,8 +3,8 @@
 use mathlib.Core.List.{List}
 use Prim.Native.Nat.{ℕ}
 use Rattle.prelude.specs.declared.Refusal.{Refusal}
-use Rattle.bound.specs.declared.MoveBound.{MoveBound}
-use Rattle.bound.specs.declared.MoveBound.the-variants.{Unbounded}
+use Rattle.results.specs.declared.MoveBound.{MoveBound}
+use Rattle.results.specs.declared.MoveBound.the-variants.{Unbounded}
 use Rattle.results.specs.declared.Verdict.{Verdict}
 use Rattle.results.specs.declared.RunResult.{RunResult}
 use Rattle.results.specs.declared.Flows.{Flows}

@@ -1,8 +1,8 @@
 -- The answers' words for C, in their order.
 use mathlib.Core.List.{List, [], _∷_}
 use Prim.Native.Nat.{ℕ}
-use Rattle.bound.specs.declared.MoveBound.{MoveBound}
-use Rattle.bound.specs.declared.MoveBound.the-variants.{AtMost, Unbounded}
+use Rattle.results.specs.declared.MoveBound.{MoveBound}
+use Rattle.results.specs.declared.MoveBound.the-variants.{AtMost, Unbounded}
 use Rattle.results.specs.declared.Verdict.{Verdict}
 use Rattle.results.specs.declared.RunResult.{RunResult}
 use Rattle.results.specs.declared.Flows.{Flows}

@@ -2,11 +2,16 @@
 pub mod words; // words.rt: the answers' words for C
 
 use book::Book;
-use bound::MoveBound;
 use prelude::Refusal;
 ghost use mathlib.Core.Path.{_≡_};
 ghost use Prim.Native.Nat.{_^_, _<_};
 ghost use Rattle.results.specs.Results.{refusedVerdict, refusedResult, resultBy};
+
+// The most moves of a script's runs, or none where it holds a while.
+pub enum MoveBound {
+    AtMost(u32),
+    Unbounded,
+}
 
 // What check answers: number and place of the refusal, W and T, and the most moves that the script makes.
 pub struct Verdict {

@@ -1,9 +1,9 @@
 // The words of the answers, for C.
 use crate::Flows;
+use crate::MoveBound;
 use crate::RunResult;
 use crate::Verdict;
 use book::Book;
-use bound::MoveBound;
 ghost use mathlib.Core.Path.{_≡_};
 ghost use mathlib.Core.List.{_∷_, []};
 ghost use lib.ListN.{length};

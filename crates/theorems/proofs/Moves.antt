@@ -22,8 +22,8 @@ use Rattle.script.specs.Checked.{Checked}
 use Rattle.tree.specs.Tree.{namesOf, tree}
 use Rattle.tree.proofs.Theorems.{nodes-counted}
 use Rattle.report.proofs.PathMoves.{path-bounded}
-use Rattle.bound.specs.declared.MoveBound.{MoveBound}
-use Rattle.bound.specs.declared.MoveBound.the-variants.{AtMost, Unbounded}
+use Rattle.results.specs.declared.MoveBound.{MoveBound}
+use Rattle.results.specs.declared.MoveBound.the-variants.{AtMost, Unbounded}
 use Rattle.bound.specs.Bound.{boundOf}
 use Rattle.checker.specs.Refusals.{checkRefusal}
 use Rattle.checker.proofs.Passing.{accepted, checked}

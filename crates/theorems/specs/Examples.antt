@@ -8,8 +8,8 @@ use lib.ListN.{length, replicate}
 use Rattle.layout.specs.Entries.{session}
 use Rattle.layout.specs.Files.{name, part, all, file}
 use Rattle.language.specs.Kinds.{nil, assign, ifThenElse, while, sequence, emit, watching, when, parallel}
-use Rattle.bound.specs.declared.MoveBound.{MoveBound}
-use Rattle.bound.specs.declared.MoveBound.the-variants.{AtMost, Unbounded}
+use Rattle.results.specs.declared.MoveBound.{MoveBound}
+use Rattle.results.specs.declared.MoveBound.the-variants.{AtMost, Unbounded}
 use Rattle.results.specs.declared.Verdict.{Verdict}
 use Rattle.results.specs.Results.{resultBy}
 use Rattle.engine.specs.Answers.{Left, verdict, left}

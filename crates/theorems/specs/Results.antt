@@ -25,7 +25,7 @@ use Rattle.layout.specs.Layout.{nameCount}
 use Rattle.layout.specs.Entries.{isSessionName}
 use Rattle.script.specs.Refusals as scripts
 use Rattle.tree.specs.Tree.{namesOf, tree}
-use Rattle.bound.specs.declared.MoveBound.the-variants.{AtMost}
+use Rattle.results.specs.declared.MoveBound.the-variants.{AtMost}
 use Rattle.engine.specs.Answers.{verdict, flowsFound, runOf, Left, leftBy, left}
 use Rattle.theorems.specs.Records.{recordOf, stamp}
 

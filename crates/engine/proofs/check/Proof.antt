@@ -9,7 +9,7 @@ use Rattle.prelude.specs.Refusals.{passes}
 use Rattle.book.specs.Load.{bookOf}
 use Rattle.lattice.specs.Lattice.{bookLattice}
 use Rattle.layout.specs.Contracts.{Laid}
-use Rattle.bound.specs.declared.MoveBound.{MoveBound}
+use Rattle.results.specs.declared.MoveBound.{MoveBound}
 use Rattle.bound.specs.Bound.{boundOf}
 use Rattle.checker.specs.declared.Prepared.{Prepared}
 use Rattle.checker.specs.Refusals.{checkRefusal}
