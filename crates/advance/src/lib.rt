@@ -1,5 +1,7 @@
 // A node is run as far as it goes within the instant: what comes next is found, the node or its part in front is run, and
 // the node is left, or it goes on.
+#![tactic(auto)]
+
 mod around; // around.rt: the moves around a part that is nil or suspended
 mod next; // next.rt: what comes next at a node
 
@@ -12,7 +14,7 @@ use program::WORDS;
 use program::forms::Front;
 
 // A turn of a node: its part in front stands alone in its place, and nothing is made; or this has become of the node.
-#[derive(Drop)]
+#[derive(Clone, Copy)]
 pub enum Turned {
     Inside(Front),
     Made(Moved),

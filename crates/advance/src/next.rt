@@ -12,7 +12,7 @@ use program::{WORDS, forms};
 
 // Nothing, since the node is nil or suspended; or its part in front takes its place, since it stands alone; or that part is
 // to be run, by one move if that is all it has. A node whose own move is next counts as its own part.
-#[derive(Drop)]
+#[derive(Clone, Copy)]
 pub enum Next {
     Rests(Reason),
     Inside(Front),

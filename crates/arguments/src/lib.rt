@@ -1,4 +1,6 @@
 // What is asked of a call besides a book and a script: refusals 12 to 15.
+#![tactic(auto)]
+
 pub mod list; // list.rt: refusal 15, the list of signals
 
 ghost use Rattle.std.specs.Prelude.{◌≡◌, ◌+◌, ◌*◌, ◌≤◌, ◌<◌, length};

@@ -1,4 +1,6 @@
 // The level book as it stands in its file: a checked book by value, sets of levels, and the book that bytes make.
+#![tactic(auto)]
+
 pub mod sets; // sets.rt: sets of levels as numbers
 pub mod read; // read.rt: the book from its bytes, refusal 1
 
@@ -10,7 +12,7 @@ ghost use Rattle.book.specs.Load.{answer, no_book};
 use prelude::Refusal;
 
 // The number of levels, and for each level the set of the levels that it is at or below: bit j for level j.
-#[derive(Drop)]
+#[derive(Clone, Copy)]
 pub struct Book {
     pub count: usize,
     pub rows: [u16; Book::MAX_LEVELS],
@@ -25,7 +27,7 @@ impl Book {
 }
 
 // What the bytes of a book give: the refusal, and beside it the checked book, which is empty where it is refused.
-#[derive(Drop)]
+#[derive(Clone, Copy)]
 pub struct LoadedBook {
     pub refusal: Refusal,
     pub book: Book,

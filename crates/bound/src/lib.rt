@@ -1,4 +1,6 @@
 // How many moves a script can make in its whole run: one count over the nodes of its file.
+#![tactic(auto)]
+
 ghost use Rattle.std.specs.Prelude.{◌≡◌, ◌≤◌};
 ghost use Rattle.layout.specs.Promises.{Laid};
 ghost use Rattle.layout.specs.Layout.{most_nodes};
@@ -10,7 +12,7 @@ use layout::{Script, parts};
 use results::MoveBound;
 
 // How many nodes are other than nil, how many are parallels, how many are whiles.
-#[derive(Drop)]
+#[derive(Clone, Copy)]
 struct NodeCounts {
     others: usize,
     parallels: usize,

@@ -1,4 +1,6 @@
 // A level book and a script file are checked: refusals 1 to 11.
+#![tactic(auto)]
+
 ghost use Rattle.std.specs.Prelude.{◌≡◌, ◌≤◌};
 ghost use Rattle.book.specs.Load.{book_of};
 ghost use Rattle.lattice.specs.Lattice.{book_lattice};
@@ -14,7 +16,7 @@ use pairs::table::PairTable;
 use prelude::Refusal;
 
 // The refusal; and of what is not refused, the checked book, the layout of the script, W and T.
-#[derive(Drop)]
+#[derive(Clone, Copy)]
 pub struct Prepared {
     pub refusal: Refusal,
     pub book: Book,

@@ -1,4 +1,6 @@
 // What the calls answer of a script, printed in the form that 01 gives; and the bound on its moves.
+#![tactic(auto)]
+
 use results::{MoveBound, RunResult, Verdict};
 use text::{say, say_byte, say_number, say_pair, say_refusal};
 

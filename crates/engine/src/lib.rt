@@ -1,4 +1,6 @@
 // The calls on a level book and a script file, or on a script file alone. They take any bytes and numbers.
+#![tactic(auto)]
+
 pub mod interface; // interface.rt: the calls for C
 
 ghost use Rattle.std.specs.Prelude.{◌≡◌};

@@ -1,4 +1,6 @@
 // What is wrong with a name, an expression or a node by itself: refusals 6, 7 and 8.
+#![tactic(auto)]
+
 mod names; // names.rt: refusal 6
 mod parts; // parts.rt: refusals 7 and 8
 

@@ -1,4 +1,6 @@
 // What the names hold, and the values of expressions.
+#![tactic(auto)]
+
 ghost use Rattle.std.specs.Prelude.{◌≡◌, ◌<◌, length};
 ghost use Rattle.language.specs.Steps.{value, present, test};
 ghost use Rattle.packing.specs.Packing.{kind_in, operand_in};

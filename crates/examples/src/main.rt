@@ -1,5 +1,7 @@
 // Prints what the library makes of the level books and script files that the file stdin has. What it prints is held to the file
 // stdout.
+#![tactic(auto)]
+
 mod books; // books.rt: level books
 mod scripts; // scripts.rt: script files
 

@@ -6,7 +6,7 @@ use crate::roles;
 use layout::parts::Part;
 
 // The nodes that a node's fields use. Where it has fewer than two children the rest is of no meaning.
-#[derive(Drop)]
+#[derive(Clone, Copy)]
 pub struct Children {
     pub first: usize,
     pub second: usize,

@@ -1,4 +1,6 @@
 // The fields of the parts: what each is for, and what it holds.
+#![tactic(auto)]
+
 pub mod roles; // roles.rt: what the fields of each kind hold
 pub mod children; // children.rt: the children of a node
 
@@ -11,7 +13,7 @@ use layout::Script;
 use layout::parts::word_at;
 
 // One of the fields a, b, c.
-#[derive(Drop)]
+#[derive(Clone, Copy)]
 pub struct Field {
     pub role: u16,
     pub value: usize,

@@ -1,4 +1,6 @@
 // Write level, test level and refusal 11: one walk over the tree of a checked script.
+#![tactic(auto)]
+
 mod expressions; // expressions.rt: the level of an expression
 mod own; // own.rt: what a node brings itself
 mod walk; // walk.rt: the walk over the nodes

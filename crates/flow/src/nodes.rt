@@ -12,7 +12,7 @@ use pairs::table::{PairTable, level_at};
 
 // What a node brings itself: D, which is the level of its expression or signal, and the level of its name. What it has
 // not counts as bottom.
-#[derive(Drop)]
+#[derive(Clone, Copy)]
 pub struct Own {
     pub level: usize,
     pub name: usize,
@@ -20,7 +20,7 @@ pub struct Own {
 
 // The write level and the test level of a node, and the smallest node under it whose need fails, or the number of
 // nodes if none does.
-#[derive(Drop)]
+#[derive(Clone, Copy)]
 pub struct Flow {
     pub write: usize,
     pub test: usize,

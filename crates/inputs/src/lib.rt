@@ -1,4 +1,6 @@
 // The list of a run: which signals the instrument makes present in which instant, in pairs of two words.
+#![tactic(auto)]
+
 ghost use Rattle.std.specs.Prelude.{◌≡◌, ◌<◌};
 ghost use Rattle.inputs.specs.Lists.{pair_count, instant_at, signal_at};
 ghost use Rattle.inputs.specs.Promises.{Cursor, CanPass};

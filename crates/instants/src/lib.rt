@@ -1,4 +1,6 @@
 // Instant changes, and what an instant begins with.
+#![tactic(auto)]
+
 pub mod suspension; // suspension.rt: whether what is left of a node is suspended
 
 ghost use Rattle.std.specs.Prelude.{◌≡◌, ◌<◌};

@@ -1,5 +1,7 @@
 // The lattice of a level book: the greatest and the least level of all; refusals 1 to 3 together, and the laws of a book that
 // they let through.
+#![tactic(auto)]
+
 ghost use Rattle.std.specs.Prelude.{◌≡◌, ◌≤◌};
 ghost use Rattle.prelude.specs.Search.{all};
 ghost use Rattle.prelude.specs.Sets.{IsSet};

@@ -1,4 +1,6 @@
 // The layout of a script file by value, the limits of 01, and the entries that stand in it.
+#![tactic(auto)]
+
 pub mod parts; // parts.rt: names, and the parts: expressions and nodes
 pub mod tail; // tail.rt: the tail, refusal 4
 pub mod places; // places.rt: refusals by number and place
@@ -9,7 +11,7 @@ ghost use Rattle.layout.specs.Layout.{tail_is_right, counts_are_right, layout_of
 use crate::parts::word_at;
 
 // The counts of a script file, and the offset of its parts: the expressions, then the nodes. Names start at 0.
-#[derive(Drop)]
+#[derive(Clone, Copy)]
 pub struct Script {
     pub names: usize,
     pub expressions: usize,

@@ -4,7 +4,7 @@ ghost use Rattle.layout.specs.Layout.{word_at};
 ghost use Rattle.layout.specs.Entries.{name_of, part_of};
 ghost use Rattle.layout.specs.Promises.{PartWithin};
 
-#[derive(Drop)]
+#[derive(Clone, Copy)]
 pub struct Name {
     pub kind: usize,
     pub level: usize,
@@ -12,7 +12,7 @@ pub struct Name {
 }
 
 // Of an expression or a node: its bytes.
-#[derive(Drop)]
+#[derive(Clone, Copy)]
 pub struct Part {
     pub kind: usize,
     pub zero: usize,

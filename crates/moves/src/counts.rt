@@ -5,7 +5,7 @@ ghost use Rattle.moves.specs.Promises.{after_move, after_changes};
 
 // The steps, the instants and the lines of a run. What a call returns is copied from each call to the one above: whole
 // words leave no gaps, which would be copied too.
-#[derive(Drop)]
+#[derive(Clone, Copy)]
 pub struct Counts {
     pub steps: usize,
     pub instants: usize,
@@ -13,7 +13,7 @@ pub struct Counts {
 }
 
 // Why there is no further move: the node is nil; it is suspended; the limit is reached; the next line has no room.
-#[derive(Drop)]
+#[derive(Clone, Copy)]
 pub enum Reason {
     Nil,
     Suspended,
@@ -22,14 +22,14 @@ pub enum Reason {
 }
 
 // What became of a node: it has moved and may go on, or it makes no further move.
-#[derive(Drop)]
+#[derive(Clone, Copy)]
 pub enum Moved {
     Again(Counts),
     Rests(Reason, Counts),
 }
 
 // A node that makes no further move.
-#[derive(Drop)]
+#[derive(Clone, Copy)]
 pub struct Rested {
     pub why: Reason,
     pub at: Counts,

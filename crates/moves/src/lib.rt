@@ -1,4 +1,6 @@
 // A node's own moves: assign, let, if, while, emit, local.
+#![tactic(auto)]
+
 pub mod counts; // counts.rt: what is counted, and why there is no further move
 mod log; // log.rt: the lines of the log
 

@@ -16,7 +16,7 @@ fn put_line(log: &mut [u32], at: usize, step: u32, instant: u32, name: u32, valu
 }
 
 // Whether there was room, and how many lines there are now.
-#[derive(Drop)]
+#[derive(Clone, Copy)]
 pub struct Noted {
     pub fits: bool,
     pub lines: usize,

@@ -1,4 +1,6 @@
 // The order of a level book: any bytes in; out comes a book in order, or refusal 1 or 2.
+#![tactic(auto)]
+
 mod disorder; // disorder.rt: the faults of refusal 2
 pub mod converse; // converse.rt: the order upside down
 

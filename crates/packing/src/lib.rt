@@ -3,6 +3,8 @@
 // field b (an expression or the second child), the first child, the size of the first (10 bits each), the kind (7 bits),
 // and whether a watching stands in the node; that of a name its level (8 bits), whether it is a signal, whether it is the
 // session's, whether the reader sees it; that of the counts how many names, expressions and nodes there are (16 bits each).
+#![tactic(auto)]
+
 ghost use Rattle.std.specs.Prelude.{◌≡◌, ◌<◌};
 ghost use Rattle.packing.specs.Packing.{kind_in, constant_in, operand_in, later_in, packed_expression, form_in, a_in, b_in, first_in, size_in, node_kind_in, watches_in, packed_fields, marked, packed_node, signal_in, session_in, seen_in, bit, packed_name, names_in, nodes_in, packed_counts};
 

@@ -1,4 +1,6 @@
 // The pairs of a book's levels: the join and the meet of each, found once and kept; refusal 3.
+#![tactic(auto)]
+
 pub mod table; // table.rt: a level for each pair of levels
 
 ghost use Rattle.std.specs.Prelude.{◌≡◌, ◌<◌};
@@ -16,7 +18,7 @@ use order::converse;
 use prelude::Refusal;
 
 // What a sweep gives: how many pairs it took up, and the place of the last of them if that lacks a level, else PLACES.
-#[derive(Drop)]
+#[derive(Clone, Copy)]
 pub struct Swept {
     pub taken: usize,
     pub place: usize,

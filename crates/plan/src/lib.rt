@@ -1,4 +1,6 @@
 // The program of a checked file for a reader, found once for a call.
+#![tactic(auto)]
+
 ghost use Rattle.std.specs.Prelude.{◌≡◌, ◌<◌, leb, cond};
 ghost use Rattle.layout.specs.Layout.{most_nodes};
 ghost use Rattle.layout.specs.Promises.{Laid};

@@ -1,10 +1,12 @@
 // What every layer shares: the form of a refusal, and numbers as the files write them.
+#![tactic(auto)]
+
 ghost use Rattle.std.specs.Prelude.{◌≡◌};
 ghost use Rattle.prelude.specs.Numbers.{word};
 ghost use Rattle.prelude.specs.Search.{lesser};
 
 // A refusal: its number in 01's table and its place. Number 0: not refused.
-#[derive(Drop)]
+#[derive(Clone, Copy)]
 pub struct Refusal {
     pub number: u32,
     pub place: u32,

@@ -64,7 +64,7 @@ pub const OTHERWISE: u8 = 2;
 pub const OVER: u8 = 4;
 
 // The part in front: its node, and where its bytes stand among those of its parent.
-#[derive(Drop)]
+#[derive(Clone, Copy)]
 pub struct Front {
     pub form: u8,
     pub child: usize,

@@ -1,5 +1,7 @@
 // A program: what a run goes by of each name, each expression and each node, in one word each. Its meaning is read off the
 // words alone.
+#![tactic(auto)]
+
 pub mod forms; // forms.rt: the form that a node has come to
 
 ghost use Rattle.std.specs.Prelude.{◌≡◌, ◌<◌};

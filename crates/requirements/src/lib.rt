@@ -1,5 +1,7 @@
 // The flows between levels that a script needs: for each level the set of other levels to which its data must be let
 // flow. One walk over the tree of a checked script, with sets of levels as numbers.
+#![tactic(auto)]
+
 mod expressions; // expressions.rt: the levels of an expression
 mod own; // own.rt: what a node brings itself
 pub mod nodes; // nodes.rt: what a node has, from what its children have

@@ -13,14 +13,14 @@ use language::process_kinds;
 
 // What a node brings itself: the levels of the registers of its expression, or that of the signal that it tests; and
 // that of the name to which a value or an emission goes. What it has not is the empty set.
-#[derive(Drop)]
+#[derive(Clone, Copy)]
 pub struct Own {
     pub read: u16,
     pub name: u16,
 }
 
 // The levels that a node tests, and those that it writes, with all that lies under it.
-#[derive(Drop)]
+#[derive(Clone, Copy)]
 pub struct Effects {
     pub tested: u16,
     pub written: u16,

@@ -1,4 +1,6 @@
 // What the calls answer, and the words of it for C.
+#![tactic(auto)]
+
 pub mod words; // words.rt: the answers' words for C
 
 ghost use Rattle.std.specs.Prelude.{◌≡◌, ◌^◌, ◌<◌};
@@ -8,14 +10,14 @@ use book::Book;
 use prelude::Refusal;
 
 // The most moves of a script's runs, or none where it holds a while.
-#[derive(Drop)]
+#[derive(Clone, Copy)]
 pub enum MoveBound {
     AtMost(u32),
     Unbounded,
 }
 
 // What check answers: number and place of the refusal, W and T, and the most moves that the script makes.
-#[derive(Drop)]
+#[derive(Clone, Copy)]
 pub struct Verdict {
     pub number: u32,
     pub place: u32,
@@ -25,7 +27,7 @@ pub struct Verdict {
 }
 
 // What run answers: number and place of the refusal, how the run ended, and what it counted.
-#[derive(Drop)]
+#[derive(Clone, Copy)]
 pub struct RunResult {
     pub number: u32,
     pub place: u32,
@@ -37,7 +39,7 @@ pub struct RunResult {
 
 // What flows answers: number and place of the refusal, and for each level the set of the other levels to which data must
 // be let flow, with bit j for level j.
-#[derive(Drop)]
+#[derive(Clone, Copy)]
 pub struct Flows {
     pub number: u32,
     pub place: u32,

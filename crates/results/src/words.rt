@@ -7,7 +7,7 @@ use crate::{Flows, MoveBound, RunResult, Verdict};
 use book::Book;
 
 // The two words of a bound.
-#[derive(Drop)]
+#[derive(Clone, Copy)]
 struct BoundWords {
     bounded: u32,
     moves: u32,

@@ -1,4 +1,6 @@
 // Runs a program with its list, as far as the step limit and the log let it, from wherever it has come to.
+#![tactic(auto)]
+
 ghost use Rattle.std.specs.Prelude.{◌≡◌, ◌≤◌};
 ghost use Rattle.program.specs.Program.{node_count};
 ghost use Rattle.runner.specs.Promises.{root, is_suspended, ending_of, CanRun, InstantMade, CanChange, Begins, CanIdle, Idles, CanRunListed, Runs};
@@ -7,7 +9,7 @@ use moves::counts::{Counts, Reason, Rested};
 use program::WORDS;
 
 // How a run ended: 01's number; and what it has counted.
-#[derive(Drop)]
+#[derive(Clone, Copy)]
 pub struct Ran {
     pub ending: u32,
     pub at: Counts,

@@ -1,6 +1,8 @@
 // Runs the examples of 01 that are not proved, those of the report and some of 02, as the file stdin has them. For each it
 // prints a title and what comes of the script, for the reader 0; of some, also the bound on the moves. What it prints is held
 // to the file stdout, which was worked out from the papers alone.
+#![tactic(auto)]
+
 ghost use Rattle.std.specs.Prelude.{◌≤◌, ◌<◌, length};
 
 use libc::STDIN_FILENO;

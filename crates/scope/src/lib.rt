@@ -1,4 +1,6 @@
 // Where owned names are used: refusal 10.
+#![tactic(auto)]
+
 ghost use Rattle.std.specs.Prelude.{◌≡◌, ◌||◌, eqb, ◌+◌, ◌<◌};
 ghost use Rattle.prelude.specs.Search.{first};
 ghost use Rattle.prelude.specs.Sets.{has, IsSet};

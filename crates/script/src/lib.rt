@@ -1,4 +1,6 @@
 // The script file: any bytes in; out comes a checked script, or a refusal.
+#![tactic(auto)]
+
 ghost use Rattle.std.specs.Prelude.{◌≡◌};
 ghost use Rattle.layout.specs.Promises.{Laid};
 ghost use Rattle.script.specs.Refusals.{entry_refusal, refusal};
@@ -9,7 +11,7 @@ use layout::{Script, tail};
 use prelude::Refusal;
 
 // What the bytes of a script give: the refusal, and beside it the layout of the file, all 0 where it is refused.
-#[derive(Drop)]
+#[derive(Clone, Copy)]
 pub struct LoadedScript {
     pub refusal: Refusal,
     pub script: Script,

@@ -1,4 +1,6 @@
 // Runs the script of the folder that it is run in: levels.lvl, script.scr and values.val.
+#![tactic(auto)]
+
 mod file_values; // file_values.rt: the values that a file holds
 
 ghost use Rattle.io.specs.Counts.{IsPrefixLen};

@@ -1,4 +1,6 @@
 // What programs write and read: words and numbers on standard output, and bytes that are written down in hexadecimal.
+#![tactic(auto)]
+
 pub mod hex; // hex.rt: lines of hexadecimal digits
 
 use libc::STDOUT_FILENO;

@@ -16,7 +16,6 @@ use Rattle.prelude.proofs.Counts.{count_none, count_more}
 use Rattle.layout.specs.Layout.{most_parts, layout_of, expression_count, node_count, part_count}
 use Rattle.layout.specs.Entries.{part_of, node, nodes_with}
 use Rattle.layout.proofs.Layouts.{few_bounds, few_parts}
-use Rattle.fields.specs.declared.Field.{Field}
 use Rattle.fields.specs.Roles.{node_rows, role_in, expression, child}
 use Rattle.fields.specs.Fields.{field_count, field_of, value_of}
 use Rattle.entries.specs.Faults.{field_is_right}

@@ -1,4 +1,6 @@
 // How often each expression and each node is used: refusal 9.
+#![tactic(auto)]
+
 ghost use Rattle.std.specs.Prelude.{◌≡◌, not, eqb, get_or, ◌+◌, ◌<◌, ◌≤◌};
 ghost use Rattle.prelude.specs.Search.{first};
 ghost use Rattle.layout.specs.Layout.{most_parts};

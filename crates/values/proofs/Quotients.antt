@@ -14,7 +14,7 @@ use Rattle.values.specs.Values.{clamped, is_zero, rounded, signed, nearest, quot
 use Rattle.values.proofs.Rounding.{rounded_up, rounded_down, rounded_size}
 use Rattle.values.proofs.Nearest.{size_above}
 use Rattle.values.proofs.Signed.{read_back, fits_64, value_size, negated_size, zero_by_bits, nonzero_by_bits}
-use Rattle.values.proofs.Bits.{plain_size, given_back}
+use Rattle.values.proofs.Bits.{plain_size, given_back_lem}
 
 pub quotient_by_zero : (a : ℤ) {b : ℤ} → SFits w32 b → of_z w32 b ≡ 0 → pos 0 ≡ quotient a b
 unfolding quotient
@@ -98,7 +98,7 @@ module _ {a b : ℤ} (fa : SFits w32 a) (fb : SFits w32 b) {k : ℕ}
 
   module _ (nonzero : of_z w32 b ≡ 0 → ⊥) {r : ℤ} (f : mag r < 2 ^ hbits w32) where
     clamped_nearest : r ≡ clamped (signed a b k) → read_back w32 r ≡ quotient a b
-    clamped_nearest e = given_back f e ∙ ap (λ (n : ℕ). clamped (signed a b n)) is ∙ quotient_clamped a b nonzero
+    clamped_nearest e = given_back_lem f e ∙ ap (λ (n : ℕ). clamped (signed a b n)) is ∙ quotient_clamped a b nonzero
 
     pub kept :
         alike (read_back w32 a) (read_back w32 b) ≡ true → r ≡ clamped (to_z w64 k) → read_back w32 r ≡ quotient a b

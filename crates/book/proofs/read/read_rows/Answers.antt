@@ -1,0 +1,28 @@
+-- `read_rows`: the rows below i are those of the book.
+use borrow.Author.Rules.{rules}
+use mathlib.Core.Path.{◌≡◌, refl}
+use Prim.Native.Nat.{◌-◌, ◌≤◌}
+use lib.ListN.{length, take, length-set}
+use Rattle.prelude.specs.Table.{table}
+use Rattle.prelude.proofs.Tables.{fill_none, fill_more, fill_all}
+use Rattle.book.specs.LevelBook.{most_levels, row}
+use Rattle.book.proofs.read.read_rows.Goals as goal
+
+pub loop-i-init : goal.loop-i-init
+loop-i-init c = (search rules, (refl, fill_none _))
+
+pub loop-i-preserved : goal.loop-i-preserved
+loop-i-preserved c = (
+  search rules,
+  (
+    simp length-set (search rules),
+    fill_more _ _ _ _ (search rules) c.loop-i.invariant.1.1 c.row_at.ensures,
+  ),
+)
+
+pub returns : goal.returns
+returns c =
+    fill_all _ _ _ _ c.loop-i.invariant.1.0
+    c.loop-i.invariant.0
+    c.loop-i-test.false
+    c.loop-i.invariant.1.1

@@ -1,0 +1,16 @@
+-- `make_present`: the signals of the pairs before k are present.
+use mathlib.Core.Path.{◌≡◌, subst}
+use Prim.Native.Nat.{◌-◌, ◌≤◌, ◌<◌}
+use native.Mathlib.Omega.{arith}
+use lib.ListN.{length}
+use Rattle.inputs.specs.Lists.{pair_count}
+use Rattle.instants.specs.Promises.{MadePresent}
+use Rattle.instants.proofs.Presence.{present_none, present_more}
+use borrow.Author.Rules.{rules}
+use Rattle.instants.proofs.make_present.Given as goal
+
+abbrev pub invariant-loop-k : goal.invariant-loop-k
+invariant-loop-k l = (l.from ≤ l.k) × (l.k ≤ l.to) × MadePresent l.list l.from l.k l.initial.values l.values
+
+abbrev pub decreases-loop-k : goal.decreases-loop-k
+decreases-loop-k l = l.to - l.k

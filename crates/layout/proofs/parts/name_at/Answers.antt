@@ -1,0 +1,6 @@
+-- `name_at`: the bytes of the name lie in the file.
+use borrow.Author.Rules.{rules}
+use Rattle.layout.proofs.parts.name_at.Goals as goal
+
+pub returns : goal.returns
+returns c = rw (c.wide.ensures, c.wide-2.ensures, c.word_at.ensures)

@@ -1,0 +1,27 @@
+-- `any_fault`: of the levels that are left out, none shows a fault.
+use mathlib.Core.Path.{◌≡◌, refl, sym, ap, ◌∙◌}
+use mathlib.Core.Bool.{Bool, true, false, ◌&&◌}
+use mathlib.Core.List.{List}
+use Prim.Native.Nat.{ℕ, ◌-◌, ◌^◌, ◌<◌}
+use native.Mathlib.Decide.{ℕ_discrete}
+use native.Mathlib.Omega.{arith}
+use lib.ListN.{get_or}
+use borrow.Author.Rules.{rules}
+use Rattle.prelude.specs.Sets.{has, outside}
+use Rattle.prelude.proofs.Bools.{and_intro}
+use Rattle.prelude.proofs.Searches.{any_some, any_none}
+use Rattle.prelude.proofs.Sets.{has_zero, out_other}
+use Rattle.book.proofs.Lowest.{next_below, next_in, next_less}
+use Rattle.order.proofs.disorder.any_fault.Given as goal
+
+-- what of the levels in a set shows a fault is what all the others show
+abbrev pub Left : List ℕ → ℕ → ℕ → ℕ → Type 0
+Left rows n others left =
+    (j : ℕ) →
+    (has left j && outside (get_or rows j 0) others n) ≡ (has others j && outside (get_or rows j 0) others n)
+
+abbrev pub invariant-loop-left : goal.invariant-loop-left
+invariant-loop-left l = (l.left < 2 ^ l.n) × Left l.rows l.n l.others l.left
+
+abbrev pub decreases-loop-left : goal.decreases-loop-left
+decreases-loop-left l = l.left

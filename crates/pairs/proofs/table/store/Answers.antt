@@ -1,0 +1,7 @@
+-- `store`: two stores, one at each entry.
+use mathlib.Core.Path.{refl}
+use borrow.Author.Rules.{rules}
+use Rattle.pairs.proofs.table.store.Goals as goal
+
+pub returns : goal.returns
+returns c = refl

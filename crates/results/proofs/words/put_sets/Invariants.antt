@@ -1,0 +1,18 @@
+-- `put_sets`: the words below i are stored.
+use mathlib.Core.Path.{◌≡◌, sym, ◌∙◌}
+use Prim.Native.Nat.{◌-◌, ◌≤◌}
+use lib.ListN.{get_or, length, take, length-set}
+use borrow.Author.Rules.{rules}
+use borrow.Kind.Array.{e_int, good_length}
+use mir.Syntax.{w16}
+use Rattle.prelude.specs.Table.{table}
+use Rattle.prelude.proofs.Tables.{fill_none, fill_more, fill_all, table_of}
+use Rattle.book.specs.LevelBook.{most_levels}
+use Rattle.results.proofs.words.put_sets.Given as goal
+
+abbrev pub invariant-loop-i : goal.invariant-loop-i
+invariant-loop-i l =
+    (l.i ≤ most_levels) × ((length l.words ≡ most_levels) × (take l.i l.words ≡ table (λ k. get_or l.sets k 0) l.i))
+
+abbrev pub decreases-loop-i : goal.decreases-loop-i
+decreases-loop-i l = most_levels - l.i
