@@ -31,12 +31,11 @@ pub fn reached() -> Files {
     files
 }
 
-/// The file of a crate's specs that a `use` line names: `use Rattle·CRATE.specs.FILE.{..}`, of the crate itself
-/// `use Rattle·CRATE·specs.specs.FILE.{..}`. What is declared in the code has no such file.
+/// The file of a crate's specs that a `use` line names: `use Rattle.CRATE.specs.FILE.{..}`. What is declared in the code,
+/// and the library's modules, have no such file.
 fn used_file(line: &str) -> Option<String> {
-    let module = line.strip_prefix("use Rattle·")?;
+    let module = line.strip_prefix("use Rattle.")?;
     let (owner, rest) = module.split_once(".specs.")?;
-    let owner = owner.strip_suffix("·specs").unwrap_or(owner);
     let name = rest.split(['.', ' ']).next()?;
     let path = format!("{owner}/specs/{name}.antt");
     cited(&path).exists().then_some(path)

@@ -29,11 +29,13 @@ fn text_of(path: &Path) -> String {
     fs::read_to_string(path).unwrap_or_else(|error| panic!("{}: {error}", path.display()))
 }
 
+/// Without the folders `out`, in which checks of the crates keep their work.
 fn files_below(folder: &Path) -> Vec<PathBuf> {
     let entries =
         fs::read_dir(folder).unwrap_or_else(|error| panic!("{}: {error}", folder.display()));
     let paths = entries.map(|entry| entry.expect("an entry of a folder").path());
-    paths
+    let kept = paths.filter(|path| !path.ends_with("out"));
+    kept
         .flat_map(|path| {
             if path.is_dir() {
                 files_below(&path)
