@@ -1,7 +1,7 @@
 -- How many moves a process without while makes. Every move but a trade takes a node away for good. Between two of these a
 -- parallel trades at most once: a trade puts a part in front that can move, and a pending trade is always followed by
 -- such a move. So a potential falls with each move and does not rise when the instant changes.
-use Prim.Native.Nat.{ℕ, zero, suc, ◌+◌, ◌-◌, ◌*◌, ◌≤◌, ◌<◌}
+use Prim.Native.Nat.{ℕ, suc, ◌+◌, ◌-◌, ◌*◌, ◌≤◌, ◌<◌}
 use native.Mathlib.Nat.{mul-le-mul_right, suc-mul, one-mul}
 use native.Mathlib.Omega.{arith}
 use mathlib.Core.Path.{◌≡◌, refl, sym, ap, subst, ◌∙◌}

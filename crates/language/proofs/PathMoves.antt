@@ -1,21 +1,21 @@
 -- The moves of a path, and so of a run: each makes the potential less.
-use Prim.Native.Nat.{ℕ, suc, ◌+◌, ◌-◌, ◌*◌, ◌≤◌}
+use Prim.Native.Nat.{ℕ, suc, ◌+◌, ◌*◌, ◌≤◌}
 use native.Mathlib.Numerals.{add-one}
 use native.Mathlib.Omega.{arith}
-use mathlib.Core.Path.{◌≡◌, refl, ap}
+use mathlib.Core.Path.{◌≡◌, ap}
 use mathlib.Core.Bool.{Bool, true}
 use mathlib.Core.List.{List}
 use lib.IntN.{ℤ}
 use borrow.Author.Tests.{eqb-true}
 use Rattle.language.specs.Syntax.{Names, Proc}
 use Rattle.language.specs.NodeCounts.{counted}
-use Rattle.language.specs.MoveBounds.{is_not_nil, is_parallel, is_while, holds_no_while, most_moves}
+use Rattle.language.specs.MoveBounds.{is_not_nil, is_parallel, holds_no_while, most_moves}
 use Rattle.language.specs.Frames.{before_the, watched_by, guarded_by, beside_the}
 use Rattle.language.specs.Steps.{present, Output, Inputs, instant_start}
-use Rattle.language.specs.Calls.{Line, System, Run, starts, run}
+use Rattle.language.specs.Calls.{Line, System, starts}
 use Rattle.language.specs.Moves.{Move, ASSIGN-OP, SEQ-OP₁, SEQ-OP₂, LET-OP, COND-OP₁, COND-OP₂, WHILE-OP₁, WHILE-OP₂, EMIT-OP, LOCAL-OP, WATCH-OP₁, WATCH-OP₂, WHEN-OP₁, WHEN-OP₂, PAR-OP₁, PAR-OP₂, PAR-OP₃}
 use Rattle.language.specs.Instants.{MOVE, INSTANT-OP}
-use Rattle.language.specs.Paths.{Path, here, more, IsRun}
+use Rattle.language.specs.Paths.{Path, here, more}
 use Rattle.language.specs.Results.{MovesBounded}
 use Rattle.language.proofs.MoveBounds.{whiles, Progress, around_progress, no_while_inside, trade, work_done, Held, potential, potential_most, held_on, moved_less, held_changed, changed_no_more}
 use Rattle.language.proofs.Executions.{run_is}

@@ -1,6 +1,6 @@
 -- `bound_by`: by whether there is a while; the figure fits, since there are few nodes.
 use native.Mathlib.Omega.{arith}
-use borrow.Author.Rules.{rules, Fits-under}
+use borrow.Author.Rules.{Fits-under}
 use Rattle.bound.proofs.Counts.{product_small, no_bound, bound_is}
 use Rattle.bound.proofs.bound_by.Goals as goal
 

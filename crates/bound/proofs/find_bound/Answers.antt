@@ -1,7 +1,6 @@
 -- `find_bound`: the counts of all nodes give the bound.
-use mathlib.Core.Path.{◌≡◌, sym, ap, subst, ◌∙◌}
+use mathlib.Core.Path.{sym, ap, subst, ◌∙◌}
 use native.Mathlib.Omega.{arith}
-use borrow.Author.Rules.{rules}
 use Rattle.layout.specs.Layout.{most_nodes}
 use Rattle.layout.proofs.Layouts.{few_bounds, nodes_are}
 use Rattle.bound.specs.Bound.{bound_of}

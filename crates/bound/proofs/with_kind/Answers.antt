@@ -1,6 +1,6 @@
 -- `with_kind`: each count is one more if the kind is counted.
 use native.Mathlib.Omega.{arith}
-use borrow.Author.Rules.{rules, Fits-under}
+use borrow.Author.Rules.{Fits-under}
 use Rattle.bound.proofs.Counts.{with_kind_is}
 use Rattle.bound.proofs.with_kind.Goals as goal
 

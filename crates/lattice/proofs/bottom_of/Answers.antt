@@ -9,10 +9,10 @@ use borrow.Author.Rules.{rules}
 use Rattle.prelude.specs.Search.{all}
 use Rattle.prelude.specs.Sets.{has, outside}
 use Rattle.prelude.proofs.Bools.{and_second}
-use Rattle.prelude.proofs.Searches.{NoneBelow, past, first_is, first_none, any_same}
+use Rattle.prelude.proofs.Searches.{past, first_is, first_none, any_same}
 use Rattle.prelude.proofs.Sets.{has_full}
 use Rattle.order.specs.Order.{top}
-use Rattle.book.specs.LevelBook.{most_levels, at_or_below}
+use Rattle.book.specs.LevelBook.{most_levels}
 use Rattle.lattice.proofs.bottom_of.Goals as goal
 
 -- no level is outside of a row that has all

@@ -1,17 +1,7 @@
 -- `common`: what the rows below i share.
-use mathlib.Core.Path.{sym, ap, ◌∙◌, subst}
-use mathlib.Core.Bool.{◌&&◌}
-use mathlib.Core.List.{List}
-use Prim.Native.Nat.{ℕ, ◌+◌, ◌-◌, ◌≤◌}
-use native.Mathlib.Nat.{le_antisymm}
-use lib.ListN.{get_or}
-use lib.Bits.{bit_and}
-use borrow.Author.Count.{below_none}
-use borrow.Author.Rules.{rules}
+use Prim.Native.Nat.{◌-◌, ◌≤◌}
 use Rattle.prelude.specs.Search.{all}
 use Rattle.prelude.specs.Sets.{IsSet}
-use Rattle.prelude.proofs.Searches.{all_intro, all_more}
-use Rattle.prelude.proofs.Sets.{has_both, has_full}
 use Rattle.book.specs.LevelBook.{most_levels, at_or_below}
 use Rattle.lattice.proofs.common.Given as goal
 

@@ -2,7 +2,6 @@
 use mathlib.Core.Path.{◌≡◌, sym, ap, ◌∙◌}
 use Prim.Native.Nat.{ℕ, ◌≤◌}
 use mathlib.Core.List.{List}
-use borrow.Author.Rules.{rules}
 use Rattle.prelude.specs.Search.{first, all, lesser}
 use Rattle.prelude.specs.Sets.{has, IsSet}
 use Rattle.prelude.proofs.Searches.{first_same, first_sooner}

@@ -3,11 +3,9 @@ use mathlib.Core.Path.{◌≡◌, sym, ◌∙◌}
 use mathlib.Core.Bool.{true}
 use Prim.Native.Nat.{◌≤◌}
 use native.Mathlib.Omega.{arith}
-use borrow.Author.Tests.{not-true, not-false}
 use Rattle.book.specs.LevelBook.{most_levels, size_is_right}
 use Rattle.book.proofs.Sizes.{few_read}
 use Rattle.order.proofs.Loads.{size_way, order_way, no_way}
-use borrow.Author.Rules.{rules}
 use Rattle.order.proofs.load.Goals as goal
 use Rattle.order.proofs.load.Goals.{After-read_book-b, Else-not-size_is_right}
 

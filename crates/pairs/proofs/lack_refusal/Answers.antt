@@ -4,7 +4,6 @@ use Prim.Native.Nat.{◌*◌}
 use native.Mathlib.Omega.{arith}
 use borrow.Author.Tests.{lt-ltb, le-ltb}
 use Rattle.book.specs.LevelBook.{most_levels}
-use borrow.Author.Rules.{rules}
 use Rattle.pairs.proofs.lack_refusal.Goals as goal
 
 pub returns-then-place-lt-PLACES : goal.returns-then-place-lt-PLACES

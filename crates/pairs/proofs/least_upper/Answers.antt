@@ -1,10 +1,5 @@
 -- `least_upper`: no level below k is the least common upper one (`Rows`).
-use Prim.Native.Nat.{◌-◌}
 use borrow.Author.Count.{below_more}
-use borrow.Author.Rules.{rules}
-use Rattle.prelude.proofs.Searches.{NoneBelow}
-use Rattle.order.specs.Order.{is_least_upper}
-use Rattle.book.specs.LevelBook.{at_or_below}
 use Rattle.pairs.proofs.Rows.{none_sooner, not_least, found, none_found}
 use Rattle.pairs.proofs.least_upper.Goals as goal
 

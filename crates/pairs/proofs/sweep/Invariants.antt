@@ -1,19 +1,10 @@
 -- `sweep`: the pairs up to the one at hand are taken up (`Sweeps`).
-use mathlib.Core.Path.{◌≡◌, refl, sym, ap, ◌∙◌, subst}
+use mathlib.Core.Path.{◌≡◌}
 use mathlib.Core.List.{List}
-use mathlib.Core.Logic.{◌⊎◌, inl, inr, ⊎_elim}
 use Prim.Native.Nat.{ℕ, ◌+◌, ◌*◌, ◌-◌, ◌≤◌, ◌<◌}
-use native.Mathlib.Nat.{le_antisymm}
-use native.Mathlib.Omega.{arith}
-use borrow.Author.Tests.{leb-true, leb-false, not-false}
-use borrow.Author.Rules.{rules}
 use Rattle.book.specs.LevelBook.{most_levels, at_or_below}
-use Rattle.order.specs.Rows.{InOrder, converse_rows}
-use Rattle.order.proofs.Duals.{converse_in_order}
-use Rattle.pairs.specs.Sweeping.{level_pairs, pair_number}
-use Rattle.pairs.proofs.Numbers.{first_number, next_number, next_row, last_row, number_within, pairs_fit}
-use Rattle.pairs.proofs.Bounds.{Bounds, in_order, in_converse, searched, not_found}
-use Rattle.pairs.proofs.Sweeps.{Upto, start, next, ends, stops}
+use Rattle.pairs.specs.Sweeping.{pair_number}
+use Rattle.pairs.proofs.Sweeps.{Upto}
 use Rattle.pairs.proofs.sweep.Given as goal
 
 -- between two pairs: how many are taken up, at most `most`, and none of them is refused

@@ -1,7 +1,6 @@
 -- `is_size`: each way out decides one test of the definition.
 use mathlib.Core.Path.{sym, ◌∙◌}
 use borrow.Author.Tests.{lt-leb, le-leb}
-use borrow.Author.Rules.{rules}
 use Rattle.prelude.proofs.Bools.{and_second}
 use Rattle.book.specs.LevelBook.{most_levels}
 use Rattle.book.proofs.read.is_size.Goals as goal

@@ -1,7 +1,6 @@
 -- `read_book`: the count and the rows are those of the bytes.
 use native.Mathlib.Omega.{arith}
 use Rattle.book.proofs.Sizes.{right_size}
-use borrow.Author.Rules.{rules}
 use Rattle.book.proofs.read.read_book.Goals as goal
 
 pub bounds-s-0 : goal.bounds-s-0

@@ -1,11 +1,8 @@
 -- `read_rows`: the rows below i are those of the book.
 use borrow.Author.Rules.{rules}
-use mathlib.Core.Path.{◌≡◌, refl}
-use Prim.Native.Nat.{◌-◌, ◌≤◌}
-use lib.ListN.{length, take, length-set}
-use Rattle.prelude.specs.Table.{table}
+use mathlib.Core.Path.{refl}
+use lib.ListN.{length-set}
 use Rattle.prelude.proofs.Tables.{fill_none, fill_more, fill_all}
-use Rattle.book.specs.LevelBook.{most_levels, row}
 use Rattle.book.proofs.read.read_rows.Goals as goal
 
 pub loop-i-init : goal.loop-i-init

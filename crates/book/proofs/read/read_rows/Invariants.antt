@@ -1,10 +1,8 @@
 -- `read_rows`: the rows below i are those of the book.
-use borrow.Author.Rules.{rules}
-use mathlib.Core.Path.{◌≡◌, refl}
+use mathlib.Core.Path.{◌≡◌}
 use Prim.Native.Nat.{◌-◌, ◌≤◌}
-use lib.ListN.{length, take, length-set}
+use lib.ListN.{length, take}
 use Rattle.prelude.specs.Table.{table}
-use Rattle.prelude.proofs.Tables.{fill_none, fill_more, fill_all}
 use Rattle.book.specs.LevelBook.{most_levels, row}
 use Rattle.book.proofs.read.read_rows.Given as goal
 

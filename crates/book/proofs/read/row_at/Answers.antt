@@ -4,7 +4,6 @@ use mathlib.Core.List.{List}
 use native.Mathlib.Omega.{arith}
 use Prim.Native.Nat.{ℕ, ◌+◌, ◌*◌, ◌-◌, ◌≤◌}
 use lib.ListN.{get_or, length, get_or-eq_default}
-use borrow.Author.Rules.{rules}
 use Rattle.prelude.specs.Numbers.{word}
 use Rattle.book.specs.LevelBook.{count, row}
 use Rattle.book.proofs.read.row_at.Goals as goal

@@ -4,7 +4,6 @@ use Prim.Native.Nat.{ℕ, ◌*◌, ◌%◌, ◌^◌, ◌≤◌}
 use native.Mathlib.Nat.{one-mul, le_refl}
 use native.Mathlib.Omega.{arith}
 use lib.Pow.{pow_pos, shl_exact}
-use borrow.Author.Rules.{rules}
 use Rattle.prelude.proofs.Sets.{some_outside}
 use Rattle.book.specs.LevelBook.{most_levels}
 use Rattle.book.proofs.sets.any_outside.Goals as goal

@@ -2,7 +2,6 @@
 use mathlib.Core.Path.{ap, ◌∙◌}
 use Rattle.prelude.specs.Sets.{has}
 use Rattle.prelude.proofs.Sets.{has_one}
-use borrow.Author.Rules.{rules}
 use Rattle.book.proofs.Shifts.{shifted_one}
 use Rattle.book.proofs.sets.only.Goals as goal
 

@@ -1,7 +1,6 @@
 -- `without`: the set has the level's digit.
 use mathlib.Core.Path.{ap}
 use Prim.Native.Nat.{◌-◌}
-use borrow.Author.Rules.{rules}
 use Rattle.prelude.proofs.Sets.{out_le}
 use Rattle.book.proofs.Shifts.{shifted_one}
 use Rattle.book.proofs.sets.without.Goals as goal

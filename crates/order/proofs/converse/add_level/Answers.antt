@@ -1,14 +1,13 @@
 -- `add_level`: the sets of the levels below j have it where they should, the others are as they were.
 use mathlib.Core.Path.{◌≡◌, refl, ap₂, ◌∙◌}
 use mathlib.Core.List.{List}
-use Prim.Native.Nat.{ℕ, zero, suc, ◌+◌, ◌*◌, ◌-◌, ◌/◌, ◌%◌, ◌^◌, ◌≤◌, ◌<◌}
+use Prim.Native.Nat.{ℕ, zero, suc, ◌+◌, ◌*◌, ◌/◌, ◌%◌, ◌^◌, ◌≤◌, ◌<◌}
 use native.Mathlib.Nat.{zero-lt-suc, mod-lt, pow-suc, lt_of_lt_of_le}
 use native.Mathlib.Omega.{arith}
-use lib.ListN.{get_or, length, set, take, length-set}
+use lib.ListN.{get_or, set, length-set}
 use lib.Pow.{pow_mono}
 use lib.Seq.{get_or-set_other}
 use borrow.Author.Rules.{rules}
-use Rattle.prelude.specs.Table.{table}
 use Rattle.prelude.proofs.Tables.{fill_none, fill_more, fill_all}
 use Rattle.book.specs.LevelBook.{most_levels}
 use Rattle.book.proofs.Shifts.{shifted_one}

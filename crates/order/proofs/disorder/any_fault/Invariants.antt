@@ -1,17 +1,10 @@
 -- `any_fault`: of the levels that are left out, none shows a fault.
-use mathlib.Core.Path.{◌≡◌, refl, sym, ap, ◌∙◌}
-use mathlib.Core.Bool.{Bool, true, false, ◌&&◌}
+use mathlib.Core.Path.{◌≡◌}
+use mathlib.Core.Bool.{◌&&◌}
 use mathlib.Core.List.{List}
-use Prim.Native.Nat.{ℕ, ◌-◌, ◌^◌, ◌<◌}
-use native.Mathlib.Decide.{ℕ_discrete}
-use native.Mathlib.Omega.{arith}
+use Prim.Native.Nat.{ℕ, ◌^◌, ◌<◌}
 use lib.ListN.{get_or}
-use borrow.Author.Rules.{rules}
 use Rattle.prelude.specs.Sets.{has, outside}
-use Rattle.prelude.proofs.Bools.{and_intro}
-use Rattle.prelude.proofs.Searches.{any_some, any_none}
-use Rattle.prelude.proofs.Sets.{has_zero, out_other}
-use Rattle.book.proofs.Lowest.{next_below, next_in, next_less}
 use Rattle.order.proofs.disorder.any_fault.Given as goal
 
 -- what of the levels in a set shows a fault is what all the others show

@@ -1,9 +1,8 @@
 -- `first_faulty`: the levels below i have no fault.
 use mathlib.Core.Path.{sym, ◌∙◌}
-use Prim.Native.Nat.{◌-◌, ◌≤◌}
 use borrow.Author.Count.{below_none, below_more}
-use Rattle.prelude.proofs.Searches.{NoneBelow, past, first_is, first_none}
-use Rattle.order.specs.Refusals.{is_faulty, first_faulty}
+use Rattle.prelude.proofs.Searches.{past, first_is, first_none}
+use Rattle.order.specs.Refusals.{first_faulty}
 use native.Mathlib.Nat.{le_antisymm}
 use borrow.Author.Rules.{rules}
 use Rattle.order.proofs.disorder.first_faulty.Goals as goal

@@ -4,7 +4,6 @@ use mathlib.Core.Bool.{◌&&◌}
 use native.Mathlib.Omega.{arith}
 use lib.ListN.{get_or}
 use borrow.Author.Rules.{rules}
-use borrow.Author.Tests.{not-true, not-false}
 use Rattle.prelude.specs.Search.{any}
 use Rattle.prelude.specs.Sets.{has, outside}
 use Rattle.prelude.proofs.Sets.{none_beyond}

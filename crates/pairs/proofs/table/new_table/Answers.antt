@@ -1,8 +1,5 @@
 -- `new_table`: the levels below i are kept for themselves, and 0 for all else.
-use Prim.Native.Nat.{◌-◌}
-use borrow.Author.Rules.{rules}
-use Rattle.book.specs.LevelBook.{most_levels}
-use Rattle.pairs.proofs.Stores.{OwnLevels, no_levels, own_level, all_levels}
+use Rattle.pairs.proofs.Stores.{no_levels, own_level, all_levels}
 use Rattle.pairs.proofs.table.new_table.Goals as goal
 
 pub loop-i-init : goal.loop-i-init

@@ -1,8 +1,7 @@
 -- `new_table`: the levels below i are kept for themselves, and 0 for all else.
 use Prim.Native.Nat.{◌-◌}
-use borrow.Author.Rules.{rules}
 use Rattle.book.specs.LevelBook.{most_levels}
-use Rattle.pairs.proofs.Stores.{OwnLevels, no_levels, own_level, all_levels}
+use Rattle.pairs.proofs.Stores.{OwnLevels}
 use Rattle.pairs.proofs.table.new_table.Given as goal
 
 abbrev pub invariant-loop-i : goal.invariant-loop-i

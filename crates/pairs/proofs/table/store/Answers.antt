@@ -1,6 +1,5 @@
 -- `store`: two stores, one at each entry.
 use mathlib.Core.Path.{refl}
-use borrow.Author.Rules.{rules}
 use Rattle.pairs.proofs.table.store.Goals as goal
 
 pub returns : goal.returns

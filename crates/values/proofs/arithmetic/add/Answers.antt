@@ -1,6 +1,5 @@
 -- `add`: the sum is exact in 64 bits, and `clamp` clamps it.
 use lib.IntN.{◌+ℤ◌}
-use borrow.Author.Rules.{rules}
 use Rattle.values.proofs.Signed.{widens, widened_fits, sum_fits, clamped_result}
 use Rattle.values.proofs.arithmetic.add.Goals as goal
 

@@ -1,5 +1,4 @@
 -- `divide`: the rounded quotient of the magnitudes gets the sign of the quotient, and `clamp` clamps it.
-use borrow.Author.Rules.{rules}
 use Rattle.values.proofs.Quotients.{quotient_by_zero, nonzero_as_read, rounded_fits, negated_fits, kept, negated}
 use Rattle.values.proofs.arithmetic.divide.Goals as goal
 

@@ -1,6 +1,5 @@
 -- `multiply`: the product is exact in 64 bits, and `clamp` clamps it.
 use lib.IntN.{◌*ℤ◌}
-use borrow.Author.Rules.{rules}
 use Rattle.values.proofs.Signed.{widens, widened_fits, product_fits, clamped_result}
 use Rattle.values.proofs.arithmetic.multiply.Goals as goal
 

@@ -1,7 +1,6 @@
 -- `round`: the quotient and the remainder of the magnitudes are no larger than these, so nothing overflows 64 bits.
 use native.Mathlib.Nat.{mod-le}
 use native.Mathlib.Omega.{arith}
-use borrow.Author.Rules.{rules}
 use Rattle.values.proofs.Quotients.{divisor_above, next_fits, below_half, above_half, tie_even, tie_odd}
 use Rattle.values.proofs.arithmetic.round.Goals as goal
 

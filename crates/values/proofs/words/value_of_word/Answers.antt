@@ -1,6 +1,5 @@
 -- `value_of_word`: a word of the upper half, less 2 to the 32, is its value.
 use Rattle.values.proofs.Bits.{lowered_fits, lowered_casts, lowered_value}
-use borrow.Author.Rules.{rules}
 use Rattle.values.proofs.words.value_of_word.Goals as goal
 
 pub overflow_sub-result : goal.overflow_sub-result
