@@ -12,8 +12,8 @@ use Rattle.flow.specs.declared.nodes.Flow.{Flow}
 use Rattle.flow.specs.declared.nodes.Own.{Own}
 use Rattle.language.specs.KindGroups.{has_write}
 use Rattle.flow.specs.Nodes.{OwnWithin, FlowWithin, write_from, test_from, own_need, flow_from}
-use Rattle.flow.proofs.nodes.node_flow.Statement.{statement}
-use Rattle.flow.proofs.nodes.node_flow.Tie as tie
+use Rattle.flow.proofs.nodes.node_flow.Goals as goal
+use Rattle.flow.proofs.nodes.node_flow.Goals.{then-pair+else-own_need, else-pair}
 
 module _
     (rows : List ℕ) (join : List (List ℕ)) (k kind : ℕ) (own : Own) (parts : Flow) (pair : Bool)
@@ -56,43 +56,35 @@ module _
       flow-is false f same
       (⊎_elim (λ h. and_second pair need h.0 ∙ h.1) (λ h. ap (λ p. p && need) h) e)
 
-write-of-requires : tie.Need-write-of-requires
-write-of-requires c κs = tt
+pub write_of-write-requires : goal.write_of-write-requires
+write_of-write-requires c = tt
 
-test-of-requires : tie.Need-test-of-requires
-test-of-requires c κs = (c.before.requires.0, c.before.requires.1.0)
+pub test_of-test-requires : goal.test_of-test-requires
+test_of-test-requires c = (c.requires.0, c.requires.1.0)
 
-own-need-requires : tie.Need-own-need-requires
-own-need-requires c κs =
-    let a = c.before.before.before.args in (
-      c.before.before.before.requires.0,
-      within a.rows.now a.join.now a.k a.kind a.own a.parts a.pair _ _ c.before.before.write-of.ensures
-          c.before.test_of.ensures c.before.before.before.requires,
+pub own_need-requires : goal.own_need-requires
+own_need-requires c =
+    let a = c.args in (
+      c.requires.0,
+      within a.rows.now a.join.now a.k a.kind a.own a.parts a.pair _ _ c.write_of-write.ensures
+          c.test_of-test.ensures c.requires,
     )
 
-returns : tie.Need-returns
+pub returns-then-own_need : goal.returns-then-own_need
+returns-then-own_need c =
+    let a = c.args in
+    holds a.rows.now a.join.now a.k a.kind a.own a.parts a.pair _ _ c.write_of-write.ensures
+    c.test_of-test.ensures c.if-pair.true (sym c.own_need.ensures ∙ c.if-own_need.true)
+
+pub lesser-requires : goal.lesser-requires
+lesser-requires c = tt
+
+pub returns : goal.returns
 returns c =
-    let a = c.before.before.before.before.before.args in
-    holds a.rows.now a.join.now a.k a.kind a.own a.parts a.pair _ _ c.before.before.before.before.write-of.ensures
-    c.before.before.before.test_of.ensures c.before.before.if1.true (sym c.before.own_need_lem.ensures ∙ c.if2.true)
-
-lesser-requires : tie.Need-lesser-requires
-lesser-requires c κs = tt
-
-returns-2 : tie.Need-returns-2
-returns-2 c =
-    let a = c.before.before.before.before.args in
-    fails a.rows.now a.join.now a.k a.kind a.own a.parts a.pair _ _ c.before.before.before.write-of.ensures
-    c.before.before.test_of.ensures _ c.lesser.ensures
-    (⊎_elim (λ t. inl (t.0.taken, sym t.1.ensures ∙ t.2.left)) (λ t. inr t.left) c.before.if1.branch)
-
-pub node-flow-spec : {M : Type 1} → statement M
-node-flow-spec =
-    tie.close
-    (tie.spec
-    write-of-requires
-    test-of-requires
-    own-need-requires
-    returns
-    lesser-requires
-    returns-2)
+    let a = c.args in
+    fails a.rows.now a.join.now a.k a.kind a.own a.parts a.pair _ _ c.write_of-write.ensures
+    c.test_of-test.ensures _ c.lesser.ensures
+    (elim c.if-pair.branch [
+      | then-pair+else-own_need w ↦ inl (w.if-pair.true, sym w.own_need.ensures ∙ w.if-own_need.false)
+      | else-pair w ↦ inr w.if-pair.false
+    ])

@@ -1,0 +1,5 @@
+-- The operands of an expression have smaller numbers.
+use Rattle.flow.proofs.expressions.+level_of.Given as goal
+
+abbrev pub decreases-level_of : goal.decreases-level_of
+decreases-level_of l = l.e
