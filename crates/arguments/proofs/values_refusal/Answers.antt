@@ -15,8 +15,7 @@ use Rattle.layout.specs.Promises.{Laid}
 use Rattle.layout.proofs.Layouts.{few_bounds, names_are}
 use Rattle.arguments.specs.Refusals.{first_wrong, values_refusal}
 use borrow.Author.Rules.{rules, Fits-under}
-use Rattle.arguments.proofs.values_refusal.Statement.{statement}
-use Rattle.arguments.proofs.values_refusal.Tie as tie
+use Rattle.arguments.proofs.values_refusal.Goals as goal
 
 module _ {s : List ℕ} {c : Script} (laid : Laid s c) (values : List ℤ) where
   length-is-wrong : (length values ≡ c.names → ⊥) → refused_by 13 0 ≡ values_refusal s values
@@ -35,28 +34,21 @@ module _ {s : List ℕ} {c : Script} (laid : Laid s c) (values : List ℤ) where
     unfolding values_refusal
     all-are-right h = rw (length-is-right, ← e, le-ltb w (name_count s) (omega (arith, names_are laid)))
 
-returns : tie.Need-returns
-returns c = length-is-wrong c.before.before.before.requires _ c.if1.true
+pub returns-then-values-c : goal.returns-then-values-c
+returns-then-values-c c = length-is-wrong c.requires _ c.if-values-c.true
 
-first-wrong-requires : tie.Need-first-wrong-requires
-first-wrong-requires c κs = search rules
+pub overflow_cast-result : goal.overflow_cast-result
+overflow_cast-result c =
+    Fits-under _ _ 64 (omega (arith, c.if-wrong-c.true, (few_bounds c.args.c c.requires.few).0)) tt
 
-cast-t7 : tie.Need-overflow-cast-t7
-cast-t7 c =
-    let start = c.before.before.before.before.before.before in
-    Fits-under _ _ 64 (omega (arith, c.if2.true, (few_bounds start.args.c start.requires.few).0)) tt
+pub returns-then-wrong-c : goal.returns-then-wrong-c
+returns-then-wrong-c c =
+    entry-is-wrong c.requires _ c.if-values-c.false
+    c.first_wrong-wrong.ensures
+    c.if-wrong-c.true
 
-returns-2 : tie.Need-returns-2
-returns-2 c =
-    entry-is-wrong c.before.before.before.before.before.before.requires _ c.before.before.before.if1.false
-    c.before.before.first-wrong.ensures
-    c.if2.true
-
-returns-3 : tie.Need-returns-3
-returns-3 c =
-    all-are-right c.before.before.before.before.before.before.requires _ c.before.before.before.if1.false
-    c.before.before.first-wrong.ensures
-    c.if2.false
-
-pub values-refusal-spec : {M : Type 1} → statement M
-values-refusal-spec = tie.close (tie.spec returns first-wrong-requires cast-t7 returns-2 returns-3)
+pub returns : goal.returns
+returns c =
+    all-are-right c.requires _ c.if-values-c.false
+    c.first_wrong-wrong.ensures
+    c.if-wrong-c.false

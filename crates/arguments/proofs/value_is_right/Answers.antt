@@ -20,8 +20,7 @@ use Rattle.layout.specs.Entries.{name_of, session, is_session}
 use Rattle.tree.specs.Tree.{names_of}
 use Rattle.arguments.specs.Refusals.{value_is_right}
 use borrow.Author.Rules.{rules}
-use Rattle.arguments.proofs.value_is_right.Statement.{statement}
-use Rattle.arguments.proofs.value_is_right.Tie as tie
+use Rattle.arguments.proofs.value_is_right.Goals as goal
 
 -- the machine's equality of values is that of their bits
 same_test : (a b : ℤ) → SFits w32 a → SFits w32 b → eqb (of_z w32 a) (of_z w32 b) ≡ same_value a b
@@ -63,49 +62,35 @@ module _ (s : List ℕ) (values : List ℤ) (x : ℕ) (f : mag (held values x) <
           same_test (held values x) (pos 1) (record { sfits = f }) (sfits_lit tt)
           ∙ sym (of-session ∙ rw (eq-eqb name.kind 1 k))
 
-mul-v : tie.Need-overflow-mul-v
-mul-v c = search rules
+pub returns-then-v-eq0 : goal.returns-then-v-eq0
+returns-then-v-eq0 c =
+    let args = c.args in
+    zero-is-right args.s.now args.values.now args.x c.v-1.given c.if-v-eq0.true
 
-shared-slice-copy-out-v : tie.Need-shared-slice-copy-out-v
-shared-slice-copy-out-v c = search rules
+pub returns-then-name-ne-SESSION : goal.returns-then-name-ne-SESSION
+returns-then-name-ne-SESSION c =
+    let args = c.args in
+    owned-is-wrong args.s.now args.values.now args.x c.v-1.given
+    c.if-v-eq0.false
+    c.name_at-name.ensures
+    c.if-name-ne-SESSION.true
 
-returns : tie.Need-returns
-returns c =
-    let args = c.before.before.before.args in
-    zero-is-right args.s.now args.values.now args.x c.before.v.given c.if1.true
-
-name-at-requires : tie.Need-name-at-requires
-name-at-requires c κs = search rules
-
-returns-2 : tie.Need-returns-2
-returns-2 c =
-    let args = c.before.before.before.before.before.before.args in
-    owned-is-wrong args.s.now args.values.now args.x c.before.before.before.before.v.given
-    c.before.before.before.if1.false
-    c.before.before.name-at.ensures
-    c.if2.true
-
-returns-3 : tie.Need-returns-3
-returns-3 c =
-    let args = c.before.before.before.before.before.before.before.before.args in
+pub returns-then-name-ne1 : goal.returns-then-name-ne1
+returns-then-name-ne1 c =
+    let args = c.args in
     register-is-right args.s.now args.values.now args.x
-    c.before.before.before.before.before.before.v.given
-    c.before.before.before.before.before.if1.false
-    c.before.before.before.before.name-at.ensures
-    c.before.before.if2.false
-    c.if3.true
+    c.v-1.given
+    c.if-v-eq0.false
+    c.name_at-name.ensures
+    c.if-name-ne-SESSION.false
+    c.if-name-ne1.true
 
-returns-4 : tie.Need-returns-4
-returns-4 c =
-    let args = c.before.before.before.before.before.before.before.before.args in
+pub returns-else-name-ne1 : goal.returns-else-name-ne1
+returns-else-name-ne1 c =
+    let args = c.args in
     signal-is-right args.s.now args.values.now args.x
-    c.before.before.before.before.before.before.v.given
-    c.before.before.before.before.before.if1.false
-    c.before.before.before.before.name-at.ensures
-    c.before.before.if2.false
-    c.if3.false
-
-pub value-is-right-spec : {M : Type 1} → statement M
-value-is-right-spec =
-    tie.close
-    (tie.spec mul-v shared-slice-copy-out-v returns name-at-requires returns-2 returns-3 returns-4)
+    c.v-1.given
+    c.if-v-eq0.false
+    c.name_at-name.ensures
+    c.if-name-ne-SESSION.false
+    c.if-name-ne1.false

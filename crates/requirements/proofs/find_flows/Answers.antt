@@ -6,7 +6,6 @@ use Prim.Native.Nat.{ℕ, ◌-◌, ◌<◌}
 use native.Mathlib.Omega.{arith}
 use lib.Dec.{eqb}
 use lib.ListN.{get_or, get_or-replicate}
-use borrow.Author.Rules.{rules}
 use Rattle.prelude.specs.Sets.{has, set_of}
 use Rattle.prelude.specs.Table.{table}
 use Rattle.prelude.proofs.Sets.{set_same}
@@ -19,8 +18,7 @@ use Rattle.tree.specs.Tree.{names_of, process_of}
 use Rattle.requirements.specs.Flows.{flows_to, flows_of}
 use Rattle.requirements.specs.Promises.{Adds}
 use Rattle.requirements.proofs.Additions.{adds_first}
-use Rattle.requirements.proofs.find_flows.Statement.{statement}
-use Rattle.requirements.proofs.find_flows.Tie as tie
+use Rattle.requirements.proofs.find_flows.Goals as goal
 
 flows-are :
     (s : List ℕ) {k : ℕ} {before after : List ℕ} → ((i : ℕ) → i < most_levels → get_or before i 0 ≡ 0) →
@@ -33,30 +31,21 @@ flows-are s none h e =
     ap (λ b. not (eqb i j) && b)
     (adds_first none h i j hi hj ∙ ap (λ k. must_flow (names_of s) (process_of s k) i j) e)))
 
-sub-flows-at : tie.Need-overflow-sub-flows-at
-sub-flows-at c = let b = c.before.before.before in omega (arith, (few_bounds b.args.c b.requires.0.few).1.1.0)
+pub overflow_sub-c : goal.overflow_sub-c
+overflow_sub-c c = omega (arith, (few_bounds c.args.c c.requires.0.few).1.1.0)
 
-flows-at-requires : tie.Need-flows-at-requires
-flows-at-requires c κs =
-    let b = c.before.before.before in
-    let same = b.requires.0.same in (
+pub flows_at-requires : goal.flows_at-requires
+flows_at-requires c =
+    let same = c.requires.0.same in (
       record {
-        reads = record { checked = b.requires.1.0; levelled = b.requires.1.1; start = ap (λ z. z.offset) same };
+        reads = record { checked = c.requires.1.0; levelled = c.requires.1.1; start = ap (λ z. z.offset) same };
         expressions = ap (λ z. z.expressions) same;
       },
-      (omega (arith, (few_bounds b.args.c b.requires.0.few).1.1.0, nodes_are b.requires.0), refl),
+      (omega (arith, (few_bounds c.args.c c.requires.0.few).1.1.0, nodes_are c.requires.0), refl),
     )
 
-between-others-requires : tie.Need-between-others-requires
-between-others-requires c κs = search rules
-
-returns : tie.Need-returns
+pub returns : goal.returns
 returns c =
-    let b = c.before.before.before.before.before in
-    c.between-others.ensures
-    ∙ flows-are b.args.s.now (λ i hi. get_or-replicate most_levels i 0 0 hi) c.before.flows-at.ensures.flows
-    (ap (λ n. n - 1) (nodes_are b.requires.0))
-
-pub find-flows-spec : {M : Type 1} → statement M
-find-flows-spec =
-    tie.close (tie.spec sub-flows-at flows-at-requires between-others-requires returns)
+    c.between_others.ensures
+    ∙ flows-are c.args.s.now (λ i hi. get_or-replicate most_levels i 0 0 hi) c.flows_at.ensures.flows
+    (ap (λ n. n - 1) (nodes_are c.requires.0))

@@ -5,13 +5,11 @@ use Prim.Native.Nat.{ℕ, ◌-◌, ◌^◌, ◌<◌}
 use native.Mathlib.Decide.{ℕ_discrete}
 use native.Mathlib.Omega.{arith}
 use lib.Dec.{eqb}
-use borrow.Author.Rules.{rules}
 use borrow.Author.Tests.{eq-eqb, ne_eqb}
 use Rattle.prelude.specs.Sets.{has, set_of}
 use Rattle.prelude.proofs.Sets.{same_set, set_lt, set_is, out_le, out_same, out_other}
 use Rattle.book.specs.LevelBook.{most_levels}
-use Rattle.requirements.proofs.table.others.Statement.{statement}
-use Rattle.requirements.proofs.table.others.Tie as tie
+use Rattle.requirements.proofs.table.others.Goals as goal
 
 module _ (set i : ℕ) (fits : set < 2 ^ most_levels) where
   abbrev Is : ℕ → Type 0
@@ -36,22 +34,14 @@ module _ (set i : ℕ) (fits : set < 2 ^ most_levels) where
         | no e ↦ sym (ap (λ b. not b && has set j) (ne_eqb i j (λ q. e (sym q))))
       ])
 
-has-requires : tie.Need-has-requires
-has-requires c κs = search rules
+pub without-requires : goal.without-requires
+without-requires c = (c.requires, sym c.has.ensures ∙ c.if-has.true)
 
-without-requires : tie.Need-without-requires
-without-requires c κs = (c.before.before.requires, sym c.before.has.ensures ∙ c.if1.true)
-
-returns : tie.Need-returns
-returns c =
-    let start = c.before.before.before in
+pub returns-then-has : goal.returns-then-has
+returns-then-has c =
     c.without.ensures
-    ∙ taken start.args.set start.args.i (omega (arith, start.ranges.set.fits)) (sym c.before.before.has.ensures ∙ c.before.if1.true)
+    ∙ taken c.args.set c.args.i (omega (arith, c.ranges.set.fits)) (sym c.has.ensures ∙ c.if-has.true)
 
-returns-2 : tie.Need-returns-2
-returns-2 c =
-    let start = c.before.before in
-    left start.args.set start.args.i (omega (arith, start.ranges.set.fits)) (sym c.before.has.ensures ∙ c.if1.false)
-
-pub others-spec : {M : Type 1} → statement M
-others-spec = tie.close (tie.spec has-requires without-requires returns returns-2)
+pub returns : goal.returns
+returns c =
+    left c.args.set c.args.i (omega (arith, c.ranges.set.fits)) (sym c.has.ensures ∙ c.if-has.false)

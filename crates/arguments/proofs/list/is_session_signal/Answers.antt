@@ -12,8 +12,8 @@ use Rattle.layout.specs.Entries.{name_of, session, is_session}
 use Rattle.layout.proofs.Layouts.{names_are}
 use Rattle.arguments.specs.Refusals.{is_session_signal}
 use borrow.Author.Rules.{rules}
-use Rattle.arguments.proofs.list.is_session_signal.Statement.{statement}
-use Rattle.arguments.proofs.list.is_session_signal.Tie as tie
+use Rattle.arguments.proofs.list.is_session_signal.Goals as goal
+use Rattle.arguments.proofs.list.is_session_signal.Goals.{Else-c-a}
 
 module _ (s : List ℕ) (a : ℕ) where
   past-names : name_count s ≤ a → false ≡ is_session_signal s a
@@ -31,26 +31,20 @@ module _ (s : List ℕ) (a : ℕ) where
         sym (rw (lt-ltb a (name_count s) l, o, e))
 
 -- the file has this name
-known : (c : tie.Else1) → c.before.before.before.args.a < name_count c.before.before.before.args.s.now
-known c = omega (arith, names_are c.before.before.before.requires, c.if1.false)
+known : (c : Else-c-a) → c.args.a < name_count c.args.s.now
+known c = omega (arith, names_are c.requires, c.if-c-a.false)
 
-returns : tie.Need-returns
+pub returns-then-c-a : goal.returns-then-c-a
+returns-then-c-a c =
+    let a = c.args in
+    past-names a.s.now a.a (omega (arith, names_are c.requires, c.if-c-a.true))
+
+pub returns-then-name-ne-SESSION : goal.returns-then-name-ne-SESSION
+returns-then-name-ne-SESSION c =
+    let a = c.args in
+    of-script a.s.now a.a (known (goal.at.returns-then-name-ne-SESSION c).Else-c-a) c.name_at-name.ensures c.if-name-ne-SESSION.true
+
+pub returns : goal.returns
 returns c =
-    let a = c.before.before.before.args in
-    past-names a.s.now a.a (omega (arith, names_are c.before.before.before.requires, c.if1.true))
-
-name-at-requires : tie.Need-name-at-requires
-name-at-requires c κs = search rules
-
-returns-2 : tie.Need-returns-2
-returns-2 c =
-    let a = c.before.before.before.before.before.before.args in
-    of-script a.s.now a.a (known c.before.before.before) c.before.before.name-at.ensures c.if2.true
-
-returns-3 : tie.Need-returns-3
-returns-3 c =
-    let a = c.before.before.before.before.before.before.before.args in
-    of-session a.s.now a.a (known c.before.before.before.before) c.before.before.before.name-at.ensures c.before.if2.false
-
-pub is-session-signal-spec : {M : Type 1} → statement M
-is-session-signal-spec = tie.close (tie.spec returns name-at-requires returns-2 returns-3)
+    let a = c.args in
+    of-session a.s.now a.a (known (goal.at.returns c).Else-c-a) c.name_at-name.ensures c.if-name-ne-SESSION.false
