@@ -15,8 +15,7 @@ use Rattle.script.proofs.Theorems.{loaded_checked}
 use Rattle.requirements.specs.Flows.{flows_of}
 use Rattle.results.specs.Results.{flows_by}
 use Rattle.engine.specs.Answers.{file_refusal, flows_found}
-use Rattle.engine.proofs.flows.Statement.{statement}
-use Rattle.engine.proofs.flows.Tie as tie
+use Rattle.engine.proofs.flows.Goals as goal
 
 module _ (s : List ℕ) (r : LoadedScript) (h : r ≡ loaded s most_levels) where
   same : r.refusal ≡ file_refusal s
@@ -35,18 +34,12 @@ module _ (s : List ℕ) (r : LoadedScript) (h : r ≡ loaded s most_levels) wher
       let e : passes (file_refusal s) ≡ true = eq-eqb _ _ (sym (ap (λ (x : Refusal). x.number) same) ∙ n) in
       ap₂ flows_by same t ∙ sym (rw e)
 
-load-requires : tie.Need-load-requires
-load-requires c κs = search rules
+pub returns-then-number-ne0 : goal.returns-then-number-ne0
+returns-then-number-ne0 c = refused _ c.load-read.result c.load-read.ensures c.if-number-ne0.true
 
-returns : tie.Need-returns
-returns c = refused _ c.before.load.result c.before.load.ensures c.if1.true
+pub find_flows-to-requires : goal.find_flows-to-requires
+find_flows-to-requires c = loaded_checked _ most_levels c.load-read.result c.load-read.ensures c.if-number-ne0.false
 
-find-flows-requires : tie.Need-find-flows-requires
-find-flows-requires c κs = loaded_checked _ most_levels c.before.load.result c.before.load.ensures c.if1.false
-
-returns-2 : tie.Need-returns-2
-returns-2 c =
-    found _ c.before.before.load.result c.before.before.load.ensures c.before.if1.false c.find-flows.result c.find-flows.ensures
-
-pub flows-spec : {M : Type 1} → statement M
-flows-spec = tie.close (tie.spec load-requires returns find-flows-requires returns-2)
+pub returns : goal.returns
+returns c =
+    found _ c.load-read.result c.load-read.ensures c.if-number-ne0.false c.find_flows-to.result c.find_flows-to.ensures

@@ -18,8 +18,7 @@ use Rattle.checker.proofs.Passing.{accepted as passed, checked}
 use Rattle.checker.proofs.Preparing.{found_refusal, found_layout}
 use Rattle.results.specs.Results.{verdict_by, refused_verdict}
 use Rattle.engine.specs.Answers.{verdict}
-use Rattle.engine.proofs.check.Statement.{statement}
-use Rattle.engine.proofs.check.Tie as tie
+use Rattle.engine.proofs.check.Goals as goal
 
 module _ (b s : List ℕ) (r : Prepared) (p : Prepares (check_refusal b s) (book_lattice b) (book_of b) s r) where
   refused : (r.refusal.number ≡ 0 → ⊥) → refused_verdict r.refusal ≡ verdict b s
@@ -41,30 +40,15 @@ module _ (b s : List ℕ) (r : Prepared) (p : Prepares (check_refusal b s) (book
   found n moves h =
       ap₂ (λ x m. verdict_by x.refusal x.write x.test m) p.same h ∙ rw (accepted n) refl
 
-prepare-requires : tie.Need-prepare-requires
-prepare-requires c κs = tt
+pub returns-then-p-ne0 : goal.returns-then-p-ne0
+returns-then-p-ne0 c =
+    let prepared = c.prepare-p in
+    c.refused_verdict.ensures ∙ refused _ _ prepared.result prepared.ensures c.if-p-ne0.true
 
-refused-verdict-requires : tie.Need-refused-verdict-requires
-refused-verdict-requires c κs = tt
+pub find_bound-moves-requires : goal.find_bound-moves-requires
+find_bound-moves-requires c = laid _ _ c.prepare-p.result c.prepare-p.ensures c.if-p-ne0.false
 
-returns : tie.Need-returns
+pub returns : goal.returns
 returns c =
-    let prepared = c.before.before.before.prepare in
-    c.refused-verdict.ensures ∙ refused _ _ prepared.result prepared.ensures c.before.if1.true
-
-find-bound-requires : tie.Need-find-bound-requires
-find-bound-requires c κs = laid _ _ c.before.before.prepare.result c.before.before.prepare.ensures c.if1.false
-
-cast-t6 : tie.Need-overflow-cast-t6
-cast-t6 c = search rules
-
-cast-t7 : tie.Need-overflow-cast-t7
-cast-t7 c = search rules
-
-returns-2 : tie.Need-returns-2
-returns-2 c =
-    let prepared = c.before.before.before.before.before.prepare in
-    found _ _ prepared.result prepared.ensures c.before.before.before.if1.false _ c.before.before.find-bound.ensures
-
-pub check-spec : {M : Type 1} → statement M
-check-spec = tie.close (tie.spec prepare-requires refused-verdict-requires returns find-bound-requires cast-t6 cast-t7 returns-2)
+    let prepared = c.prepare-p in
+    found _ _ prepared.result prepared.ensures c.if-p-ne0.false _ c.find_bound-moves.ensures

@@ -1,0 +1,46 @@
+-- `run_checked`: the program of the script, a clear state, and owned names given back.
+use mathlib.Core.Path.{◌≡◌, sym, ap, ◌∙◌}
+use Prim.Native.Nat.{ℕ, ◌-◌, ◌≤◌}
+use native.Mathlib.Omega.{arith}
+use native.Mathlib.Nat.{sub-zero}
+use lib.ListN.{take, length, replicate, length-replicate}
+use Rattle.layout.proofs.Layouts.{few_bounds, nodes_are}
+use Rattle.program.specs.Program.{node_count}
+use Rattle.residual.proofs.Residuals.{take_zeros}
+use Rattle.engine.proofs.Starting.{listed_in, returns_run}
+use borrow.Author.Rules.{rules}
+use Rattle.engine.proofs.run_checked.Goals as goal
+
+-- the state is clear
+zeros-taken : (n m : ℕ) → n ≤ 256 → n ≡ m → take {A = ℕ} (n - 0) (replicate 256 0) ≡ replicate m 0
+zeros-taken n m h e = rw sub-zero (take_zeros n 256 h ∙ ap (λ k. replicate k 0) e)
+
+pub slice_bounds-state-end : goal.slice_bounds-state-end
+slice_bounds-state-end c = omega (arith, few_bounds c.args.c c.requires.plan.laid.few)
+
+pub run-r-requires : goal.run-r-requires
+run-r-requires c =
+    let pre = c.requires in
+    let p = c.find_plan-program.ensures in
+    record {
+      can = record {
+        valued = record { runnable = p.runnable; named = pre.named ∙ sym p.names };
+        node =
+            record {
+              known = omega (arith, p.runnable.some);
+              whole =
+                  ap length (zeros-taken c.args.c.nodes _ (few_bounds c.args.c c.requires.plan.laid.few).1.1.1
+                  (nodes_are c.requires.plan.laid ∙ sym c.find_plan-program.ensures.nodes))
+                  ∙ length-replicate (node_count c.find_plan-program.result) 0
+                  ∙ sym p.runnable.whole;
+            };
+        counted = record { time = omega arith; most = pre.most; instants = omega arith; space = omega arith };
+      };
+      right = listed_in p pre.right;
+    }
+
+pub returns : goal.returns
+returns c =
+    returns_run c.args.s.now c.requires.plan.checked c.find_plan-program.ensures _ _ _ _ _ (zeros-taken c.args.c.nodes _ (few_bounds c.args.c c.requires.plan.laid.few).1.1.1
+    (nodes_are c.requires.plan.laid ∙ sym c.find_plan-program.ensures.nodes)) c.requires.named
+    c.run-r.ensures c.clear_owned.ensures
