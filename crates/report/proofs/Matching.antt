@@ -215,8 +215,8 @@ module _ {L : Type 0} (names : Names L) (n : ℕ) where
       evaluate_renamed (ρ var) e (held s) S (λ x o. g.store x (h x o)) ∙ ap (λ z. evaluate z S) (sym q)
 
   pub back :
-      {F : Kind → ℕ → Bool} {ρ origin : Renaming} {p P P' : Proc L} {s : List ℤ} {Γ Γ' : Environment L} {S S' : ℕ → ℤ}
-      {E E' : ℕ → Bool} {O : Output} →
+      {F : Kind → ℕ → Bool} {ρ origin : Renaming} {s : List ℤ} {Γ : Environment L} {S : ℕ → ℤ} {E : ℕ → Bool}
+      {P P' p : Proc L} {Γ' : Environment L} {S' : ℕ → ℤ} {E' : ℕ → Bool} {O : Output} →
       Move Γ S E P O Γ' S' E' P' → Renamed ρ p P → Agree names n F ρ origin s Γ S E →
       ((k : Kind) (y : ℕ) → Free k y p → F k y ≡ true) → Clean p → Carries p → Moved F ρ origin p s Γ O Γ' S' E' P'
   back {s = s} ASSIGN-OP (r_assign {x = x} {x' = x'} {e = e} {e' = e'} q q') g m c l =

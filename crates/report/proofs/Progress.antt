@@ -54,6 +54,7 @@ module _ {L : Type 0} where
 
   free_below : (p : Proc L) (k : Kind) (y : ℕ) → Free k y p → y < top p
   unfolding top
+  free_below nil k y h = elim h [ ]
   free_below (assign x e) k y (inl h) = omega (arith, number_below var x k y h)
   free_below (assign x e) k y (inr r) = omega (arith, occurs_below r.1)
   free_below (let_in x l e p) k y (inl r) = omega (arith, occurs_below r.1)

@@ -82,6 +82,7 @@ module _ {L : Type 0} (names : Names L) where
           true≢false (sym (rw (z, e) (same_self k y)) ∙ n)
 
   free_scoped : (p : Proc L) (scope : ℕ → Bool) → Scoped names scope p → (k : Kind) (y : ℕ) → Free k y p → In scope k y
+  free_scoped nil scope u k y h = elim h [ ]
   free_scoped (assign x e) scope u k y (inl h) = in_scope scope var x k y u.0.0 (ap not u.0.1) h
   free_scoped (assign x e) scope u k y (inr r) = reads_scope scope e k y u.1 r
   free_scoped (let_in x δ e p) scope u k y (inl r) = reads_scope scope e k y u.1 r
@@ -111,6 +112,9 @@ module _ {L : Type 0} (names : Names L) where
   -- what is declared is no session name
   declared_owned : (p : Proc L) (scope : ℕ → Bool) → Scoped names scope p → (k : Kind) (y : ℕ) → Declared k y p →
       names.is_session y ≡ false
+  declared_owned nil scope u k y d = elim d [ ]
+  declared_owned (assign x e) scope u k y d = elim d [ ]
+  declared_owned (emit a) scope u k y d = elim d [ ]
   declared_owned (let_in x δ e p) scope u k y (inl h) = owned var x k y u.0.owned h
   declared_owned (let_in x δ e p) scope u k y (inr d) = declared_owned p (with_name scope x) u.2 k y d
   declared_owned (if_then_else e p q) scope u k y (inl d) = declared_owned p scope u.1 k y d

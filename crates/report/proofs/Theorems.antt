@@ -12,7 +12,7 @@ use Rattle.language.specs.Syntax.{Names, Proc, nil, is_nil}
 use Rattle.language.specs.NameKinds.{Kind, var, sig, put}
 use Rattle.language.specs.Typing.{Environment, environment}
 use Rattle.language.specs.Steps.{held, present, Output, Inputs}
-use Rattle.language.specs.Calls.{Line, Ending, System, Run, called_for, output, next}
+use Rattle.language.specs.Calls.{Line, Ending, System, Run, called_for}
 use Rattle.language.specs.Instants as inplace
 use Rattle.language.specs.Paths as paths
 use Rattle.language.proofs.NameKinds.{other}
@@ -54,7 +54,8 @@ module _ {L : Type 0} where
   with_name_lem Γ m k z δ h j x l = rw (other k z j x (λ e q. omega arith)) (h j x (omega arith))
 
   move_finite :
-      {Γ Γ' : Environment L} {S S' : ℕ → _} {E E' : ℕ → Bool} {p p' : Proc L} {o : Output} (m : ℕ) →
+      {Γ : Environment L} {S : ℕ → _} {E : ℕ → Bool} {Γ' : Environment L} {S' : ℕ → _} {E' : ℕ → Bool}
+      {p p' : Proc L} {o : Output} (m : ℕ) →
       Move Γ S E p o Γ' S' E' p' → NamesBelow m Γ → (m' : ℕ) × NamesBelow m' Γ'
   move_finite m ASSIGN-OP h = (m, h)
   move_finite m SEQ-OP₁ h = (m, h)

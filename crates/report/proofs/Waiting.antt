@@ -6,7 +6,7 @@ use mathlib.Core.Logic.{inl, inr, ⊎_elim}
 use Rattle.language.specs.Syntax.{Proc, nil, sequence, watching, when, parallel}
 use Rattle.language.specs.NameKinds.{Kind, sig}
 use Rattle.language.proofs.NameKinds.{same_self}
-use Rattle.report.specs.Names.{Free, Renaming, Renamed, r_nil, r_sequence, r_watching, r_when, r_parallel}
+use Rattle.report.specs.Names.{Free, Renaming, Renamed, r_nil, r_assign, r_let, r_if, r_while, r_sequence, r_emit, r_local, r_watching, r_when, r_parallel}
 use Rattle.language.specs.Suspension.{Suspended, WHEN-SUS₁, WHEN-SUS₂, WATCH-SUS, SEQ-SUS, PAR-SUS}
 use Rattle.language.specs.Instants.{Changed, WATCH-PRESENT, WATCH-ABSENT, WHEN-PRESENT, WHEN-ABSENT, SEQ-CHANGED, PAR-CHANGED}
 use Rattle.report.proofs.Clean.{Clean, Kept, kept_sequence, kept_watching, kept_when, kept_nil, kept_same, kept_both}
@@ -16,7 +16,7 @@ module _ {L : Type 0} (D E : ℕ → Bool) where
   abbrev pub Signals : Renaming → Proc L → Type 0
   Signals ρ p = (a : ℕ) → Free sig a p → D a ≡ E (ρ sig a)
 
-  pub suspended_back : {ρ : Renaming} {p P : Proc L} → Suspended E P → Renamed ρ p P → Signals ρ p → Suspended D p
+  pub suspended_back : {ρ : Renaming} {P p : Proc L} → Suspended E P → Renamed ρ p P → Signals ρ p → Suspended D p
   suspended_back (WHEN-SUS₁ e) (r_when {a = a} q d) o = WHEN-SUS₁ (o a (inl (same_self sig a)) ∙ ap E (sym q) ∙ e)
   suspended_back (WHEN-SUS₂ f) (r_when q d) o = WHEN-SUS₂ (suspended_back f d (λ b g. o b (inr g)))
   suspended_back (WATCH-SUS f) (r_watching q d) o = WATCH-SUS (suspended_back f d (λ b g. o b (inr g)))
@@ -26,6 +26,13 @@ module _ {L : Type 0} (D E : ℕ → Bool) where
 
   pub suspended_forth : {ρ : Renaming} {p P : Proc L} → Renamed ρ p P → Signals ρ p → Suspended D p →
       Suspended E P
+  suspended_forth r_nil o f = elim f [ ]
+  suspended_forth (r_assign q q') o f = elim f [ ]
+  suspended_forth (r_let q c d) o f = elim f [ ]
+  suspended_forth (r_if q d d') o f = elim f [ ]
+  suspended_forth (r_while q d) o f = elim f [ ]
+  suspended_forth (r_emit q) o f = elim f [ ]
+  suspended_forth (r_local c d) o f = elim f [ ]
   suspended_forth (r_when {a = a} q d) o (WHEN-SUS₁ e) = WHEN-SUS₁
       (ap E q ∙ sym (o a (inl (same_self sig a))) ∙ e)
   suspended_forth (r_when q d) o (WHEN-SUS₂ f) = WHEN-SUS₂ (suspended_forth d (λ b g. o b (inr g)) f)
@@ -43,7 +50,7 @@ module _ {L : Type 0} (D E : ℕ → Bool) where
     pub kept : Kept p rest
 
   pub changed_back :
-      {ρ : Renaming} {p P P' : Proc L} → Changed E P P' → Renamed ρ p P → Signals ρ p → Clean p → ChangedBack ρ p P'
+      {ρ : Renaming} {P P' p : Proc L} → Changed E P P' → Renamed ρ p P → Signals ρ p → Clean p → ChangedBack ρ p P'
   changed_back (WATCH-PRESENT e) (r_watching {a = a} q d) o c =
       record {
         rest = nil;
