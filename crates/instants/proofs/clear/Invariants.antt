@@ -1,15 +1,11 @@
 -- `clear`: the names below x hold their new values, the others what they held.
-use mathlib.Core.Path.{sym, ◌∙◌}
 use mathlib.Core.Bool.{cond}
-use mathlib.Core.Logic.{⊎_elim}
 use Prim.Native.Nat.{◌-◌}
-use native.Mathlib.Omega.{arith}
 use lib.IntN.{pos}
 use Rattle.language.specs.Steps.{held}
 use Rattle.program.specs.Program.{names_of}
 use Rattle.instants.specs.Promises.{is_cleared}
-use Rattle.instants.proofs.Clearing.{Renewed, renewed_none, renewed_set, renewed_kept, renewed_all, all_cleared}
-use borrow.Author.Rules.{rules}
+use Rattle.instants.proofs.Clearing.{Renewed}
 use Rattle.instants.proofs.clear.Given as goal
 
 abbrev pub invariant-loop-x : goal.invariant-loop-x

@@ -1,7 +1,6 @@
 -- `is_cleared`: by the test.
 use mathlib.Core.Path.{ap}
 use mathlib.Core.Bool.{not}
-use borrow.Author.Rules.{rules}
 use Rattle.instants.proofs.is_cleared.Goals as goal
 
 pub returns-then-owned : goal.returns-then-owned

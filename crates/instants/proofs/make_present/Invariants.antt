@@ -1,12 +1,6 @@
 -- `make_present`: the signals of the pairs before k are present.
-use mathlib.Core.Path.{◌≡◌, subst}
-use Prim.Native.Nat.{◌-◌, ◌≤◌, ◌<◌}
-use native.Mathlib.Omega.{arith}
-use lib.ListN.{length}
-use Rattle.inputs.specs.Lists.{pair_count}
+use Prim.Native.Nat.{◌-◌, ◌≤◌}
 use Rattle.instants.specs.Promises.{MadePresent}
-use Rattle.instants.proofs.Presence.{present_none, present_more}
-use borrow.Author.Rules.{rules}
 use Rattle.instants.proofs.make_present.Given as goal
 
 abbrev pub invariant-loop-k : goal.invariant-loop-k

@@ -1,14 +1,10 @@
 -- `some_signal_present`: of the names passed none is a signal that is present.
 use mathlib.Core.Path.{sym, ap, ap₂, ◌∙◌}
 use mathlib.Core.Bool.{◌&&◌}
-use mathlib.Core.Logic.{⊎_elim}
-use Prim.Native.Nat.{◌-◌, ◌≤◌}
 use native.Mathlib.Omega.{arith}
 use borrow.Author.Count.{below_none, below_more}
-use Rattle.prelude.proofs.Searches.{NoneBelow, past, any_some, any_none}
+use Rattle.prelude.proofs.Searches.{past, any_some, any_none}
 use Rattle.language.specs.Steps.{present}
-use Rattle.program.specs.Program.{names_of}
-use Rattle.instants.specs.Promises.{is_present_signal}
 use borrow.Author.Rules.{rules}
 use Rattle.instants.proofs.some_signal_present.Goals as goal
 use Rattle.instants.proofs.some_signal_present.Goals.{else-is_signal-via-then-is_signal+else-is_present as absent, else-is_signal-via-else-is_signal as register}

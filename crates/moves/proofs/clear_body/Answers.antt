@@ -4,7 +4,6 @@ use mathlib.Core.List.{List, [], ◌∷◌}
 use Prim.Native.Nat.{ℕ}
 use native.Mathlib.Omega.{arith}
 use lib.ListN.{length, set, replicate}
-use borrow.Author.Rules.{rules}
 use Rattle.moves.proofs.clear_body.Goals as goal
 
 one-clear : (st : List ℕ) → length st ≡ 1 → set st 0 0 ≡ replicate (length st) 0

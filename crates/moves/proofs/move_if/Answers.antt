@@ -3,7 +3,6 @@ use mathlib.Core.Path.{sym, ◌∙◌}
 use native.Mathlib.Omega.{arith}
 use Rattle.residual.proofs.Residuals.{some_bytes}
 use Rattle.moves.proofs.OwnMoves.{fields, then_moves, else_moves}
-use borrow.Author.Rules.{rules}
 use Rattle.moves.proofs.move_if.Goals as goal
 
 pub test_holds-requires : goal.test_holds-requires

@@ -5,7 +5,6 @@ use mir.Facts.{to_z-of_z}
 use Rattle.residual.proofs.Residuals.{some_bytes}
 use Rattle.moves.proofs.OwnMoves.{fields, let_moves}
 use borrow.Author.Rules.{Fits-under}
-use borrow.Author.Rules.{rules}
 use Rattle.moves.proofs.move_let.Goals as goal
 
 pub value_of-v-requires : goal.value_of-v-requires

@@ -3,7 +3,6 @@ use native.Mathlib.Omega.{arith}
 use Rattle.residual.proofs.Residuals.{some_bytes}
 use Rattle.moves.proofs.OwnMoves.{fields, local_moves}
 use borrow.Author.Rules.{Fits-under}
-use borrow.Author.Rules.{rules}
 use Rattle.moves.proofs.move_local.Goals as goal
 
 pub offset_bounds-values-a : goal.offset_bounds-values-a

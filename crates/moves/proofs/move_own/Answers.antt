@@ -20,7 +20,6 @@ use Rattle.moves.specs.Promises.{CanMoveItself, WriterAt, needs_line, Writes, af
 use Rattle.moves.specs.Moves.{stays}
 use Rattle.moves.proofs.Advancing.{goes_silently, stops_full, stops_written}
 use Rattle.moves.proofs.OwnMoves.{is_itself, writer_is, is_silent, itself_live, name_known}
-use borrow.Author.Rules.{rules}
 use Rattle.moves.proofs.move_own.Goals as goal
 use Rattle.moves.proofs.move_own.Goals.{After-a_at-x, After-note-noted, After-written-v, Then-is_writer}
 

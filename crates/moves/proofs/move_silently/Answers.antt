@@ -1,7 +1,6 @@
 -- `move_silently`: by the kind.
 use mathlib.Core.Path.{subst}
 use mathlib.Core.Logic.{⊎_elim}
-use borrow.Author.Rules.{rules}
 use Rattle.moves.specs.Promises.{Unmoved}
 use Rattle.moves.proofs.move_silently.Goals as goal
 

@@ -4,7 +4,6 @@ use mathlib.Core.Path.{sym, ◌∙◌}
 use native.Mathlib.Omega.{arith}
 use Rattle.residual.proofs.Residuals.{some_bytes}
 use Rattle.moves.proofs.OwnMoves.{fields, done_moves, round_moves, cleared_long}
-use borrow.Author.Rules.{rules}
 use Rattle.moves.proofs.move_while.Goals as goal
 
 pub test_holds-requires : goal.test_holds-requires

@@ -5,7 +5,6 @@ use native.Mathlib.Omega.{arith}
 use mir.Syntax.{w32}
 use mir.Facts.{to_z-of_z}
 use Rattle.moves.proofs.OwnMoves.{writer_fields, assign_writes, emit_writes}
-use borrow.Author.Rules.{rules}
 use Rattle.moves.proofs.written.Goals as goal
 use Rattle.moves.proofs.written.Goals.{Else-kind-eq-EMIT}
 

@@ -1,5 +1,5 @@
 -- `is_suspended` and `rear_waits`: by the form of the node, its part in front decides, or the part behind it.
-use mathlib.Core.Path.{◌≡◌, refl, sym, ap, ◌∙◌, subst}
+use mathlib.Core.Path.{◌≡◌, sym, ap, ◌∙◌, subst}
 use mathlib.Core.Bool.{true, false}
 use mathlib.Core.List.{List}
 use Prim.Native.Nat.{ℕ, ◌<◌, ◌≤◌}
@@ -9,12 +9,12 @@ use lib.ListN.{length}
 use Rattle.language.specs.Steps.{suspended}
 use Rattle.program.specs.Program.{kind_at}
 use Rattle.program.specs.declared.forms.Front.{Front}
-use Rattle.program.specs.Forms.{form_of, itself, guarded, beside, part_in}
+use Rattle.program.specs.Forms.{form_of, itself, beside, part_in}
 use Rattle.program.proofs.Fronts.{front_form}
 use Rattle.residual.specs.Residual.{own}
 use Rattle.residual.specs.Nodes.{NodeIn, in_front, in_rear, residual_of}
 use Rattle.residual.proofs.Residuals.{some_bytes}
-use Rattle.instants.specs.Promises.{RearAsked, RearWaits}
+use Rattle.instants.specs.Promises.{RearAsked}
 use Rattle.instants.proofs.Deciding.{found_in, Part, front_part, rear_part, rear_found, stays, signal_known, shuts, rear_decides}
 use Rattle.instants.proofs.suspension.+is_suspended_rear_waits.Goals as goal
 use Rattle.instants.proofs.suspension.+is_suspended_rear_waits.Goals.{is_suspended-else-form-eq-GUARDED-via-then-form-eq-GUARDED+else-not-signal_is_present as passes, is_suspended-else-form-eq-GUARDED-via-else-form-eq-GUARDED as other}

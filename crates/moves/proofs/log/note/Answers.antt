@@ -8,10 +8,9 @@ use lib.IntN.{ℤ}
 use mir.Syntax.{w32}
 use mir.Val.{SFits, of_z}
 use mir.Facts.{to_z-of_z}
-use borrow.Author.Tests.{lt-ltb, le-ltb, not-true, not-false}
+use borrow.Author.Tests.{lt-ltb, le-ltb}
 use Rattle.values.proofs.Signed.{read_back}
 use Rattle.moves.specs.Moves.{put_words, put_line}
-use borrow.Author.Rules.{rules}
 use Rattle.moves.proofs.log.note.Goals as goal
 
 pub returns-then-not-needed : goal.returns-then-not-needed

@@ -1,7 +1,6 @@
 -- `put_line`: a store keeps the length.
 use native.Mathlib.Omega.{arith}
 use lib.ListN.{length-set}
-use borrow.Author.Rules.{rules}
 use Rattle.moves.proofs.log.put_line.Goals as goal
 
 pub bounds-log-at-2 : goal.bounds-log-at-2

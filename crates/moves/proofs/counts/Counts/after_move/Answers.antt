@@ -1,7 +1,6 @@
 -- `after_move`: one step more.
 use mathlib.Core.Path.{ap}
 use native.Mathlib.Numerals.{add-one}
-use borrow.Author.Rules.{rules}
 use Rattle.moves.proofs.counts.Counts.after_move.Goals as goal
 
 pub returns : goal.returns
