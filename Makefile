@@ -5,15 +5,18 @@
 test:
 	@tests/gate.sh
 
-# Proves and builds the program, and runs it on the example of 01.
+# Proves and builds the program, and runs it on the example of 01. (`rt run` runs what it has built, too, where there is no
+# script: what that prints goes to its log.)
 run:
 	@tests/prove.sh station
+	@cd crates/station && rt run >../../target/run.log 2>&1 || { cat ../../target/run.log; exit 1; }
+	@mkdir -p target/bin && cp crates/station/out/station target/bin/station
 	@cd crates/station/data && ../../../target/bin/station
 
 # Proves and builds the static library for C and Rust.
 library:
-	@tests/prove.sh engine
-	@[ target/staticlib/libengine.a -nt target/rlib/engine.rlib ] || rt staticlib engine >target/staticlib.log 2>&1 || { cat target/staticlib.log; exit 1; }
+	@tests/prove.sh engine_c
+	@tests/staticlib.sh
 
 # Millions of cases against the second interpreter: make compare CASES=5000000 SEED=7
 CASES ?= 1000000

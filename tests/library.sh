@@ -1,5 +1,5 @@
 #!/usr/bin/env bash
-# Tests the built library as C and Rust programs use it, beside the second interpreter. `rt staticlib engine` has built it.
+# Tests the built library as C and Rust programs use it, beside the second interpreter. `tests/staticlib.sh` has built it.
 # The last line is 'N passed, M failed'.
 set -u
 cd "$(dirname "$0")/.."

@@ -1,4 +1,4 @@
-// Links the engine's static library. `rt staticlib engine` builds it into target/staticlib of the repository; another
+// Links the engine's static library. `make library` builds it into target/staticlib of the repository; another
 // folder can be named in STATION_LIB_DIR, by its full path.
 use std::env;
 use std::path::PathBuf;

@@ -1,5 +1,6 @@
-// The calls for C. A slice is a pointer and then a length in elements. With an `out` of another length than the call's
-// words, or `flows` of another than the most levels, nothing happens: every buffer is left untouched.
+// The calls for C, which the static library `engine_c` exports. A slice is a pointer and then a length in elements. With an
+// `out` of another length than the call's words, or `flows` of another than the most levels, nothing happens: every buffer is
+// left untouched.
 ghost use Rattle.std.specs.Prelude.{◌≡◌};
 ghost use Rattle.engine.specs.Answers.{verdict, flows_found, left};
 ghost use Rattle.results.specs.Words.{verdict_words, result_words, flows_words};

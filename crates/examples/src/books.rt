@@ -8,51 +8,54 @@ use crate::say;
 use book::Book;
 use pairs::table;
 use pairs::table::PairTable;
+use std::io;
+use std::io::Write;
 
 // What the tables have everywhere that are handed to a sweep of the first pairs: no level.
 const MARK: u8 = 99;
 
 // The levels that a table keeps for level i and each level.
-fn say_row(t: &PairTable, n: usize, i: usize)
+fn say_row<W: Write>(out: &mut W, t: &PairTable, n: usize, i: usize) -> io::Result<()>
     requires { (i < n) × (n ≤ most_levels) }
 {
     let mut j: usize = 0;
     while j < n {
-        say(b" ", table::level_at(t, i, j));
+        say(out, b" ", table::level_at(t, i, j))?;
         j += 1;
     }
-    text::say_byte(b'\n');
+    text::say_byte(out, b'\n')
 }
 
-fn say_table(title: &[u8], t: &PairTable, n: usize)
+fn say_table<W: Write>(out: &mut W, title: &[u8], t: &PairTable, n: usize) -> io::Result<()>
     requires { n ≤ most_levels }
 {
-    text::say(title);
+    text::say(out, title)?;
     let mut i: usize = 0;
     while i < n {
-        say_row(t, n, i);
+        say_row(out, t, n, i)?;
         i += 1;
     }
+    Ok(())
 }
 
-fn say_tables(join: PairTable, meet: PairTable, n: usize)
+fn say_tables<W: Write>(out: &mut W, join: PairTable, meet: PairTable, n: usize) -> io::Result<()>
     requires { n ≤ most_levels }
 {
-    say_table(b"\njoins\n", &join, n);
-    say_table(b"meets\n", &meet, n);
+    say_table(out, b"\njoins\n", &join, n)?;
+    say_table(out, b"meets\n", &meet, n)
 }
 
-fn say_book(b: Book, join: PairTable, meet: PairTable)
+fn say_book<W: Write>(out: &mut W, b: Book, join: PairTable, meet: PairTable) -> io::Result<()>
     requires { b.count ≤ most_levels }
 {
-    say(b"levels ", b.count);
-    say(b" bottom ", lattice::bottom_of(b));
-    say(b" top ", lattice::top_of(b));
-    say_tables(join, meet, b.count);
+    say(out, b"levels ", b.count)?;
+    say(out, b" bottom ", lattice::bottom_of(b))?;
+    say(out, b" top ", lattice::top_of(b))?;
+    say_tables(out, join, meet, b.count)
 }
 
 // All of a book in order, or refusal 3.
-fn show_all(b: Book)
+fn show_all<W: Write>(out: &mut W, b: Book) -> io::Result<()>
     requires { InOrder b.rows b.count }
 {
     let mut join = table::new_table();
@@ -60,34 +63,32 @@ fn show_all(b: Book)
     let swept = pairs::sweep(b, Book::PLACES, &mut join, &mut meet);
     let lack = pairs::lack_refusal(swept.place);
     if 0 < lack.number {
-        text::say_refusal(lack.number, lack.place);
-        return;
+        return text::say_refusal(out, lack.number, lack.place);
     }
-    say_book(b, join, meet);
+    say_book(out, b, join, meet)
 }
 
 // What a sweep over the first `most` pairs of a book in order gives, and what it leaves in tables of marks.
-fn show_first(b: Book, most: usize)
+fn show_first<W: Write>(out: &mut W, b: Book, most: usize) -> io::Result<()>
     requires { InOrder b.rows b.count }
 {
     let mut join = [[MARK; Book::MAX_LEVELS]; Book::MAX_LEVELS];
     let mut meet = [[MARK; Book::MAX_LEVELS]; Book::MAX_LEVELS];
     let swept = pairs::sweep(b, most, &mut join, &mut meet);
-    say(b"taken ", swept.taken);
-    say(b" place ", swept.place);
-    say_tables(join, meet, b.count);
+    say(out, b"taken ", swept.taken)?;
+    say(out, b" place ", swept.place)?;
+    say_tables(out, join, meet, b.count)
 }
 
 // A level book: all of it, or its first `most` pairs alone.
-pub fn show(file: &[u8], all: bool, most: usize) {
+pub fn show<W: Write>(out: &mut W, file: &[u8], all: bool, most: usize) -> io::Result<()> {
     let read = order::load(file);
     if 0 < read.refusal.number {
-        text::say_refusal(read.refusal.number, read.refusal.place);
-        return;
+        return text::say_refusal(out, read.refusal.number, read.refusal.place);
     }
     if all {
-        show_all(read.book);
+        show_all(out, read.book)
     } else {
-        show_first(read.book, most);
+        show_first(out, read.book, most)
     }
 }

@@ -7,48 +7,54 @@ mod scripts; // scripts.rt: script files
 
 ghost use Rattle.std.specs.Prelude.{◌<◌, length};
 
-use libc::{STDIN_FILENO, STDOUT_FILENO};
-use text::hex;
+use std::io;
+use std::io::Write;
+use text::{hex, input};
+
+// The most bytes that are read of the files.
+const TEXT: usize = 4096;
 
 // A word and a number.
-fn say(word: &[u8], n: usize) {
-    text::say(word);
-    io::print_decimal(STDOUT_FILENO, n as u64);
+fn say<W: Write>(out: &mut W, word: &[u8], n: usize) -> io::Result<()> {
+    text::say(out, word)?;
+    write!(out, "{n}")
 }
 
 // The number of pairs, and a level book.
-fn show_first(bytes: &[u8]) {
+fn show_first<W: Write>(out: &mut W, bytes: &[u8]) -> io::Result<()> {
     if 0 < bytes.len() {
-        books::show(&bytes[1..], false, prelude::wide(bytes[0]));
+        books::show(out, &bytes[1..], false, prelude::wide(bytes[0]))?;
     }
+    Ok(())
 }
 
 // A line's first byte says what it is.
-fn take_line(line: &[u8])
+fn take_line<W: Write>(out: &mut W, line: &[u8]) -> io::Result<()>
     requires { 0 < length line.now }
 {
     let mut bytes = [0u8; 64];
     let n = hex::read(line, &mut bytes, 0);
     let file = &bytes[0..n];
     match line[0] {
-        b'b' => books::show(file, true, 0),
-        b'f' => show_first(file),
-        b's' => scripts::show(file),
-        _ => {}
+        b'b' => books::show(out, file, true, 0),
+        b'f' => show_first(out, file),
+        b's' => scripts::show(out, file),
+        _ => Ok(()),
     }
 }
 
-fn show_files(text: &[u8]) {
+fn show_files<W: Write>(out: &mut W, text: &[u8]) -> io::Result<()> {
     let mut at: usize = 0;
     while at < text.len() {
         let next = hex::line_end(text, at);
-        take_line(&text[at..next]);
+        take_line(out, &text[at..next])?;
         at = next;
     }
+    Ok(())
 }
 
-fn main() {
-    let mut text = io::buffer();
-    let n = io::read_full(STDIN_FILENO, &mut text);
-    show_files(&text[..n]);
+fn main(rt: HostRuntime) -> io::Result<()> {
+    let mut text = [0u8; TEXT];
+    let n = input::read_full(&mut rt.stdin(), &mut text)?;
+    show_files(&mut rt.stdout(), &text[..n])
 }

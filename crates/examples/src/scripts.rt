@@ -4,24 +4,26 @@ ghost use Rattle.script.specs.Checked.{Checked};
 
 use crate::say;
 use layout::Script;
+use std::io;
+use std::io::Write;
 
-fn say_script(file: &[u8], c: Script)
+fn say_script<W: Write>(out: &mut W, file: &[u8], c: Script) -> io::Result<()>
     requires { Laid file.now c × Checked file.now }
 {
     let sizes = tree::sizes::find_sizes(file, c);
     let n = c.nodes;
-    say(b"names ", c.names);
-    say(b" expressions ", c.expressions);
-    say(b" nodes ", n);
-    say(b" size ", sizes[n - 1] as usize);
-    text::say_byte(b'\n');
+    say(out, b"names ", c.names)?;
+    say(out, b" expressions ", c.expressions)?;
+    say(out, b" nodes ", n)?;
+    say(out, b" size ", sizes[n - 1] as usize)?;
+    text::say_byte(out, b'\n')
 }
 
-pub fn show(file: &[u8]) {
+pub fn show<W: Write>(out: &mut W, file: &[u8]) -> io::Result<()> {
     let loaded = script::load(file, 2);
     if 0 < loaded.refusal.number {
-        text::say_refusal(loaded.refusal.number, loaded.refusal.place);
+        text::say_refusal(out, loaded.refusal.number, loaded.refusal.place)
     } else {
-        say_script(file, loaded.script);
+        say_script(out, file, loaded.script)
     }
 }

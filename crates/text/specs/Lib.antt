@@ -1,2 +1,3 @@
--- What lines of text mean.
+-- What lines of text mean, and the text of numbers.
 pub mod Hex
+pub mod Written

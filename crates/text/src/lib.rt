@@ -1,32 +1,49 @@
-// What programs write and read: words and numbers on standard output, and bytes that are written down in hexadecimal.
+// What programs write and read: words and numbers that go to a writer, and bytes that are written down in hexadecimal.
 #![tactic(auto)]
 
 pub mod hex; // hex.rt: lines of hexadecimal digits
+pub mod input; // input.rt: bytes from a reader
 
-use libc::STDOUT_FILENO;
+ghost use Rattle.std.specs.Prelude.{[], ◌∷◌, OnOk, codes};
+ghost use Rattle.std.specs.Io.KnownBytes.{Appends};
+ghost use Rattle.text.specs.Written.{number_text, pair_text};
 
-pub fn say(text: &[u8]) {
-    io::write_all(STDOUT_FILENO, text);
+use std::io;
+use std::io::Write;
+
+pub fn say<W: Write>(out: &mut W, text: &[u8]) -> io::Result<()>
+    ensures { OnOk result (Appends (W.contents out.old) (W.contents out.new) text.now) }
+{
+    out.write_all(text)
 }
 
-pub fn say_byte(byte: u8) {
+pub fn say_byte<W: Write>(out: &mut W, byte: u8) -> io::Result<()>
+    ensures { OnOk result (Appends (W.contents out.old) (W.contents out.new) (byte ∷ [])) }
+{
     let text = [byte];
-    say(&text);
+    say(out, &text)
 }
 
 // A number, and the byte that ends it.
-pub fn say_number(n: u64, end: u8) {
-    io::print_decimal(STDOUT_FILENO, n);
-    say_byte(end);
+pub fn say_number<W: Write>(out: &mut W, n: u64, end: u8) -> io::Result<()>
+    ensures { OnOk result (Appends (W.contents out.old) (W.contents out.new) (number_text n end)) }
+{
+    write!(out, "{n}")?;
+    say_byte(out, end)
 }
 
 // A line of a word and two numbers.
-pub fn say_pair(word: &[u8], a: u32, b: u32) {
-    say(word);
-    say_number(a as u64, b' ');
-    say_number(b as u64, b'\n');
+pub fn say_pair<W: Write>(out: &mut W, word: &[u8], a: u32, b: u32) -> io::Result<()>
+    ensures { OnOk result (Appends (W.contents out.old) (W.contents out.new) (pair_text word.now a b)) }
+{
+    say(out, word)?;
+    say_number(out, a as u64, b' ')?;
+    say_number(out, b as u64, b'\n')
 }
 
-pub fn say_refusal(number: u32, place: u32) {
-    say_pair(b"refused ", number, place);
+// The line of a refusal: the word, its number and its place.
+pub fn say_refusal<W: Write>(out: &mut W, number: u32, place: u32) -> io::Result<()>
+    ensures { OnOk result (Appends (W.contents out.old) (W.contents out.new) (pair_text (codes "refused ") number place)) }
+{
+    say_pair(out, b"refused ", number, place)
 }
