@@ -2,7 +2,6 @@
 use native.Mathlib.Omega.{arith}
 use borrow.Author.Tests.{lt-ltb, le-ltb, eq-eqb, ne_eqb}
 use Rattle.arguments.specs.Refusals.{call_refusal}
-use borrow.Author.Rules.{rules}
 use Rattle.arguments.proofs.call_refusal.Goals as goal
 
 pub returns-then-levels-reader : goal.returns-then-levels-reader

@@ -19,7 +19,6 @@ use Rattle.layout.specs.declared.parts.Name.{Name}
 use Rattle.layout.specs.Entries.{name_of, session, is_session}
 use Rattle.tree.specs.Tree.{names_of}
 use Rattle.arguments.specs.Refusals.{value_is_right}
-use borrow.Author.Rules.{rules}
 use Rattle.arguments.proofs.value_is_right.Goals as goal
 
 -- the machine's equality of values is that of their bits

@@ -14,7 +14,7 @@ use Rattle.layout.specs.Layout.{name_count}
 use Rattle.layout.specs.Promises.{Laid}
 use Rattle.layout.proofs.Layouts.{few_bounds, names_are}
 use Rattle.arguments.specs.Refusals.{first_wrong, values_refusal}
-use borrow.Author.Rules.{rules, Fits-under}
+use borrow.Author.Rules.{Fits-under}
 use Rattle.arguments.proofs.values_refusal.Goals as goal
 
 module _ {s : List ℕ} {c : Script} (laid : Laid s c) (values : List ℤ) where

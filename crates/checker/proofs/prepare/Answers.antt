@@ -12,7 +12,6 @@ use Rattle.pairs.specs.declared.Swept.{Swept}
 use Rattle.pairs.specs.Refusals.{lack_refusal}
 use Rattle.pairs.specs.Sweeping.{level_pairs, Sweeps}
 use Rattle.book.specs.LevelBook.{most_levels, at_or_below}
-use Rattle.book.specs.Load.{book_of}
 use Rattle.lattice.specs.Refusals as books
 use Rattle.lattice.proofs.Loads.{order_refused, book_read, in_order, pairs_refused, joins_kept, meets_kept}
 use Rattle.pairs.proofs.Numbers.{pairs_fit}

@@ -6,10 +6,8 @@ use native.Mathlib.Omega.{arith}
 use borrow.Author.Tests.{eq-eqb, ne_eqb}
 use Rattle.prelude.specs.Refusals.{passes}
 use Rattle.script.specs.declared.LoadedScript.{LoadedScript}
-use Rattle.layout.specs.Promises.{Laid}
 use Rattle.script.specs.Refusals as files
 use Rattle.script.specs.Load.{loaded}
-use Rattle.script.specs.Checked.{Checked, Levelled}
 use Rattle.layout.proofs.Layouts.{few_bounds, nodes_are}
 use Rattle.script.proofs.Theorems.{loaded_checked}
 use Rattle.flow.specs.Flow.{lattice, levels_of}

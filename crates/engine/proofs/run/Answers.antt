@@ -21,7 +21,6 @@ use Rattle.checker.proofs.Preparing.{found_refusal, found_book, found_layout}
 use Rattle.arguments.specs.Refusals.{call_refusal, run_refusal}
 use Rattle.engine.specs.Answers.{Left}
 use Rattle.engine.proofs.Leaving.{refused_left_lem, by_check, by_call, can_start, Leaves, leaves}
-use borrow.Author.Rules.{rules}
 use Rattle.engine.proofs.run.Goals as goal
 
 module _ (b s : List ℕ) (p : Prepared) (e : Prepares (check_refusal b s) (book_lattice b) (book_of b) s p) (zero : p.refusal.number ≡ 0) where

@@ -8,7 +8,6 @@ use Rattle.layout.proofs.Layouts.{few_bounds, nodes_are}
 use Rattle.program.specs.Program.{node_count}
 use Rattle.residual.proofs.Residuals.{take_zeros}
 use Rattle.engine.proofs.Starting.{listed_in, returns_run}
-use borrow.Author.Rules.{rules}
 use Rattle.engine.proofs.run_checked.Goals as goal
 
 -- the state is clear

@@ -5,7 +5,6 @@ use native.Mathlib.Nat.{le_refl}
 use native.Mathlib.Omega.{arith}
 use Rattle.inputs.specs.Lists.{pair_count}
 use Rattle.runner.proofs.Waiting.{waits_none, waits_past, waits_ahead}
-use borrow.Author.Rules.{rules}
 use Rattle.runner.proofs.idle_changes.Goals as goal
 use Rattle.runner.proofs.idle_changes.Goals.{After-instant_at, Else-pair_count-cursor}
 

@@ -4,7 +4,6 @@ use native.Mathlib.Numerals.{add-one}
 use native.Mathlib.Omega.{arith}
 use Rattle.moves.specs.declared.counts.Counts.{Counts}
 use Rattle.runner.proofs.Entering.{in_order, entered_is}
-use borrow.Author.Rules.{rules}
 use Rattle.runner.proofs.next_instant.Goals as goal
 
 pub begin_instant-requires : goal.begin_instant-requires

@@ -1,5 +1,4 @@
 -- `run_instant`: the script's node is advanced.
-use borrow.Author.Rules.{rules}
 use Rattle.runner.proofs.run_instant.Goals as goal
 
 pub advance-requires : goal.advance-requires

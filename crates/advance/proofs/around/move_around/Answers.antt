@@ -2,7 +2,6 @@
 use mathlib.Core.Path.{sym, ap, ◌∙◌}
 use borrow.Author.Tests.{le-leb, lt-leb}
 use Rattle.moves.specs.declared.counts.Moved.TheVariants.{Again}
-use borrow.Author.Rules.{rules}
 use Rattle.advance.proofs.around.move_around.Goals as goal
 
 pub returns-then-limit-at : goal.returns-then-limit-at

@@ -1,26 +1,22 @@
 -- `find_next`: by the form of the node.
 use mathlib.Core.Path.{◌≡◌, refl, sym, ap, ◌∙◌, subst}
-use mathlib.Core.Bool.{true, false≢true}
-use mathlib.Core.Logic.{⊎_elim}
+use mathlib.Core.Bool.{false≢true}
 use Prim.Native.Nat.{ℕ, ◌<◌}
 use native.Mathlib.Omega.{arith}
 use mathlib.Core.List.{List}
 use lib.IntN.{ℤ}
 use lib.ListN.{length}
-use borrow.Author.Tests.{not-true, not-false}
-use Rattle.language.specs.Steps.{present}
 use Rattle.program.specs.Program.{kind_at}
 use Rattle.program.specs.declared.forms.Front.{Front}
-use Rattle.program.specs.Forms.{form_of, itself, before, guarded}
+use Rattle.program.specs.Forms.{form_of, itself, before}
 use Rattle.program.proofs.Fronts.{front_form}
 use Rattle.residual.specs.Residual.{own}
 use Rattle.residual.specs.Nodes.{NodeIn, in_front}
 use Rattle.residual.proofs.Residuals.{some_bytes}
-use Rattle.residual.proofs.Sights.{signal_at, part_length}
+use Rattle.residual.proofs.Sights.{part_length}
 use Rattle.instants.proofs.Deciding.{Found, Part, sees, front_part, signal_known, shuts}
 use Rattle.advance.specs.Promises.{Follows, part_ahead}
 use Rattle.advance.proofs.Entries.{own_follows, own_part, writes_both}
-use borrow.Author.Rules.{rules}
 use Rattle.advance.proofs.next.find_next.Goals as goal
 use Rattle.advance.proofs.next.find_next.Goals.{else-form-eq-GUARDED-via-then-form-eq-GUARDED+else-not-signal_is_present as open_when, else-form-eq-GUARDED-via-else-form-eq-GUARDED as other}
 

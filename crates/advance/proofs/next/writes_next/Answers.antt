@@ -2,7 +2,6 @@
 use mathlib.Core.Path.{ap, ◌∙◌}
 use borrow.Author.Tests.{eq-eqb, ne_eqb}
 use Rattle.language.specs.KindGroups.{has_write}
-use borrow.Author.Rules.{rules}
 use Rattle.advance.proofs.next.writes_next.Goals as goal
 
 pub returns-then-tag-ne-WRITTEN : goal.returns-then-tag-ne-WRITTEN

@@ -1,11 +1,9 @@
 -- `first_faulty`: the pairs below k are right.
 use mathlib.Core.Path.{sym, ap, ◌∙◌}
 use mathlib.Core.Bool.{not}
-use Prim.Native.Nat.{◌-◌, ◌≤◌}
 use native.Mathlib.Omega.{arith}
 use borrow.Author.Count.{below_none, below_more}
-use Rattle.prelude.proofs.Searches.{NoneBelow, past, first_is, first_none}
-use Rattle.arguments.specs.Refusals.{pair_is_right}
+use Rattle.prelude.proofs.Searches.{past, first_is, first_none}
 use borrow.Author.Rules.{rules}
 use Rattle.arguments.proofs.list.first_faulty.Goals as goal
 

@@ -11,7 +11,6 @@ use Rattle.layout.specs.Layout.{name_count}
 use Rattle.layout.specs.Entries.{name_of, session, is_session}
 use Rattle.layout.proofs.Layouts.{names_are}
 use Rattle.arguments.specs.Refusals.{is_session_signal}
-use borrow.Author.Rules.{rules}
 use Rattle.arguments.proofs.list.is_session_signal.Goals as goal
 use Rattle.arguments.proofs.list.is_session_signal.Goals.{Else-c-a}
 

@@ -8,7 +8,6 @@ use Rattle.prelude.specs.Search.{lesser}
 use Rattle.prelude.specs.Refusals.{refused_by, not_refused}
 use Rattle.inputs.specs.Lists.{pairs_begun}
 use Rattle.arguments.specs.Refusals.{first_faulty, last_place, list_refusal}
-use borrow.Author.Rules.{rules}
 use Rattle.arguments.proofs.list.list_refusal.Goals as goal
 
 module _ (s list : List ℕ) {k : ℕ} (e : k ≡ first_faulty s list) where

@@ -2,13 +2,11 @@
 use mathlib.Core.Path.{◌≡◌, sym, ap, ◌∙◌}
 use mathlib.Core.Bool.{false}
 use mathlib.Core.List.{List}
-use mathlib.Core.Logic.{⊎_elim}
 use Prim.Native.Nat.{ℕ, ◌-◌, ◌≤◌, ◌<◌}
 use native.Mathlib.Omega.{arith}
-use borrow.Author.Tests.{lt-ltb, le-ltb, le-leb, lt-leb, ltb-true, ltb-false}
+use borrow.Author.Tests.{lt-ltb, le-ltb, le-leb, lt-leb}
 use Rattle.inputs.specs.Lists.{instant_at, signal_at, pair_count}
 use Rattle.arguments.specs.Refusals.{is_session_signal, pair_is_right}
-use borrow.Author.Rules.{rules}
 use Rattle.arguments.proofs.list.pair_is_right.Goals as goal
 use Rattle.arguments.proofs.list.pair_is_right.Goals.{Else-instant-eq0, Else-pair_count-k, else-k-gt0-via-then-k-gt0+else-instant-instant_at as follows, else-k-gt0-via-else-k-gt0 as starts}
 

@@ -3,7 +3,6 @@ use mathlib.Core.Path.{◌≡◌, ap, ◌∙◌}
 use mathlib.Core.List.{List}
 use Prim.Native.Nat.{ℕ}
 use lib.ListN.{length}
-use borrow.Author.Rules.{rules}
 use Rattle.book.specs.LevelBook.{most_levels}
 use Rattle.results.specs.Words.{flows_words}
 use Rattle.engine.proofs.Asking.{asked, not_asked}
