@@ -2,7 +2,6 @@
 use lib.IntN.{pos}
 use lib.ListN.{get_or}
 use Rattle.values.proofs.Bits.{test_by_bits}
-use borrow.Author.Rules.{rules}
 use Rattle.evaluation.proofs.is_present.Goals as goal
 
 pub returns : goal.returns

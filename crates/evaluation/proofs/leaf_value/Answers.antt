@@ -9,7 +9,7 @@ use borrow.Author.Tests.{eq-eqb, ne_eqb}
 use Rattle.values.proofs.Bits.{given_back_lem}
 use Rattle.language.specs.Steps.{held}
 use Rattle.packing.specs.Packing.{kind_in, operand_in}
-use borrow.Author.Rules.{rules, Fits-under}
+use borrow.Author.Rules.{Fits-under}
 use Rattle.evaluation.proofs.leaf_value.Goals as goal
 use Rattle.evaluation.proofs.leaf_value.Goals.{After-operand_in-x}
 

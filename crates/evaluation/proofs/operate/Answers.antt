@@ -12,7 +12,6 @@ use Rattle.values.proofs.Signed.{read_back}
 use Rattle.program.specs.Program.{operator_of}
 use Rattle.evaluation.specs.Evaluation.{applied}
 use Rattle.values.proofs.Bits.{given_back_lem}
-use borrow.Author.Rules.{rules}
 use Rattle.evaluation.proofs.operate.Goals as goal
 
 -- the operator that is called is that of the kind

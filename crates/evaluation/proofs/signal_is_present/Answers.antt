@@ -2,7 +2,6 @@
 use mathlib.Core.Path.{ap, ◌∙◌}
 use native.Mathlib.Omega.{arith}
 use Rattle.language.specs.Steps.{present}
-use borrow.Author.Rules.{rules}
 use Rattle.evaluation.proofs.signal_is_present.Goals as goal
 
 pub is_present-requires : goal.is_present-requires

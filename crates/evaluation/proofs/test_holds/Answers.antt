@@ -2,7 +2,6 @@
 use mathlib.Core.Path.{ap, ◌∙◌}
 use Rattle.values.specs.Values.{holds}
 use Rattle.values.proofs.Bits.{test_by_bits}
-use borrow.Author.Rules.{rules}
 use Rattle.evaluation.proofs.test_holds.Goals as goal
 
 pub returns : goal.returns

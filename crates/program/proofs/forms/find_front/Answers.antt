@@ -7,7 +7,6 @@ use borrow.Author.Tests.{eq-eqb, ne_eqb}
 use Rattle.prelude.proofs.Bools.{or_first, or-true}
 use Rattle.program.specs.Forms.{second, turned}
 use Rattle.program.proofs.Fronts.{front_none, front_second, front_first}
-use borrow.Author.Rules.{rules}
 use Rattle.program.proofs.forms.find_front.Goals as goal
 
 pub returns-then-form-le-ITSELF : goal.returns-then-form-le-ITSELF

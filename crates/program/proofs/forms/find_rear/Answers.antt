@@ -1,13 +1,12 @@
 -- `find_rear`: what the word of the node tells, put together as `rear_of` does.
 use borrow.Author.Tests.{eq-eqb, ne_eqb}
 use Rattle.program.specs.Forms.{beside, rear_of}
-use borrow.Author.Rules.{rules}
 use Rattle.program.proofs.forms.find_rear.Goals as goal
 
 pub returns-then-form-eq-BESIDE : goal.returns-then-form-eq-BESIDE
 unfolding rear_of
-returns-then-form-eq-BESIDE c = rw (eq-eqb _ beside c.if-form-eq-BESIDE.true) (cc)
+returns-then-form-eq-BESIDE c = rw (eq-eqb c.args.form beside c.if-form-eq-BESIDE.true) (cc)
 
 pub returns : goal.returns
 unfolding rear_of
-returns c = rw (ne_eqb _ beside c.if-form-eq-BESIDE.false) (cc)
+returns c = rw (ne_eqb c.args.form beside c.if-form-eq-BESIDE.false) (cc)

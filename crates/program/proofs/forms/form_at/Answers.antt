@@ -2,7 +2,6 @@
 use mathlib.Core.Path.{ap₂, ◌∙◌}
 use Rattle.packing.specs.Packing.{form_in}
 use Rattle.program.proofs.Fronts.{runs_at, form_past}
-use borrow.Author.Rules.{rules}
 use Rattle.program.proofs.forms.form_at.Goals as goal
 
 pub returns-then-tag-ge-OVER : goal.returns-then-tag-ge-OVER
