@@ -51,7 +51,13 @@ fn words_of(bytes: &[u8]) -> [u32; CALL]
 }
 
 // Runs a script by the bytes of a call: its values begin at index `from`, its list at index `end`.
-fn call<W: Write>(out: &mut W, script: &[u8], bytes: &[u8], from: usize, end: usize) -> io::Result<()>
+fn call<W: Write>(
+    out: &mut W,
+    script: &[u8],
+    bytes: &[u8],
+    from: usize,
+    end: usize,
+) -> io::Result<()>
     requires { (7 ≤ from) × (from ≤ end) × (end ≤ length bytes.now) × (length bytes.now ≤ 72) }
 {
     let mut numbers = numbers_of(bytes);
