@@ -1,11 +1,6 @@
 -- `pass`: the pairs before k are of instants up to this one.
-use mathlib.Core.List.{List}
-use Prim.Native.Nat.{ℕ, ◌+◌, ◌-◌, ◌≤◌, ◌<◌}
-use native.Mathlib.Decide.{ℕ_discrete}
-use native.Mathlib.Omega.{arith}
+use Prim.Native.Nat.{ℕ, ◌-◌, ◌≤◌, ◌<◌}
 use Rattle.inputs.specs.Lists.{instant_at}
-use Rattle.inputs.proofs.Lists.{stops_at, stops_past}
-use borrow.Author.Rules.{rules}
 use Rattle.inputs.proofs.pass.Given as goal
 
 abbrev pub invariant-loop-k : goal.invariant-loop-k

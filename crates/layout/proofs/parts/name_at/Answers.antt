@@ -1,5 +1,4 @@
 -- `name_at`: the bytes of the name lie in the file.
-use borrow.Author.Rules.{rules}
 use Rattle.layout.proofs.parts.name_at.Goals as goal
 
 pub returns : goal.returns

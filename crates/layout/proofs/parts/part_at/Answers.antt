@@ -1,5 +1,4 @@
 -- `part_at`: the bytes of the part lie in the file.
-use borrow.Author.Rules.{rules}
 use Rattle.layout.proofs.parts.part_at.Goals as goal
 
 pub returns : goal.returns

@@ -1,6 +1,5 @@
 -- `at_part`: each way out decides one test of the definition.
 use borrow.Author.Tests.{lt-ltb, le-ltb}
-use borrow.Author.Rules.{rules}
 use Rattle.layout.proofs.places.at_part.Goals as goal
 
 pub returns-then-n-q : goal.returns-then-n-q

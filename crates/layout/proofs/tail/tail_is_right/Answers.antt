@@ -1,7 +1,6 @@
 -- `tail_is_right`: each way out decides one test of the definition.
 use mathlib.Core.Path.{sym, ◌∙◌}
 use borrow.Author.Tests.{le-leb, lt-leb, eq-eqb, ne_eqb}
-use borrow.Author.Rules.{rules}
 use Rattle.layout.proofs.tail.tail_is_right.Goals as goal
 
 pub returns-then-n-lt8 : goal.returns-then-n-lt8

@@ -1,5 +1,4 @@
 -- `put_flows`: number and place are stored one after the other, then the sets.
-use borrow.Author.Rules.{rules}
 use Rattle.results.proofs.Outs.{two_stored}
 use Rattle.results.proofs.words.put_flows.Goals as goal
 

@@ -1,11 +1,7 @@
 -- `put_sets`: the words below i are stored.
-use mathlib.Core.Path.{◌≡◌, sym, ◌∙◌}
-use Prim.Native.Nat.{◌-◌, ◌≤◌}
-use lib.ListN.{get_or, length, take, length-set}
+use mathlib.Core.Path.{sym, ◌∙◌}
+use lib.ListN.{length-set}
 use borrow.Author.Rules.{rules}
-use borrow.Kind.Array.{e_int, good_length}
-use mir.Syntax.{w16}
-use Rattle.prelude.specs.Table.{table}
 use Rattle.prelude.proofs.Tables.{fill_none, fill_more, fill_all, table_of}
 use Rattle.book.specs.LevelBook.{most_levels}
 use Rattle.results.proofs.words.put_sets.Goals as goal

@@ -1,12 +1,8 @@
 -- `put_sets`: the words below i are stored.
-use mathlib.Core.Path.{◌≡◌, sym, ◌∙◌}
+use mathlib.Core.Path.{◌≡◌}
 use Prim.Native.Nat.{◌-◌, ◌≤◌}
-use lib.ListN.{get_or, length, take, length-set}
-use borrow.Author.Rules.{rules}
-use borrow.Kind.Array.{e_int, good_length}
-use mir.Syntax.{w16}
+use lib.ListN.{get_or, length, take}
 use Rattle.prelude.specs.Table.{table}
-use Rattle.prelude.proofs.Tables.{fill_none, fill_more, fill_all, table_of}
 use Rattle.book.specs.LevelBook.{most_levels}
 use Rattle.results.proofs.words.put_sets.Given as goal
 

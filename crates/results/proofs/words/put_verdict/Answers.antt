@@ -1,10 +1,9 @@
 -- `put_verdict`: the words are stored one after the other.
-use mathlib.Core.Path.{◌≡◌, ap, ◌∙◌}
+use mathlib.Core.Path.{ap, ◌∙◌}
 use mathlib.Core.List.{List, ◌∷◌}
 use Prim.Native.Nat.{ℕ}
 use native.Mathlib.Omega.{arith}
 use lib.ListN.{length-set}
-use borrow.Author.Rules.{rules}
 use Rattle.results.proofs.Outs.{six_stored}
 use Rattle.results.proofs.words.put_verdict.Goals as goal
 
