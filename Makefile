@@ -1,7 +1,7 @@
 # The commands of README.md. They need the Rattle toolchain (rt), and the tests also a C compiler and cargo.
 .PHONY: test run library compare speed
 
-# Everything from nothing: proofs, must-fail edits, programs; then the library from C and Rust, beside the second interpreter.
+# Everything: proofs, must-fail edits, programs; then the library from C and Rust, beside the second interpreter.
 test:
 	@tests/gate.sh
 

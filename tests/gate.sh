@@ -1,5 +1,5 @@
 #!/usr/bin/env bash
-# All tests of the repository, from nothing: the proofs, must-fail edits and programs, then the library that is built from
+# All tests of the repository: the proofs, must-fail edits and programs, then the library that is built from
 # what was proved. The last line is 'N passed, M failed'.
 set -u
 cd "$(dirname "$0")/.."

@@ -49,7 +49,7 @@ module _ (𝓛 : Lattice ℕ) (s : List ℕ) (k : ℕ) where
   own_view (a_parallel e q p r) = subst OwnedBy (sym e) (ap (own_of 𝓛 (names_of s)) q)
 
 -- a node whose part is p
-module _ {s : List ℕ} {c : Script} {l : Levels} (ready : Ready s c l) {p : Part} (Node-at : IsNode s p) where
+module _ {s : List ℕ} {c : Script} {l : Levels} (ready : Ready s c l) {p : Part} (is_node : IsNode s p) where
   owned :
       (k : ℕ) → IsNodeAt s p k → (v b g : Bool) → has_value p.kind ≡ v → has_condition p.kind ≡ b →
       has_signal p.kind ≡ g → Owned (lattice l) s k p v b g
@@ -71,7 +71,7 @@ module _ {s : List ℕ} {c : Script} {l : Levels} (ready : Ready s c l) {p : Par
 
     pub value_known : (p.a < c.names) × (p.b < c.expressions)
     value_known =
-        let o = value Node-at.0 Node-at.1 in
+        let o = value is_node.0 is_node.1 in
         (omega (arith, o.0, names_are ready.laid), omega (arith, o.1.0, expressions_are ready.laid))
 
     pub value_brings :
@@ -79,7 +79,7 @@ module _ {s : List ℕ} {c : Script} {l : Levels} (ready : Ready s c l) {p : Par
     value_brings {d} {x} a e =
         record {
           same = λ k at. ap₂ brings a.same (ap (λ x. x.level) e) ∙ sym (value k at).1.1;
-          inside = record { level = a.inside; name = name_inside x e (value Node-at.0 Node-at.1).0 };
+          inside = record { level = a.inside; name = name_inside x e (value is_node.0 is_node.1).0 };
         }
 
   module _ (v : has_value p.kind ≡ false) where
@@ -88,7 +88,7 @@ module _ {s : List ℕ} {c : Script} {l : Levels} (ready : Ready s c l) {p : Par
       condition k at = owned k at false true _ v b refl
 
       pub condition_known : p.a < c.expressions
-      condition_known = omega (arith, (condition Node-at.0 Node-at.1).0, expressions_are ready.laid)
+      condition_known = omega (arith, (condition is_node.0 is_node.1).0, expressions_are ready.laid)
 
       pub condition_brings : {d : ℕ} → LevelAt l s p.a d → OwnOf l s p (brings d l.bottom)
       condition_brings a =
@@ -103,11 +103,11 @@ module _ {s : List ℕ} {c : Script} {l : Levels} (ready : Ready s c l) {p : Par
         signal k at = owned k at false false true v b g
 
         pub signal_known : p.a < c.names
-        signal_known = omega (arith, (signal Node-at.0 Node-at.1).0, names_are ready.laid)
+        signal_known = omega (arith, (signal is_node.0 is_node.1).0, names_are ready.laid)
 
         pub signal_brings : {x : Name} → x ≡ name_of s p.a → OwnOf l s p (brings x.level x.level)
         signal_brings {x} e =
-            let h = name_inside x e (signal Node-at.0 Node-at.1).0 in
+            let h = name_inside x e (signal is_node.0 is_node.1).0 in
             record {
               same = λ k at. ap (λ x. brings x.level x.level) e ∙ sym (signal k at).1;
               inside = record { level = h; name = h };

@@ -86,7 +86,7 @@ named :
 named s x set e one i h = one i h ∙ ap (λ (n : Name). eqb n.level i) e
 
 -- a node whose part is p
-module _ {s : List ℕ} {offset : ℕ} (known : Reads s offset) {p : Part} (Node-at : IsNode s p) where
+module _ {s : List ℕ} {offset : ℕ} (known : Reads s offset) {p : Part} (is_node : IsNode s p) where
   owned :
       (k : ℕ) → IsNodeAt s p k → (v b w g : Bool) → has_value p.kind ≡ v → has_condition p.kind ≡ b →
       has_wait p.kind ≡ w → eqb p.kind kind.emit ≡ g → Owned s k p v b w g
@@ -105,7 +105,7 @@ module _ {s : List ℕ} {offset : ℕ} (known : Reads s offset) {p : Part} (Node
     value k at = owned k at true _ _ _ v refl refl refl
 
     pub value_known : (p.a < name_count s) × (p.b < expression_count s)
-    value_known = let o = value Node-at.0 Node-at.1 in (o.0, o.1.0)
+    value_known = let o = value is_node.0 is_node.1 in (o.0, o.1.0)
 
     pub value_brings :
         {own : Own} {x : Name} → LevelsAt s p.b own.read → x ≡ name_of s p.a →
@@ -118,7 +118,7 @@ module _ {s : List ℕ} {offset : ℕ} (known : Reads s offset) {p : Part} (Node
       condition k at = owned k at false true _ _ v b refl refl
 
       pub condition_known : p.a < expression_count s
-      condition_known = (condition Node-at.0 Node-at.1).0
+      condition_known = (condition is_node.0 is_node.1).0
 
       pub condition_brings : (set : ℕ) → LevelsAt s p.a set → OwnOf s p (record { read = set; name = 0 })
       condition_brings set r k at = brought (condition k at).1 r nothing
@@ -129,7 +129,7 @@ module _ {s : List ℕ} {offset : ℕ} (known : Reads s offset) {p : Part} (Node
         wait k at = owned k at false false true _ v b w refl
 
         pub wait_known : p.a < name_count s
-        wait_known = (wait Node-at.0 Node-at.1).0
+        wait_known = (wait is_node.0 is_node.1).0
 
         pub wait_brings :
             (set : ℕ) {x : Name} → x ≡ name_of s p.a → IsSet most_levels (eqb x.level) set →
@@ -142,7 +142,7 @@ module _ {s : List ℕ} {offset : ℕ} (known : Reads s offset) {p : Part} (Node
           emission k at = owned k at false false false true v b w g
 
           pub emission_known : p.a < name_count s
-          emission_known = (emission Node-at.0 Node-at.1).0
+          emission_known = (emission is_node.0 is_node.1).0
 
           pub emission_brings :
               (set : ℕ) {x : Name} → x ≡ name_of s p.a → IsSet most_levels (eqb x.level) set →
