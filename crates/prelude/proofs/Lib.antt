@@ -8,3 +8,4 @@ pub mod Courses
 pub mod Each
 pub mod Totals
 pub mod Refusing
+pub mod Found

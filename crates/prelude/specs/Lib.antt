@@ -5,3 +5,4 @@ pub mod Course
 pub mod Numbers
 pub mod Sets
 pub mod Refusals
+pub mod Promises

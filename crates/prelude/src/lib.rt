@@ -1,6 +1,8 @@
 // What every layer shares: the form of a refusal, and numbers as the files write them.
 #![tactic(auto)]
 
+pub mod search; // search.rt: the first number at which a test holds
+
 ghost use Rattle.std.specs.Prelude.{◌≡◌};
 ghost use Rattle.prelude.specs.Numbers.{word};
 ghost use Rattle.prelude.specs.Search.{lesser};
@@ -16,21 +18,18 @@ pub struct Refusal {
 pub fn word_of(high: u8, low: u8) -> u16
     ensures { result ≡ word high low }
 {
-    256 * (high as u16) + (low as u16)
+    u16::from_be_bytes([high, low])
 }
 
 // A byte as a number that can be an index.
 pub fn wide(x: u8) -> usize
     ensures { result ≡ x }
 {
-    x as usize
+    usize::from(x)
 }
 
 pub fn lesser(a: usize, b: usize) -> usize
     ensures { result ≡ lesser a b }
 {
-    if a <= b {
-        return a;
-    }
-    b
+    a.min(b)
 }
