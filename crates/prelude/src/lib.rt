@@ -3,15 +3,29 @@
 
 pub mod search; // search.rt: the first number at which a test holds
 
-ghost use Rattle.std.specs.Prelude.{◌≡◌};
+ghost use Rattle.std.specs.Prelude.{◌≡◌, ◌^◌, ◌<◌};
 ghost use Rattle.prelude.specs.Numbers.{word};
+ghost use Rattle.prelude.specs.Refusals.{refused_by};
 ghost use Rattle.prelude.specs.Search.{lesser};
 
-// A refusal: its number in 01's table and its place. Number 0: not refused.
+// A refusal: its number in 01's table, which the calls answer and the programs print, and its place.
 #[derive(Clone, Copy)]
 pub struct Refusal {
     pub number: u32,
     pub place: u32,
+}
+
+impl Refusal {
+    // The refusal of this row of the table, at this place.
+    pub fn at(number: u32, place: usize) -> Refusal
+        requires { place < 2 ^ 32 }
+        ensures { result ≡ refused_by number place }
+    {
+        Refusal {
+            number,
+            place: place as u32,
+        }
+    }
 }
 
 // The number that two bytes of a file make, the high byte first.
