@@ -9,3 +9,4 @@ pub mod Each
 pub mod Totals
 pub mod Refusing
 pub mod Found
+pub mod Outcomes
