@@ -11,7 +11,7 @@ use Rattle.prelude.proofs.Counts.{count_within, count_more}
 use Rattle.language.specs.MoveBounds.{is_not_nil, is_parallel, is_while}
 use Rattle.layout.specs.Layout.{most_nodes}
 use Rattle.layout.specs.Entries.{part_of, node}
-use Rattle.results.specs.declared.MoveBound.TheVariants.{AtMost, Unbounded}
+use Rattle.std.specs.Prelude.{Some, None}
 use Rattle.bound.specs.declared.NodeCounts.{NodeCounts}
 use Rattle.bound.specs.Promises.{one_if, counts_up_to, with_kind, bound_by, Few}
 
@@ -51,8 +51,8 @@ pub product_small : (k q : ℕ) → k ≤ most_nodes → q ≤ most_nodes + 1 �
 product_small k q h l = omega (arith, mul-le-mul h l)
 
 -- the bound, where there is a while and where there is none
-pub no_bound : (n : NodeCounts) → (n.whiles ≡ 0 → ⊥) → Unbounded ≡ bound_by n
+pub no_bound : (n : NodeCounts) → (n.whiles ≡ 0 → ⊥) → None ≡ bound_by n
 no_bound n h = sym (rw (ne_eqb n.whiles 0 h))
 
-pub bound_is : (n : NodeCounts) → n.whiles ≡ 0 → AtMost (n.others * (n.parallels + 1)) ≡ bound_by n
+pub bound_is : (n : NodeCounts) → n.whiles ≡ 0 → Some (n.others * (n.parallels + 1)) ≡ bound_by n
 bound_is n h = sym (rw (eq-eqb n.whiles 0 h))

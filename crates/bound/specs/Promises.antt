@@ -1,10 +1,8 @@
 -- What is counted while the nodes are looked at: what the functions ask and give, no part of what is promised.
-use Rattle.std.specs.Prelude.{Bool, cond, List, ℕ, ◌+◌, ◌*◌, ◌≤◌, eqb}
+use Rattle.std.specs.Prelude.{Bool, cond, List, ℕ, ◌+◌, ◌*◌, ◌≤◌, eqb, Option, Some, None}
 use Rattle.prelude.specs.Search.{count}
 use Rattle.language.specs.MoveBounds.{is_not_nil, is_parallel, is_while}
 use Rattle.layout.specs.Entries.{part_of, node}
-use Rattle.results.specs.declared.MoveBound.{MoveBound}
-use Rattle.results.specs.declared.MoveBound.TheVariants.{AtMost, Unbounded}
 use Rattle.bound.specs.declared.NodeCounts.{NodeCounts}
 
 -- of the first n nodes
@@ -31,5 +29,5 @@ pub record Few (counts : NodeCounts) (n : ℕ) : Type 0 where
   pub parallels : counts.parallels ≤ n
   pub whiles : counts.whiles ≤ n
 
-abbrev pub bound_by : NodeCounts → MoveBound
-bound_by n = cond (eqb n.whiles 0) (AtMost (n.others * (n.parallels + 1))) Unbounded
+abbrev pub bound_by : NodeCounts → Option ℕ
+bound_by n = cond (eqb n.whiles 0) (Some (n.others * (n.parallels + 1))) None

@@ -9,7 +9,6 @@ ghost use Rattle.bound.specs.Promises.{one_if, counts_up_to, with_kind, bound_by
 
 use language::process_kinds;
 use layout::{Script, parts};
-use results::MoveBound;
 
 // How many nodes are other than nil, how many are parallels, how many are whiles.
 #[derive(Clone, Copy)]
@@ -59,18 +58,18 @@ fn count_nodes(s: &[u8], c: Script) -> NodeCounts
     counts
 }
 
-fn bound_by(n: NodeCounts) -> MoveBound
+fn bound_by(n: NodeCounts) -> Option<u32>
     requires { Few n most_nodes }
     ensures { result ≡ bound_by n }
 {
     if n.whiles != 0 {
-        return MoveBound::Unbounded;
+        return None;
     }
-    MoveBound::AtMost((n.others * (n.parallels + 1)) as u32)
+    Some((n.others * (n.parallels + 1)) as u32)
 }
 
 // The bound of a script whose file has this layout.
-pub fn find_bound(s: &[u8], c: Script) -> MoveBound
+pub fn find_bound(s: &[u8], c: Script) -> Option<u32>
     requires { Laid s.now c }
     ensures { result ≡ bound_of s.now }
 {

@@ -1,9 +1,7 @@
 -- The text that is printed of what the calls answer, in the form that 01 gives; and of the bound on moves.
-use Rattle.std.specs.Prelude.{cond, List, [], ◌∷◌, ◌++◌, ℕ, ◌-◌, ◌*◌, ◌%◌, codes, eqb, leb, ltb, get_or, length, replicate, ℤ}
+use Rattle.std.specs.Prelude.{cond, List, [], ◌∷◌, ◌++◌, ℕ, ◌-◌, ◌*◌, ◌%◌, codes, eqb, leb, ltb, get_or, length, replicate, ℤ, Option, Some, None}
 use Rattle.std.specs.List.{concat}
 use Rattle.prelude.specs.Table.{table}
-use Rattle.results.specs.declared.MoveBound.{MoveBound}
-use Rattle.results.specs.declared.MoveBound.TheVariants.{AtMost, Unbounded}
 use Rattle.results.specs.declared.Verdict.{Verdict}
 use Rattle.results.specs.declared.RunResult.{RunResult}
 use Rattle.engine.specs.Answers.{Left, verdict, left}
@@ -49,9 +47,9 @@ run_text b s values limit list =
     answers_text (verdict b s) (left_with b s values limit list).result (left_with b s values limit list).log
 
 -- the most moves of a script's runs
-abbrev pub moves_text : MoveBound → List ℕ
-moves_text (AtMost moves) = codes "at most " ++ (number_text moves 32 ++ codes "moves\n")
-moves_text Unbounded = codes "no bound\n"
+abbrev pub moves_text : Option ℕ → List ℕ
+moves_text (Some moves) = codes "at most " ++ (number_text moves 32 ++ codes "moves\n")
+moves_text None = codes "no bound\n"
 
 -- a refusal, or the most moves
 unfoldable pub bound_text : Verdict → List ℕ

@@ -5,10 +5,9 @@ ghost use Rattle.std.specs.Prelude.{◌≡◌, ◌%◌, OnOk, cond, eqb};
 ghost use Rattle.std.specs.Io.KnownBytes.{Appends};
 ghost use Rattle.text.specs.Written.{number_text, pair_text};
 ghost use Rattle.engine.specs.Answers.{verdict};
-ghost use Rattle.results.specs.declared.MoveBound.TheVariants.{AtMost};
 ghost use Rattle.display.specs.Shown.{value_text, lines_text, ending_word, answers_text, left_with, run_text, moves_text, bound_text};
 
-use results::{MoveBound, RunResult, Verdict};
+use results::{RunResult, Verdict};
 use std::io;
 use std::io::Write;
 use text::{say, say_byte, say_number, say_pair, say_refusal};
@@ -87,17 +86,17 @@ pub fn show_run<W: Write>(
     say_answers(out, v, r, &log)
 }
 
-fn say_bound<W: Write>(out: &mut W, bound: MoveBound) -> io::Result<()>
+fn say_bound<W: Write>(out: &mut W, bound: Option<u32>) -> io::Result<()>
     ensures { OnOk result (Appends (W.contents out.old) (W.contents out.new) (moves_text bound)) }
 {
     match bound {
-        MoveBound::AtMost(moves) => say_moves(out, moves),
-        MoveBound::Unbounded => say(out, b"no bound\n"),
+        Some(moves) => say_moves(out, moves),
+        None => say(out, b"no bound\n"),
     }
 }
 
 fn say_moves<W: Write>(out: &mut W, moves: u32) -> io::Result<()>
-    ensures { OnOk result (Appends (W.contents out.old) (W.contents out.new) (moves_text (AtMost moves))) }
+    ensures { OnOk result (Appends (W.contents out.old) (W.contents out.new) (moves_text (Some moves))) }
 {
     say(out, b"at most ")?;
     say_number(out, moves as u64, b' ')?;

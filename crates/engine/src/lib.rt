@@ -10,7 +10,7 @@ ghost use Rattle.engine.specs.Promises.{CanStart, run_for, Returns};
 use book::Book;
 use layout::Script;
 use moves::counts::Counts;
-use results::{Flows, RunResult, Verdict, refused_result, refused_verdict, result_of};
+use results::{Flows, RunResult, Verdict, result_of};
 use runner::Ran;
 
 // Checks a script under a book. Of an accepted script, also finds how many moves it can make.
@@ -19,7 +19,7 @@ pub fn check(book: &[u8], script: &[u8]) -> Verdict
 {
     let p = checker::prepare(book, script);
     if p.refusal.number != 0 {
-        return refused_verdict(p.refusal);
+        return Verdict::from(p.refusal);
     }
     let moves = bound::find_bound(script, p.script);
     Verdict {
@@ -96,7 +96,7 @@ pub fn run(
 {
     let p = checker::prepare(book, script);
     if p.refusal.number != 0 {
-        return refused_result(p.refusal);
+        return RunResult::from(p.refusal);
     }
     let refusal = arguments::call_refusal(
         script,
@@ -108,7 +108,7 @@ pub fn run(
         list,
     );
     if refusal.number != 0 {
-        return refused_result(refusal);
+        return RunResult::from(refusal);
     }
     let r = run_checked(
         script,

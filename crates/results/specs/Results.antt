@@ -1,18 +1,16 @@
 -- 'Check returns number, place, W, T', and by 02 (f) the figure. 'Run returns how it ended, steps, instants, lines.' 'A
 -- refusal's other returned numbers are 0; 0 means not refused.' 02 (e): 'for each level the set of other levels'.
-use Rattle.std.specs.Prelude.{List, ℕ}
+use Rattle.std.specs.Prelude.{List, ℕ, Option, None}
 use Rattle.prelude.specs.declared.Refusal.{Refusal}
-use Rattle.results.specs.declared.MoveBound.{MoveBound}
-use Rattle.results.specs.declared.MoveBound.TheVariants.{Unbounded}
 use Rattle.results.specs.declared.Verdict.{Verdict}
 use Rattle.results.specs.declared.RunResult.{RunResult}
 use Rattle.results.specs.declared.Flows.{Flows}
 
-abbrev pub verdict_by : Refusal → ℕ → ℕ → MoveBound → Verdict
+abbrev pub verdict_by : Refusal → ℕ → ℕ → Option ℕ → Verdict
 verdict_by r w t moves = record { number = r.number; place = r.place; write = w; test = t; moves = moves }
 
 abbrev pub refused_verdict : Refusal → Verdict
-refused_verdict r = verdict_by r 0 0 Unbounded
+refused_verdict r = verdict_by r 0 0 None
 
 abbrev pub refused_result : Refusal → RunResult
 refused_result r =

@@ -1,15 +1,13 @@
 -- The answers' words for C, in their order.
-use Rattle.std.specs.Prelude.{List, [], ◌∷◌, ℕ}
-use Rattle.results.specs.declared.MoveBound.{MoveBound}
-use Rattle.results.specs.declared.MoveBound.TheVariants.{AtMost, Unbounded}
+use Rattle.std.specs.Prelude.{List, [], ◌∷◌, ℕ, Option, Some, None}
 use Rattle.results.specs.declared.Verdict.{Verdict}
 use Rattle.results.specs.declared.RunResult.{RunResult}
 use Rattle.results.specs.declared.Flows.{Flows}
 
 -- 'the figure, .. or "none"': whether there is one, and the figure
-abbrev pub bound_words : MoveBound → List ℕ
-bound_words (AtMost moves) = 1 ∷ moves ∷ []
-bound_words Unbounded = 0 ∷ 0 ∷ []
+abbrev pub bound_words : Option ℕ → List ℕ
+bound_words (Some moves) = 1 ∷ moves ∷ []
+bound_words None = 0 ∷ 0 ∷ []
 
 abbrev pub verdict_words : Verdict → List ℕ
 verdict_words v = v.number ∷ v.place ∷ v.write ∷ v.test ∷ bound_words v.moves

@@ -9,21 +9,15 @@ ghost use Rattle.results.specs.Results.{refused_verdict, refused_result, result_
 use book::Book;
 use prelude::Refusal;
 
-// The most moves of a script's runs, or none where it holds a while.
-#[derive(Clone, Copy)]
-pub enum MoveBound {
-    AtMost(u32),
-    Unbounded,
-}
-
-// What check answers: number and place of the refusal, W and T, and the most moves that the script makes.
+// What check answers: number and place of the refusal, W and T, and the most moves that the script makes, none where it
+// holds a while.
 #[derive(Clone, Copy)]
 pub struct Verdict {
     pub number: u32,
     pub place: u32,
     pub write: u32,
     pub test: u32,
-    pub moves: MoveBound,
+    pub moves: Option<u32>,
 }
 
 // What run answers: number and place of the refusal, how the run ended, and what it counted.
@@ -46,28 +40,32 @@ pub struct Flows {
     pub to: [u16; Book::MAX_LEVELS],
 }
 
-pub fn refused_verdict(refusal: Refusal) -> Verdict
-    ensures { result ≡ refused_verdict refusal }
-{
-    Verdict {
-        number: refusal.number,
-        place: refusal.place,
-        write: 0,
-        test: 0,
-        moves: MoveBound::Unbounded,
+impl From<Refusal> for Verdict {
+    ghost from_gives = { λ refusal v. v ≡ refused_verdict refusal };
+
+    fn from(refusal: Refusal) -> Verdict {
+        Verdict {
+            number: refusal.number,
+            place: refusal.place,
+            write: 0,
+            test: 0,
+            moves: None,
+        }
     }
 }
 
-pub fn refused_result(r: Refusal) -> RunResult
-    ensures { result ≡ refused_result r }
-{
-    RunResult {
-        number: r.number,
-        place: r.place,
-        ending: 0,
-        steps: 0,
-        instants: 0,
-        lines: 0,
+impl From<Refusal> for RunResult {
+    ghost from_gives = { λ refusal r. r ≡ refused_result refusal };
+
+    fn from(r: Refusal) -> RunResult {
+        RunResult {
+            number: r.number,
+            place: r.place,
+            ending: 0,
+            steps: 0,
+            instants: 0,
+            lines: 0,
+        }
     }
 }
 

@@ -22,8 +22,7 @@ use Rattle.script.specs.Checked.{Checked}
 use Rattle.tree.specs.Tree.{names_of, tree}
 use Rattle.tree.proofs.Theorems.{nodes_counted}
 use Rattle.report.proofs.PathMoves.{path_bounded}
-use Rattle.results.specs.declared.MoveBound.{MoveBound}
-use Rattle.results.specs.declared.MoveBound.TheVariants.{AtMost, Unbounded}
+use Rattle.std.specs.Prelude.{Option, Some, None}
 use Rattle.bound.specs.Bound.{bound_of}
 use Rattle.checker.specs.Refusals.{check_refusal}
 use Rattle.checker.proofs.Passing.{accepted, checked}
@@ -32,21 +31,21 @@ use Rattle.results.specs.declared.Verdict.{Verdict}
 use Rattle.engine.specs.Answers.{verdict, Left, left}
 use Rattle.theorems.specs.Results.{MovesBounded, FigureHolds}
 
-abbrev is_bounded : MoveBound → Bool
-is_bounded (AtMost m) = true
-is_bounded Unbounded = false
+abbrev is_bounded : Option ℕ → Bool
+is_bounded (Some m) = true
+is_bounded None = false
 
-abbrev figure : MoveBound → ℕ
-figure (AtMost m) = m
-figure Unbounded = 0
+abbrev figure : Option ℕ → ℕ
+figure (Some m) = m
+figure None = 0
 
-module _ (b s : List ℕ) (m : ℕ) (given : (verdict b s).moves ≡ AtMost m) where
+module _ (b s : List ℕ) (m : ℕ) (given : (verdict b s).moves ≡ Some m) where
   -- a script that is refused has no figure
-  bound_is : (passes (check_refusal b s) ≡ true) × (bound_of s ≡ AtMost m)
+  bound_is : (passes (check_refusal b s) ≡ true) × (bound_of s ≡ Some m)
   unfolding verdict
   bound_is =
       by_cases
-      (λ (v : Verdict). v.moves ≡ AtMost m → (passes (check_refusal b s) ≡ true) × (bound_of s ≡ AtMost m))
+      (λ (v : Verdict). v.moves ≡ Some m → (passes (check_refusal b s) ≡ true) × (bound_of s ≡ Some m))
       (passes (check_refusal b s))
       (λ t e. (t, e))
       (λ t e. absurd (false≢true (ap is_bounded e)))
@@ -57,7 +56,7 @@ module _ (b s : List ℕ) (m : ℕ) (given : (verdict b s).moves ≡ AtMost m) w
   unfolding bound_of
   no-while =
       by_cases
-      (λ r. r ≡ AtMost m → (holds_no_while (nodes_with s) ≡ true) × (most_moves (nodes_with s) ≡ m))
+      (λ r. r ≡ Some m → (holds_no_while (nodes_with s) ≡ true) × (most_moves (nodes_with s) ≡ m))
       (holds_no_while (nodes_with s))
       (λ t e. (t, ap figure e))
       (λ t e. absurd (false≢true (ap is_bounded e)))

@@ -1,11 +1,9 @@
 -- 01, 'Peg list': the starred examples and the program's own, and some of 02, in one table: the bytes and numbers of a
 -- call, what check answers, and what run leaves.
-use Rattle.std.specs.Prelude.{◌≡◌, List, [], ◌∷◌, ◌++◌, map, ℕ, ◌-◌, ◌/◌, ◌%◌, ℤ, pos, negsuc, length, replicate}
+use Rattle.std.specs.Prelude.{◌≡◌, List, [], ◌∷◌, ◌++◌, map, ℕ, ◌-◌, ◌/◌, ◌%◌, ℤ, pos, negsuc, length, replicate, Option, Some, None}
 use Rattle.layout.specs.Entries.{session}
 use Rattle.layout.specs.Files.{name, part, all, file}
 use Rattle.language.specs.Kinds.{nil, assign, if_then_else, while, sequence, emit, watching, when, parallel}
-use Rattle.results.specs.declared.MoveBound.{MoveBound}
-use Rattle.results.specs.declared.MoveBound.TheVariants.{AtMost, Unbounded}
 use Rattle.results.specs.declared.Verdict.{Verdict}
 use Rattle.results.specs.Results.{result_by}
 use Rattle.engine.specs.Answers.{Left, verdict, left}
@@ -73,7 +71,7 @@ call s values limit checked ran =
 abbrev refused_at : ℕ → List ℕ → List ℤ → Example
 refused_at place s values =
     call s values 1000
-    (record { number = 11; place = place; write = 0; test = 0; moves = Unbounded })
+    (record { number = 11; place = place; write = 0; test = 0; moves = None })
     (record {
       result = record { number = 11; place = place; ending = 0; steps = 0; instants = 0; lines = 0 };
       values = values;
@@ -89,7 +87,7 @@ spent = 1
 -- a script with this W and T, and this bound on its moves, that runs: how it ends, after how many steps and instants, its
 -- lines, its values
 abbrev runs :
-    List ℕ → List ℤ → ℕ → ℕ → ℕ → MoveBound → ℕ → ℕ → ℕ → List (List ℕ) → List ℤ → Example
+    List ℕ → List ℤ → ℕ → ℕ → ℕ → Option ℕ → ℕ → ℕ → ℕ → List (List ℕ) → List ℤ → Example
 runs s values limit write test moves ending steps instants lines after =
     call s values limit
     (record { number = 0; place = 0; write = write; test = test; moves = moves })
@@ -100,7 +98,7 @@ abbrev assigns : ℕ → ℕ → List ℕ → ℤ → ℕ → Example
 assigns a b operator v word =
     runs
     (file (register L ∷ []) (constant a ∷ constant b ∷ operator ∷ []) (part assign 0 2 0 ∷ []))
-    (pos 0 ∷ []) 1000 L L (AtMost 1)
+    (pos 0 ∷ []) 1000 L L (Some 1)
     finished 1 0 ((1 ∷ 0 ∷ 0 ∷ word ∷ []) ∷ []) (v ∷ [])
 
 -- emit a; emit a, for the signal a at L, absent or present before: its lines
@@ -108,13 +106,13 @@ abbrev emits_twice : ℤ → List (List ℕ) → Example
 emits_twice before lines =
     runs
     (file (signal L ∷ []) [] (part emit 0 0 0 ∷ part emit 0 0 0 ∷ part sequence 0 1 0 ∷ []))
-    (before ∷ []) 1000 L L (AtMost 3)
+    (before ∷ []) 1000 L L (Some 3)
     finished 3 0 lines (pos 1 ∷ [])
 
 abbrev pub examples : List Example
 examples =
     -- nil: W 1, T 0
-    runs (file [] [] (part nil 0 0 0 ∷ [])) [] 1000 H L (AtMost 0) finished 0 0 [] []
+    runs (file [] [] (part nil 0 0 0 ∷ [])) [] 1000 H L (Some 0) finished 0 0 [] []
     -- y_L := x_H: 11
     ∷ refused_at 0
     (file (register L ∷ register H ∷ []) (value_of 1 ∷ []) (part assign 0 0 0 ∷ []))
@@ -162,12 +160,12 @@ examples =
     -- when b do nil, b absent, limit 3: spent, 3 steps, 3 instants
     ∷ runs
     (file (signal L ∷ []) [] (part nil 0 0 0 ∷ part when 0 0 0 ∷ []))
-    (pos 0 ∷ []) 3 H L (AtMost 1)
+    (pos 0 ∷ []) 3 H L (Some 1)
     spent 3 3 [] (pos 0 ∷ [])
     -- (when b do nil) watching a, a present, b absent: finished, 1 step, 1 instant
     ∷ runs
     (file (signal L ∷ signal L ∷ []) [] (part nil 0 0 0 ∷ part when 1 0 0 ∷ part watching 0 1 0 ∷ []))
-    (pos 1 ∷ pos 0 ∷ []) 1000 H L (AtMost 2)
+    (pos 1 ∷ pos 0 ∷ []) 1000 H L (Some 2)
     finished 1 1 [] (pos 0 ∷ pos 0 ∷ [])
     -- (when a do x := 1) parallel emit a, all L, a absent: 5 steps; lines stamped 2 and 4
     ∷ runs
@@ -175,7 +173,7 @@ examples =
     (register L ∷ signal L ∷ [])
     (constant 1 ∷ [])
     (part assign 0 0 0 ∷ part when 1 0 0 ∷ part emit 1 0 0 ∷ part parallel 1 2 0 ∷ []))
-    (pos 0 ∷ pos 0 ∷ []) 1000 L L (AtMost 8)
+    (pos 0 ∷ pos 0 ∷ []) 1000 L L (Some 8)
     finished 5 0 ((2 ∷ 0 ∷ 1 ∷ 1 ∷ []) ∷ (4 ∷ 0 ∷ 0 ∷ 1 ∷ []) ∷ []) (pos 1 ∷ pos 1 ∷ [])
     -- 2147483647 + 1 is 2147483647; −2147483648 / −1 is 2147483647; −7 / 2 is −4; 5 / 0 is 0
     ∷ assigns 2147483647 1 (add 0 1) (pos 2147483647) 2147483647
@@ -196,7 +194,7 @@ examples =
     -- while x do nil, x 0: no bound on the moves; one step
     ∷ runs
     (file (register L ∷ []) (value_of 0 ∷ []) (part nil 0 0 0 ∷ part while 0 0 0 ∷ []))
-    (pos 0 ∷ []) 1000 H L Unbounded
+    (pos 0 ∷ []) 1000 H L None
     finished 1 0 [] (pos 0 ∷ [])
     -- values 00000000 and script 0000FFFF 0000000000000007 0100000000000000 0004000C00145354: 'accepted 0 0', '1 0 0 7',
     -- 'finished 1 0'
@@ -206,7 +204,7 @@ examples =
     ∷ 1 ∷ 0 ∷ 0 ∷ 0 ∷ 0 ∷ 0 ∷ 0 ∷ 0
     ∷ 0 ∷ 4 ∷ 0 ∷ 12 ∷ 0 ∷ 20 ∷ 83 ∷ 84
     ∷ [])
-    (pos 0 ∷ []) 1000 L L (AtMost 1)
+    (pos 0 ∷ []) 1000 L L (Some 1)
     finished 1 0 ((1 ∷ 0 ∷ 0 ∷ 7 ∷ []) ∷ []) (pos 7 ∷ [])
     ∷ []
 

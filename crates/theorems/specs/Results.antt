@@ -1,7 +1,7 @@
 -- Demands 2 and 3 and 02 (e) and (f) about the calls. `verdict` is what check answers, `left` what run leaves and
 -- `flows_found` what flows answers: their contracts in engine/src/lib.rt say so, for every input. The proofs are in
 -- proofs/Theorems.antt, proofs/Flows.antt and proofs/Moves.antt.
-use Rattle.std.specs.Prelude.{◌≡◌, Bool, true, false, ◌↔◌, List, [], ℕ, ◌-◌, ◌/◌, ◌≤◌, ◌<◌, ℤ, get_or, length}
+use Rattle.std.specs.Prelude.{◌≡◌, Bool, true, false, ◌↔◌, List, [], ℕ, ◌-◌, ◌/◌, ◌≤◌, ◌<◌, ℤ, get_or, length, Some}
 use Rattle.prelude.specs.Sets.{has}
 use Rattle.book.specs.LevelBook.{count, rows, at_or_below}
 use Rattle.lattice.specs.Lattice.{Laws, book_lattice}
@@ -19,7 +19,6 @@ use Rattle.layout.specs.Layout.{name_count}
 use Rattle.layout.specs.Entries.{is_session_name}
 use Rattle.script.specs.Refusals as scripts
 use Rattle.tree.specs.Tree.{names_of, tree}
-use Rattle.results.specs.declared.MoveBound.TheVariants.{AtMost}
 use Rattle.engine.specs.Answers.{verdict, flows_found, run_of, Left, left_by, left}
 use Rattle.theorems.specs.Records.{record_of, stamp}
 
@@ -122,7 +121,7 @@ pub record MovesBounded (b s : List ℕ) (m : ℕ) : Type 0 where
       (path : ExecutionPath below inputs n C ls D) → moves_in below path ≤ m
 
 abbrev pub FigureHolds : Type 0
-FigureHolds = (b s : List ℕ) (m : ℕ) → (verdict b s).moves ≡ AtMost m → MovesBounded b s m
+FigureHolds = (b s : List ℕ) (m : ℕ) → (verdict b s).moves ≡ Some m → MovesBounded b s m
 
 -- a session name at or below the reader's level
 pub record Readable (b s : List ℕ) (reader x : ℕ) : Type 0 where

@@ -8,7 +8,7 @@ use Rattle.prelude.specs.Refusals.{passes}
 use Rattle.book.specs.Load.{book_of}
 use Rattle.lattice.specs.Lattice.{book_lattice}
 use Rattle.layout.specs.Promises.{Laid}
-use Rattle.results.specs.declared.MoveBound.{MoveBound}
+use Rattle.std.specs.Prelude.{Option}
 use Rattle.bound.specs.Bound.{bound_of}
 use Rattle.checker.specs.declared.Prepared.{Prepared}
 use Rattle.checker.specs.Refusals.{check_refusal}
@@ -33,7 +33,7 @@ module _ (b s : List ℕ) (r : Prepared) (p : Prepares (check_refusal b s) (book
   laid n = subst (Laid s) (sym (found_layout p (accepted n))) (checked b s (passed b s (accepted n)).script).laid
 
   found :
-      r.refusal.number ≡ 0 → (moves : MoveBound) → moves ≡ bound_of s →
+      r.refusal.number ≡ 0 → (moves : Option ℕ) → moves ≡ bound_of s →
       verdict_by r.refusal r.write r.test moves ≡ verdict b s
   unfolding verdict
   found n moves h =
@@ -42,7 +42,7 @@ module _ (b s : List ℕ) (r : Prepared) (p : Prepares (check_refusal b s) (book
 pub returns-then-p-ne0 : goal.returns-then-p-ne0
 returns-then-p-ne0 c =
     let prepared = c.prepare-p in
-    c.refused_verdict.ensures ∙ refused _ _ prepared.result prepared.ensures c.if-p-ne0.true
+    c.from.ensures ∙ refused _ _ prepared.result prepared.ensures c.if-p-ne0.true
 
 pub find_bound-moves-requires : goal.find_bound-moves-requires
 find_bound-moves-requires c = laid _ _ c.prepare-p.result c.prepare-p.ensures c.if-p-ne0.false

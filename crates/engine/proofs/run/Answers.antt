@@ -54,7 +54,7 @@ returns-then-p-ne0 c =
     let e =
     refused_left_lem b s a.reader a.values.now a.limit a.list.now a.log.now
     (by_check b s a.reader a.values.now a.limit a.list.now (found_refusal c.prepare-p.ensures) f) f in
-    record { value = c.refused_result.ensures ∙ ap (λ (l : Left). l.result) e; values_after = ap (λ (l : Left). l.values) e; log_after = ap (λ (l : Left). l.log) e }
+    record { value = c.from.ensures ∙ ap (λ (l : Left). l.result) e; values_after = ap (λ (l : Left). l.values) e; log_after = ap (λ (l : Left). l.log) e }
 
 pub call_refusal-refusal-requires : goal.call_refusal-refusal-requires
 call_refusal-refusal-requires c =
@@ -67,7 +67,7 @@ returns-then-refusal-ne0 c =
     let e =
     refused_left_lem a.book.now a.script.now a.reader a.values.now a.limit a.list.now a.log.now (call-is _ _ _ c.prepare-p.ensures c.if-p-ne0.false c.args.reader c.args.values.now c.args.limit c.args.list.now _ c.call_refusal-refusal.ensures)
     (ne_eqb _ 0 c.if-refusal-ne0.true) in
-    record { value = c.refused_result-then-refusal-ne0.ensures ∙ ap (λ (l : Left). l.result) e; values_after = ap (λ (l : Left). l.values) e; log_after = ap (λ (l : Left). l.log) e }
+    record { value = c.from-then-refusal-ne0.ensures ∙ ap (λ (l : Left). l.result) e; values_after = ap (λ (l : Left). l.values) e; log_after = ap (λ (l : Left). l.log) e }
 
 pub run_checked-r-requires : goal.run_checked-r-requires
 run_checked-r-requires c =

@@ -1,2 +1,0 @@
--- Laws that the proofs of the functions use.
-pub mod Outs
