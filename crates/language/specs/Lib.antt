@@ -17,4 +17,5 @@ pub mod Paths
 pub mod Results
 pub mod Shapes
 pub mod KindGroups
+pub mod KindNumbers
 pub mod Frames

@@ -1,6 +1,7 @@
-// The kinds of processes, by their numbers in files and programs.
-ghost use Rattle.std.specs.Prelude.{◌≡◌};
-ghost use Rattle.language.specs.KindGroups.{has_write};
+// The kinds of processes, in the order of their numbers in files and programs.
+ghost use Rattle.std.specs.Prelude.{◌≡◌, ◌<◌};
+ghost use Rattle.language.specs.KindGroups.{has_signal, has_test, has_write};
+ghost use Rattle.language.specs.KindNumbers.{process_kinds, process_number};
 
 pub const NIL: usize = 0;
 
@@ -29,4 +30,69 @@ pub fn is_writer(kind: usize) -> bool
     ensures { result ≡ has_write kind }
 {
     kind == ASSIGN || kind == EMIT
+}
+
+#[derive(Clone, Copy, PartialEq, Eq)]
+pub enum ProcessKind {
+    Nil,
+    Assign,
+    Let,
+    If,
+    While,
+    Sequence,
+    Emit,
+    Local,
+    Watching,
+    When,
+    Parallel,
+}
+
+impl ProcessKind {
+    // The kind of this number.
+    pub fn from_number(number: usize) -> ProcessKind
+        requires { number < process_kinds }
+        ensures { process_number result ≡ number }
+    {
+        match number {
+            0 => ProcessKind::Nil,
+            1 => ProcessKind::Assign,
+            2 => ProcessKind::Let,
+            3 => ProcessKind::If,
+            4 => ProcessKind::While,
+            5 => ProcessKind::Sequence,
+            6 => ProcessKind::Emit,
+            7 => ProcessKind::Local,
+            8 => ProcessKind::Watching,
+            9 => ProcessKind::When,
+            10 => ProcessKind::Parallel,
+            _ => unreachable!(),
+        }
+    }
+
+    // An assignment or an emission: its move calls for a line.
+    pub fn is_writer(self) -> bool
+        ensures { result ≡ has_write (process_number self) }
+    {
+        matches!(self, ProcessKind::Assign | ProcessKind::Emit)
+    }
+
+    // A process of this kind has a signal.
+    pub fn has_signal(self) -> bool
+        ensures { result ≡ has_signal (process_number self) }
+    {
+        matches!(
+            self,
+            ProcessKind::Emit | ProcessKind::Local | ProcessKind::Watching | ProcessKind::When
+        )
+    }
+
+    // A process of this kind tests its expression or its signal.
+    pub fn has_test(self) -> bool
+        ensures { result ≡ has_test (process_number self) }
+    {
+        matches!(
+            self,
+            ProcessKind::If | ProcessKind::While | ProcessKind::Watching | ProcessKind::When
+        )
+    }
 }
