@@ -1,24 +1,15 @@
--- Counts of nodes: what one node more adds, that none is above the number of nodes, and the bound that they give.
+-- Counts of nodes: what one node more adds, and that none is above the number of nodes.
 use mathlib.Core.Path.{◌≡◌, refl, sym}
 use mathlib.Core.Bool.{Bool}
 use mathlib.Core.List.{List}
-use Prim.Native.Nat.{ℕ, ◌+◌, ◌*◌, ◌≤◌, ◌<◌}
-use native.Mathlib.Nat.{mul-le-mul}
+use Prim.Native.Nat.{ℕ, ◌+◌, ◌≤◌}
 use native.Mathlib.Omega.{arith}
-use borrow.Author.Tests.{eq-eqb, ne_eqb}
 use Rattle.prelude.specs.Search.{count}
 use Rattle.prelude.proofs.Counts.{count_within, count_more}
 use Rattle.language.specs.MoveBounds.{is_not_nil, is_parallel, is_while}
-use Rattle.layout.specs.Layout.{most_nodes}
 use Rattle.layout.specs.Entries.{part_of, node}
-use Rattle.std.specs.Prelude.{Some, None}
 use Rattle.bound.specs.declared.NodeCounts.{NodeCounts}
-use Rattle.bound.specs.Promises.{one_if, counts_up_to, with_kind, bound_by, Few}
-
-pub with_kind_is :
-    (n : NodeCounts) (kind : ℕ) {a b c : ℕ} → a ≡ one_if (is_not_nil kind) → b ≡ one_if (is_parallel kind) → c ≡ one_if (is_while kind) →
-    record { others = n.others + a; parallels = n.parallels + b; whiles = n.whiles + c } ≡ with_kind n kind
-with_kind_is n kind d e f = rw (d, e, f)
+use Rattle.bound.specs.Promises.{one_if, counts_up_to, with_kind, Few}
 
 module _ (s : List ℕ) where
   pub no_counts : record { others = 0; parallels = 0; whiles = 0 } ≡ counts_up_to s 0
@@ -45,14 +36,3 @@ few_more l f =
       parallels = omega (arith, f.parallels, l);
       whiles = omega (arith, f.whiles, l);
     }
-
--- the figure of so few nodes is a number of 32 bits
-pub product_small : (k q : ℕ) → k ≤ most_nodes → q ≤ most_nodes + 1 → k * q < 65793
-product_small k q h l = omega (arith, mul-le-mul h l)
-
--- the bound, where there is a while and where there is none
-pub no_bound : (n : NodeCounts) → (n.whiles ≡ 0 → ⊥) → None ≡ bound_by n
-no_bound n h = sym (rw (ne_eqb n.whiles 0 h))
-
-pub bound_is : (n : NodeCounts) → n.whiles ≡ 0 → Some (n.others * (n.parallels + 1)) ≡ bound_by n
-bound_is n h = sym (rw (eq-eqb n.whiles 0 h))

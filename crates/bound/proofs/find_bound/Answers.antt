@@ -8,13 +8,13 @@ use Rattle.bound.specs.Promises.{counts_up_to, bound_by, Few}
 use Rattle.bound.proofs.Counts.{counts_few, few_more}
 use Rattle.bound.proofs.find_bound.Goals as goal
 
-pub bound_by-requires : goal.bound_by-requires
-bound_by-requires c =
-    subst (λ n. Few n most_nodes) (sym c.count_nodes-counts.ensures)
+pub bound-requires : goal.bound-requires
+bound-requires c =
+    subst (λ n. Few n most_nodes) (sym c.count_nodes.ensures)
     (few_more (omega (arith, few_bounds c.args.c c.requires.few)) (counts_few c.args.s.now c.args.c.nodes))
 
 pub returns : goal.returns
 unfolding bound_of
 returns c =
-    c.bound_by.ensures
-    ∙ ap bound_by (c.count_nodes-counts.ensures ∙ ap (counts_up_to c.args.s.now) (nodes_are c.requires))
+    c.bound.ensures
+    ∙ ap bound_by (c.count_nodes.ensures ∙ ap (counts_up_to c.args.s.now) (nodes_are c.requires))
