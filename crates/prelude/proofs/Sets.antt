@@ -1,6 +1,6 @@
 -- Sets as numbers: what two sets share and have together, and the set that a test makes.
 use mathlib.Core.Path.{◌≡◌, refl, sym, ap, ◌∙◌, subst}
-use mathlib.Core.Bool.{Bool, true, false, cond, not, ◌&&◌, ◌||◌, true≢false, false≢true}
+use mathlib.Core.Bool.{Bool, true, false, cond, not, ◌&&◌, ◌||◌, or_comm, true≢false, false≢true}
 use Prim.Native.Nat.{ℕ, zero, suc, ◌+◌, ◌*◌, ◌-◌, ◌/◌, ◌%◌, ◌^◌, ◌≤◌, ◌<◌, min, max}
 use native.Mathlib.Nat.{zero-div, div-one, suc-mul, zero-lt-suc, pow-suc, zero-min, min-le_left, zero-max, max-le, max-eq_left, le_of_suc-le-suc, lt_of_lt_of_le, mod-lt, mod-eq_of_lt, mod-one, div-eq_of_lt, div_self, mul-mod_left, mul-add-mod_self_right}
 use native.Mathlib.Decide.{dec_lt, ℕ_discrete}
@@ -85,6 +85,10 @@ has_one x y =
       | yes e ↦ ap (λ n. eqb n 1) (digit_same x y e) ∙ sym (eq-eqb x y e)
       | no e ↦ ap (λ n. eqb n 1) (digit_other x y e) ∙ sym (ne_eqb x y e)
     ]
+
+-- the set with one number more
+pub has_more : (set x y : ℕ) → has (bit_or set (2 ^ x)) y ≡ (eqb x y || has set y)
+has_more set x y = has_either set (2 ^ x) y ∙ ap (λ b. has set y || b) (has_one x y) ∙ or_comm (has set y) (eqb x y)
 
 same_digit : (d e : ℕ) → d < 2 → e < 2 → eqb d 1 ≡ eqb e 1 → d ≡ e
 same_digit zero zero h k q = refl

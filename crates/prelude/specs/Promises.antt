@@ -1,5 +1,5 @@
 -- What searches ask and answer, and what functions answer that may refuse: no part of what is promised.
-use Rattle.std.specs.Prelude.{◌≡◌, Bool, cond, ℕ, ◌<◌, ltb, Option, Some, None, Result, Ok, Err}
+use Rattle.std.specs.Prelude.{◌≡◌, Bool, true, false, cond, ℕ, ◌<◌, ltb, Option, Some, None, Result, Ok, Err}
 use Rattle.prelude.specs.Search.{first}
 use Rattle.prelude.specs.declared.Refusal.{Refusal}
 use Rattle.prelude.specs.Refusals.{passes}
@@ -19,3 +19,8 @@ found f n = cond (ltb (first f n) n) (Some (first f n)) None
 -- what a function answers that gives x where nothing is refused: x, or the refusal
 abbrev pub outcome : {X : Type 0} → Refusal → X → Result X Refusal
 outcome r x = cond (passes r) (Ok x) (Err r)
+
+-- what a function answers that may refuse: the refusal, or where nothing is refused something of which P holds
+abbrev pub Answers : {X : Type 0} → Refusal → (X → Type 0) → Result X Refusal → Type 0
+Answers r P (Ok x) = (passes r ≡ true) × P x
+Answers r P (Err e) = (passes r ≡ false) × (e ≡ r)

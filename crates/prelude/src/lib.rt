@@ -2,6 +2,7 @@
 #![tactic(auto)]
 
 pub mod search; // search.rt: the first number at which a test holds
+pub mod set; // set.rt: sets of numbers as numbers
 
 ghost use Rattle.std.specs.Prelude.{◌≡◌, ◌^◌, ◌<◌};
 ghost use Rattle.prelude.specs.Numbers.{word};
