@@ -1,3 +1,2 @@
 -- Laws that the proofs of several functions use.
-pub mod Packing
-pub mod Values
+pub mod RoleTests

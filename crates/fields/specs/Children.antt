@@ -1,29 +1,27 @@
--- How the walks find a node's children, and how the code keeps a row of the table: no part of what is promised.
-use Rattle.std.specs.Prelude.{Bool, cond, [], ℕ, ◌+◌, ◌*◌, eqb, get_or}
+-- How the walks find a node's children: no part of what is promised.
+use Rattle.std.specs.Prelude.{◌≡◌, Bool, cond, ℕ, ◌+◌}
 use Rattle.layout.specs.declared.parts.Part.{Part}
-use Rattle.fields.specs.Roles.{Row, node_rows, role_in, unused, child}
+use Rattle.fields.specs.declared.children.Children.{Children}
+use Rattle.fields.specs.declared.children.Children.TheVariants.{None, One, Two}
+use Rattle.fields.specs.Roles.{node_rows, role_in, is_child}
 
--- how many of the fields hold a child
-abbrev is_child : ℕ → ℕ
-is_child role = cond (eqb role child) 1 0
-
-abbrev pub children_in : Row → ℕ
-children_in row = is_child (get_or row 0 unused) + is_child (get_or row 1 unused) + is_child (get_or row 2 unused)
+-- field f of a node of this kind holds a child
+abbrev pub has_child : ℕ → ℕ → Bool
+has_child kind f = is_child (role_in node_rows kind f)
 
 -- how many children a node of this kind has
 abbrev pub child_count : ℕ → ℕ
-child_count kind = children_in (get_or node_rows kind [])
-
--- a row as a number: a in the lowest four bits, then b, then c, then how many hold a child
-abbrev pub packed : Row → ℕ
-packed row = get_or row 0 unused + 16 * get_or row 1 unused + 256 * get_or row 2 unused + 4096 * children_in row
+child_count kind = cond (has_child kind 0) 1 0 + cond (has_child kind 1) 1 0 + cond (has_child kind 2) 1 0
 
 -- the children of a node: a first child stands in the first field that holds one, a second in the field after it
-abbrev pub holds_child : Part → ℕ → Bool
-holds_child p f = eqb (role_in node_rows p.kind f) child
-
 unfoldable pub first_child : Part → ℕ
-first_child p = cond (holds_child p 0) p.a (cond (holds_child p 1) p.b p.c)
+first_child p = cond (has_child p.kind 0) p.a (cond (has_child p.kind 1) p.b p.c)
 
 unfoldable pub second_child : Part → ℕ
-second_child p = cond (holds_child p 0) p.b (cond (holds_child p 1) p.c 0)
+second_child p = cond (has_child p.kind 0) p.b (cond (has_child p.kind 1) p.c 0)
+
+-- these are the children of a node
+abbrev pub AreChildren : Part → Children → Type 0
+AreChildren p None = child_count p.kind ≡ 0
+AreChildren p (One x) = (child_count p.kind ≡ 1) × (x ≡ first_child p)
+AreChildren p (Two x y) = (child_count p.kind ≡ 2) × ((x ≡ first_child p) × (y ≡ second_child p))

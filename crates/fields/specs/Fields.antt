@@ -3,6 +3,7 @@ use Rattle.std.specs.Prelude.{cond, List, ℕ, ◌+◌, ◌*◌, ltb}
 use Rattle.layout.specs.Layout.{word_at, expression_count}
 use Rattle.layout.specs.Entries.{part_at, part_of}
 use Rattle.fields.specs.declared.Field.{Field}
+use Rattle.fields.specs.declared.roles.Role.{Role}
 use Rattle.fields.specs.Roles.{expression_rows, node_rows, role_in}
 
 -- a, b and c: field 0 is a, 1 is b, 2 is c
@@ -13,7 +14,7 @@ abbrev pub value_of : List ℕ → ℕ → ℕ → ℕ
 value_of s q f = word_at s (part_at s q + 2 * (f + 1))
 
 -- what field f of part q is for, by the part's kind, where there are so many expressions
-abbrev pub role_of : ℕ → ℕ → ℕ → ℕ → ℕ
+abbrev pub role_of : ℕ → ℕ → ℕ → ℕ → Role
 role_of expressions q kind f = cond (ltb q expressions) (role_in expression_rows kind f) (role_in node_rows kind f)
 
 -- field f of part q

@@ -1,34 +1,26 @@
 // The children of a node, by the table of roles.
-ghost use Rattle.std.specs.Prelude.{◌≡◌};
-ghost use Rattle.fields.specs.Children.{first_child, second_child};
+ghost use Rattle.fields.specs.Children.{AreChildren};
 
-use crate::roles;
+use crate::roles::{Role, node_roles};
 use layout::parts::Part;
 
-// The nodes that a node's fields use. Where it has fewer than two children the rest is of no meaning.
-#[derive(Clone, Copy)]
-pub struct Children {
-    pub first: usize,
-    pub second: usize,
+// The nodes that a node's fields use, in their order.
+#[derive(Clone, Copy, PartialEq, Eq)]
+pub enum Children {
+    None,
+    One(usize),
+    Two(usize, usize),
 }
 
+#[tactic(auto, unfolding(crate::specs::Children::first_child, crate::specs::Children::second_child))]
 pub fn children_of(p: Part) -> Children
-    ensures { (result.first ≡ first_child p) × (result.second ≡ second_child p) }
+    ensures { AreChildren p result }
 {
-    if roles::node_role(p.kind, 0) == roles::CHILD {
-        return Children {
-            first: p.a,
-            second: p.b,
-        };
-    }
-    if roles::node_role(p.kind, 1) == roles::CHILD {
-        return Children {
-            first: p.b,
-            second: p.c,
-        };
-    }
-    Children {
-        first: p.c,
-        second: 0,
+    match node_roles(p.kind) {
+        [Role::Child, Role::Child, _] => Children::Two(p.a, p.b),
+        [_, Role::Child, Role::Child] => Children::Two(p.b, p.c),
+        [_, Role::Child, _] => Children::One(p.b),
+        [_, _, Role::Child] => Children::One(p.c),
+        _ => Children::None,
     }
 }

@@ -1,4 +1,3 @@
 -- Laws that the proofs of several crates use.
 pub mod Layouts
-pub mod Values
 pub mod Placing

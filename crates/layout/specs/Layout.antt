@@ -1,6 +1,8 @@
 -- 01, 'Script file': where the lists of a file stand, and how many entries they have.
-use Rattle.std.specs.Prelude.{Bool, ◌&&◌, List, ℕ, ◌+◌, ◌-◌, ◌/◌, ◌%◌, eqb, leb, get_or, length}
+use Rattle.std.specs.Prelude.{Bool, cond, not, ◌&&◌, List, ℕ, ◌+◌, ◌-◌, ◌/◌, ◌%◌, eqb, leb, get_or, length}
+use Rattle.prelude.specs.declared.Refusal.{Refusal}
 use Rattle.prelude.specs.Numbers.{word}
+use Rattle.prelude.specs.Refusals.{refused_by, not_refused}
 use Rattle.layout.specs.declared.Script.{Script}
 
 -- 'At most 64 names, 256 expressions, 256 nodes'
@@ -81,3 +83,10 @@ abbrev pub counts_are_right : Script → Bool
 counts_are_right c =
     leb c.names most_names
     && (leb c.expressions most_expressions && (leb 1 c.nodes && leb c.nodes most_nodes))
+
+-- rows 4 and 5
+abbrev pub layout_refusal : List ℕ → Refusal
+layout_refusal s =
+    cond (not (tail_is_right s)) (refused_by 4 0)
+    (cond (not (counts_are_right (layout_of s))) (refused_by 5 0)
+    not_refused)

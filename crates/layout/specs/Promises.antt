@@ -1,6 +1,7 @@
 -- What functions over a file ask of its layout, no part of what is promised.
-use Rattle.std.specs.Prelude.{◌≡◌, true, List, ℕ, ◌+◌, ◌*◌, ◌≤◌, length}
+use Rattle.std.specs.Prelude.{◌≡◌, true, List, ℕ, ◌+◌, ◌*◌, ◌<◌, ◌≤◌, length}
 use Rattle.layout.specs.declared.Script.{Script}
+use Rattle.layout.specs.declared.parts.Part.{Part}
 use Rattle.layout.specs.Layout.{expressions_at, layout_of, counts_are_right}
 
 -- the layout of a file that refusals 4 and 5 let through
@@ -14,3 +15,7 @@ pub record Laid (s : List ℕ) (c : Script) : Type 0 where
 pub record PartWithin (s : List ℕ) (offset q : ℕ) : Type 0 where
   pub start : offset ≡ expressions_at s
   pub whole : offset + 8 * q + 8 ≤ length s
+
+-- the fields of a part have two bytes each
+abbrev pub SmallFields : Part → Type 0
+SmallFields p = (p.a < 65536) × ((p.b < 65536) × (p.c < 65536))

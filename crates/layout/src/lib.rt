@@ -2,8 +2,8 @@
 #![tactic(auto)]
 
 pub mod parts; // parts.rt: names, and the parts: expressions and nodes
-pub mod tail; // tail.rt: the tail, refusal 4
-pub mod places; // places.rt: refusals by number and place
+mod tail; // tail.rt: the tail, refusal 4
+pub mod file; // file.rt: a file with its layout
 
 ghost use Rattle.std.specs.Prelude.{◌≡◌, true};
 ghost use Rattle.layout.specs.Layout.{tail_is_right, counts_are_right, layout_of};
@@ -29,7 +29,7 @@ impl Script {
     pub const MAX_PARTS: usize = Script::MAX_EXPRESSIONS + Script::MAX_NODES;
 
     // The layout that a right tail gives.
-    pub fn layout_of(s: &[u8]) -> Script
+    fn layout_of(s: &[u8]) -> Script
         requires { tail_is_right s.now ≡ true }
         ensures { result ≡ layout_of s.now }
     {
@@ -45,18 +45,11 @@ impl Script {
     }
 
     // Refusal 5.
-    pub fn counts_are_right(self) -> bool
+    fn counts_are_right(self) -> bool
         ensures { result ≡ counts_are_right self }
     {
-        if Script::MAX_NAMES < self.names {
-            return false;
-        }
-        if Script::MAX_EXPRESSIONS < self.expressions {
-            return false;
-        }
-        if self.nodes < 1 {
-            return false;
-        }
-        self.nodes <= Script::MAX_NODES
+        self.names <= Script::MAX_NAMES
+            && self.expressions <= Script::MAX_EXPRESSIONS
+            && (1..=Script::MAX_NODES).contains(&self.nodes)
     }
 }

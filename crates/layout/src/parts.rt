@@ -1,8 +1,8 @@
 // Names, and the parts, which are the expressions and then the nodes.
-ghost use Rattle.std.specs.Prelude.{◌≡◌, ◌+◌, ◌*◌, ◌≤◌, length};
+ghost use Rattle.std.specs.Prelude.{◌≡◌, ◌+◌, ◌*◌, ◌<◌, ◌≤◌, length};
 ghost use Rattle.layout.specs.Layout.{word_at};
 ghost use Rattle.layout.specs.Entries.{name_of, part_of};
-ghost use Rattle.layout.specs.Promises.{PartWithin};
+ghost use Rattle.layout.specs.Promises.{PartWithin, SmallFields};
 
 #[derive(Clone, Copy)]
 pub struct Name {
@@ -32,19 +32,21 @@ pub const SESSION: usize = 65535;
 // A number of two bytes.
 pub fn word_at(s: &[u8], i: usize) -> usize
     requires { i + 2 ≤ length s.now }
-    ensures { result ≡ word_at s.now i }
+    ensures word { result ≡ word_at s.now i }
+    ensures small { result < 65536 }
 {
-    prelude::word_of(s[i], s[i + 1]) as usize
+    usize::from(u16::from_be_bytes([s[i], s[i + 1]]))
 }
 
 pub fn name_at(s: &[u8], x: usize) -> Name
     requires { 4 * x + 4 ≤ length s.now }
-    ensures { result ≡ name_of s.now x }
+    ensures name { result ≡ name_of s.now x }
+    ensures small { result.owner < 65536 }
 {
     let at = 4 * x;
     Name {
-        kind: prelude::wide(s[at]),
-        level: prelude::wide(s[at + 1]),
+        kind: usize::from(s[at]),
+        level: usize::from(s[at + 1]),
         owner: word_at(s, at + 2),
     }
 }
@@ -52,12 +54,13 @@ pub fn name_at(s: &[u8], x: usize) -> Name
 // Part q, where the parts begin at this offset.
 pub fn part_at(s: &[u8], offset: usize, q: usize) -> Part
     requires { PartWithin s.now offset q }
-    ensures { result ≡ part_of s.now q }
+    ensures part { result ≡ part_of s.now q }
+    ensures small { SmallFields result }
 {
     let at = offset + 8 * q;
     Part {
-        kind: prelude::wide(s[at]),
-        zero: prelude::wide(s[at + 1]),
+        kind: usize::from(s[at]),
+        zero: usize::from(s[at + 1]),
         a: word_at(s, at + 2),
         b: word_at(s, at + 4),
         c: word_at(s, at + 6),

@@ -10,19 +10,11 @@ const MARK: usize = 0x5354;
 fn offsets_are_right(expressions: usize, nodes: usize, tail: usize) -> bool
     ensures { result ≡ offsets_are_right expressions nodes tail }
 {
-    if nodes < expressions {
-        return false;
-    }
-    if tail < nodes {
-        return false;
-    }
-    if expressions % 4 != 0 {
-        return false;
-    }
-    if (nodes - expressions) % 8 != 0 {
-        return false;
-    }
-    (tail - nodes) % 8 == 0
+    expressions <= nodes
+        && nodes <= tail
+        && expressions % 4 == 0
+        && (nodes - expressions) % 8 == 0
+        && (tail - nodes) % 8 == 0
 }
 
 // The tail points at itself and at lists of whole entries that touch each other.
@@ -34,11 +26,7 @@ pub fn tail_is_right(s: &[u8]) -> bool
         return false;
     }
     let tail = n - 8;
-    if word_at(s, tail + 6) != MARK {
-        return false;
-    }
-    if word_at(s, tail + 4) != tail {
-        return false;
-    }
-    offsets_are_right(word_at(s, tail), word_at(s, tail + 2), tail)
+    word_at(s, tail + 6) == MARK
+        && word_at(s, tail + 4) == tail
+        && offsets_are_right(word_at(s, tail), word_at(s, tail + 2), tail)
 }
