@@ -1,44 +1,49 @@
 -- What a right field holds, role by role.
-use mathlib.Core.Path.{◌≡◌}
+use mathlib.Core.Path.{◌≡◌, refl}
 use mathlib.Core.Bool.{true, ◌&&◌, ◌||◌}
 use mathlib.Core.List.{List}
 use Prim.Native.Nat.{ℕ, ◌<◌}
 use lib.Dec.{eqb, ltb}
-use borrow.Author.Tests.{ltb-true, eqb-true}
-use Rattle.prelude.proofs.Bools.{or_cases, and_left, and_right}
+use borrow.Author.Tests.{ltb-true}
+use Rattle.prelude.proofs.Bools.{and_left, and_right}
 use Rattle.prelude.proofs.Searches.{all_elim}
 use Rattle.layout.specs.Layout.{expression_count, part_count}
 use Rattle.layout.specs.Entries.{node, part_of}
 use Rattle.fields.specs.declared.Field.{Field}
-use Rattle.fields.specs.Roles.{unused, expression, child, register, signal, new_register, new_signal, is_use, is_new}
+use Rattle.fields.specs.declared.roles.Role.{Role}
+use Rattle.fields.specs.declared.roles.Role.TheVariants.{Unused, Register, Signal, NewRegister, NewSignal, Expression, Child, Half}
+use Rattle.fields.specs.Roles.{is_use, is_new}
 use Rattle.fields.specs.Fields.{field_count, field_of}
 use Rattle.entries.specs.Faults.{field_is_right, holds_name, kinds_for}
 use Rattle.entries.specs.Promises.{Sound}
 
 module _ (s : List ℕ) (q : ℕ) (x : Field) where
-  pub holds_expression : x.role ≡ expression → field_is_right s q x ≡ (ltb x.value (expression_count s) && ltb x.value q)
+  pub holds_expression : x.role ≡ Expression → field_is_right s q x ≡ (ltb x.value (expression_count s) && ltb x.value q)
   unfolding field_is_right
   holds_expression e = rw e
 
-  pub holds_child_lem : x.role ≡ child → field_is_right s q x ≡ ltb (node s x.value) q
+  pub holds_child_lem : x.role ≡ Child → field_is_right s q x ≡ ltb (node s x.value) q
   unfolding field_is_right
   holds_child_lem e = rw e
 
-  pub holds_unused : x.role ≡ unused → field_is_right s q x ≡ eqb x.value 0
+  pub holds_unused : x.role ≡ Unused → field_is_right s q x ≡ eqb x.value 0
   unfolding field_is_right
   holds_unused e = rw e
 
   -- a field that uses or declares a name
   pub holds_name_lem : (is_use x.role || is_new x.role) ≡ true → field_is_right s q x ≡ holds_name s q x
   unfolding field_is_right
-  holds_name_lem h =
-      or_cases (is_use x.role) _ h
-      (λ u.
-      or_cases (eqb x.role register) _ u (λ e. rw (eqb-true x.role register e))
-      (λ e. rw (eqb-true x.role signal e)))
-      (λ n.
-      or_cases (eqb x.role new_register) _ n (λ e. rw (eqb-true x.role new_register e))
-      (λ e. rw (eqb-true x.role new_signal e)))
+  holds_name_lem = go x.role refl
+    where
+      go : (r : Role) → x.role ≡ r → (is_use r || is_new r) ≡ true → field_is_right s q x ≡ holds_name s q x
+      go Register e h = rw e
+      go Signal e h = rw e
+      go NewRegister e h = rw e
+      go NewSignal e h = rw e
+      go Unused e h = cc
+      go Expression e h = cc
+      go Child e h = cc
+      go Half e h = cc
 
 module _ (s : List ℕ) (sound : Sound s) where
   pub right_kind : (q : ℕ) → q < part_count s → (part_of s q).kind < kinds_for (expression_count s) q

@@ -5,12 +5,14 @@ use mathlib.Core.List.{List}
 use Prim.Native.Nat.{ℕ, ◌<◌}
 use lib.Dec.{eqb, ltb}
 use borrow.Author.Tests.{ltb-true, eqb-true}
-use Rattle.prelude.proofs.Bools.{and_left, and_right, or_first, or-true, or_second, by_cases}
+use Rattle.prelude.proofs.Bools.{and_left, and_right, or_first, or-true, or_second}
 use Rattle.layout.specs.Layout.{name_count, node_count, part_count}
 use Rattle.layout.specs.Entries.{name_of, is_session, node}
+use Rattle.fields.specs.declared.roles.Role.{Role}
+use Rattle.fields.specs.declared.roles.Role.TheVariants.{Unused, Register, Signal, NewRegister, NewSignal, Expression, Child, Half}
 use Rattle.fields.specs.Roles.{is_use, is_new}
 use Rattle.fields.specs.Fields.{field_count, field_of}
-use Rattle.entries.specs.Faults.{new_of, declares, kind_for, holds_name}
+use Rattle.entries.specs.Faults.{declares_as, declares, kind_for, holds_name}
 use Rattle.entries.specs.Promises.{Sound}
 use Rattle.entries.proofs.Holding.{holds_name_lem, right_field}
 
@@ -18,26 +20,33 @@ module _ (s : List ℕ) (sound : Sound s) where
   -- the node that owns an owned name declares it
   pub record Owned (x : ℕ) : Type 0 where
     pub inside : (name_of s x).owner < node_count s
-    pub declared : (field_of s (node s (name_of s x).owner) 0).role ≡ new_of (name_of s x).kind
+    pub declared : declares_as (name_of s x).kind (field_of s (node s (name_of s x).owner) 0).role ≡ true
     pub itself : (field_of s (node s (name_of s x).owner) 0).value ≡ x
 
   pub owned : (x : ℕ) → x < name_count s → is_session s x ≡ false → Owned x
   owned x h n =
       let d : declares s (name_of s x).owner (name_of s x).kind x ≡ true =
       sym (or_second (is_session s x) _ n) ∙ sound.owners x h in
-      let r : Bool = eqb (field_of s (node s (name_of s x).owner) 0).role (new_of (name_of s x).kind) in
+      let r : Bool = declares_as (name_of s x).kind (field_of s (node s (name_of s x).owner) 0).role in
       let right = and_right (ltb (name_of s x).owner (node_count s)) _ d in
       record {
         inside = ltb-true _ _ (and_left (ltb (name_of s x).owner (node_count s)) _ d);
-        declared = eqb-true _ _ (and_left r _ right);
+        declared = and_left r _ right;
         itself = eqb-true _ _ (and_right r _ right);
       }
 
-  is_new_of : (kind : ℕ) → is_new (new_of kind) ≡ true
-  is_new_of kind = by_cases (λ r. is_new r ≡ true) (eqb kind 0) (λ _. refl) (λ _. refl)
+  declares-new : (kind : ℕ) (r : Role) → declares_as kind r ≡ true → is_new r ≡ true
+  declares-new kind NewRegister h = refl
+  declares-new kind NewSignal h = refl
+  declares-new kind Unused h = cc
+  declares-new kind Register h = cc
+  declares-new kind Signal h = cc
+  declares-new kind Expression h = cc
+  declares-new kind Child h = cc
+  declares-new kind Half h = cc
 
   pub is_new_lem : (x : ℕ) → Owned x → is_new (field_of s (node s (name_of s x).owner) 0).role ≡ true
-  is_new_lem x o = ap is_new o.declared ∙ is_new_of (name_of s x).kind
+  is_new_lem x o = declares-new (name_of s x).kind _ o.declared
 
   -- a right field that holds a name
   pub record Named (q f : ℕ) : Type 0 where

@@ -1,5 +1,5 @@
 -- 01, the table of refusals, rows 6 to 8: what each name, expression and node must have by itself.
-use Rattle.std.specs.Prelude.{Bool, true, cond, not, ◌&&◌, ◌||◌, List, ℕ, eqb, leb, ltb}
+use Rattle.std.specs.Prelude.{Bool, true, false, cond, not, ◌&&◌, ◌||◌, List, ℕ, eqb, leb, ltb}
 use Rattle.prelude.specs.declared.Refusal.{Refusal}
 use Rattle.prelude.specs.Refusals.{refused_by, not_refused}
 use Rattle.prelude.specs.Search.{all}
@@ -7,17 +7,22 @@ use Rattle.layout.specs.Layout.{name_count, expression_count, node_count}
 use Rattle.layout.specs.Entries.{name_of, is_session, part_of, node}
 use Rattle.layout.specs.Places.{at_first}
 use Rattle.fields.specs.declared.Field.{Field}
-use Rattle.fields.specs.Roles.{unused, register, new_register, new_signal, expression, child, half, expression_kinds, node_kinds, is_new}
+use Rattle.fields.specs.declared.roles.Role.{Role}
+use Rattle.fields.specs.declared.roles.Role.TheVariants.{Unused, Register, NewRegister, NewSignal, Expression, Child, Half}
+use Rattle.fields.specs.Roles.{expression_kinds, node_kinds, is_new}
 use Rattle.fields.specs.Fields.{field_count, field_of}
 
--- row 6: 'a matching declaration of it': node k, whose field a declares a name of this kind, and that name is x
-abbrev pub new_of : ℕ → ℕ
-new_of kind = cond (eqb kind 0) new_register new_signal
+-- a field of this role declares a name of this kind
+abbrev pub declares_as : ℕ → Role → Bool
+declares_as kind NewRegister = eqb kind 0
+declares_as kind NewSignal = not (eqb kind 0)
+declares_as kind _ = false
 
+-- row 6: 'a matching declaration of it': node k, whose field a declares a name of this kind, and that name is x
 abbrev pub declares : List ℕ → ℕ → ℕ → ℕ → Bool
 declares s k kind x =
     ltb k (node_count s)
-    && (eqb (field_of s (node s k) 0).role (new_of kind) && eqb (field_of s (node s k) 0).value x)
+    && (declares_as kind (field_of s (node s k) 0).role && eqb (field_of s (node s k) 0).value x)
 
 abbrev pub owner_is_right : List ℕ → ℕ → Bool
 owner_is_right s x = is_session s x || declares s (name_of s x).owner (name_of s x).kind x
@@ -28,8 +33,10 @@ name_is_right s levels x =
     leb (name_of s x).kind 1 && (ltb (name_of s x).level levels && owner_is_right s x)
 
 -- the kind of the names that a field of this role holds
-abbrev pub kind_for : ℕ → ℕ
-kind_for role = cond (eqb role register || eqb role new_register) 0 1
+abbrev pub kind_for : Role → ℕ
+kind_for Register = 0
+kind_for NewRegister = 0
+kind_for _ = 1
 
 -- a field of part q holds a name of the right kind; where it declares the name, part q owns it
 abbrev pub holds_name : List ℕ → ℕ → Field → Bool
@@ -42,11 +49,13 @@ holds_name s q x =
 -- numbers than their parent', a name of the right kind, no 'name it doesn't own'.
 unfoldable pub field_is_right : List ℕ → ℕ → Field → Bool
 field_is_right s q x =
-    cond (eqb x.role unused) (eqb x.value 0)
-    (cond (eqb x.role half) true
-    (cond (eqb x.role expression) (ltb x.value (expression_count s) && ltb x.value q)
-    (cond (eqb x.role child) (ltb (node s x.value) q)
-    (holds_name s q x))))
+    elim x.role [
+      | Unused ↦ eqb x.value 0
+      | Half ↦ true
+      | Expression ↦ ltb x.value (expression_count s) && ltb x.value q
+      | Child ↦ ltb (node s x.value) q
+      | _ ↦ holds_name s q x
+    ]
 
 -- how many kinds part q can have, where there are so many expressions
 abbrev pub kinds_for : ℕ → ℕ → ℕ

@@ -5,29 +5,24 @@ mod names; // names.rt: refusal 6
 mod parts; // parts.rt: refusals 7 and 8
 
 ghost use Rattle.std.specs.Prelude.{◌≡◌};
-ghost use Rattle.layout.specs.Promises.{Laid};
+ghost use Rattle.prelude.specs.Promises.{outcome};
 ghost use Rattle.entries.specs.Faults.{fault_refusal};
 
-use layout::Script;
-use layout::places::refused_by;
+use layout::file::File;
 use prelude::Refusal;
 
 // Rows 6 to 8, each over all its entries.
-pub fn refusal(s: &[u8], c: Script, levels: usize) -> Refusal
-    requires { Laid s.now c }
-    ensures { result ≡ fault_refusal s.now levels }
+pub fn check(file: &File<'_>, levels: usize) -> Result<(), Refusal>
+    ensures { result ≡ outcome (fault_refusal file.now.bytes.now levels) tt }
 {
-    let name = names::first_wrong_name(s, c, levels);
-    if name < c.names {
-        return refused_by(6, name);
+    if let Some(x) = names::first_wrong_name(file, levels) {
+        return Err(Refusal::at(6, x));
     }
-    let expression = parts::first_wrong_part(s, c, 0, c.expressions);
-    if expression < c.expressions {
-        return refused_by(7, expression);
+    if let Some(e) = parts::first_wrong_expression(file) {
+        return Err(Refusal::at(7, e));
     }
-    let node = parts::first_wrong_part(s, c, c.expressions, c.nodes);
-    if node < c.nodes {
-        return refused_by(8, node);
+    if let Some(k) = parts::first_wrong_node(file) {
+        return Err(Refusal::at(8, k));
     }
-    refused_by(0, 0)
+    Ok(())
 }

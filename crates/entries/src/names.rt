@@ -1,67 +1,50 @@
 // What is wrong with a name by itself: refusal 6.
 ghost use Rattle.std.specs.Prelude.{◌≡◌, not, ◌<◌};
-ghost use Rattle.prelude.specs.Search.{first};
-ghost use Rattle.layout.specs.Promises.{Laid};
-ghost use Rattle.entries.specs.Faults.{new_of, declares, name_is_right};
+ghost use Rattle.prelude.specs.Promises.{found};
+ghost use Rattle.layout.specs.Layout.{name_count};
+ghost use Rattle.entries.specs.Faults.{declares_as, declares, name_is_right};
 
-use fields::{field_at, roles};
-use layout::Script;
-use layout::parts::{SESSION, name_at};
+use fields::field_at;
+use fields::roles::Role;
+use layout::file::File;
+use layout::parts::SESSION;
+use prelude::search::first;
 
-// The role of a field that declares a name of this kind.
-fn new_of(kind: usize) -> u16
-    ensures { result ≡ new_of kind }
+// A field of this role declares a name of this kind.
+fn declares_as(role: Role, kind: usize) -> bool
+    ensures { result ≡ declares_as kind role }
 {
-    if kind == 0 {
-        return roles::NEW_REGISTER;
+    match role {
+        Role::NewRegister => kind == 0,
+        Role::NewSignal => kind != 0,
+        _ => false,
     }
-    roles::NEW_SIGNAL
 }
 
 // Node k declares name x, which is of this kind.
-fn declares(s: &[u8], c: Script, k: usize, kind: usize, x: usize) -> bool
-    requires { Laid s.now c }
-    ensures { result ≡ declares s.now k kind x }
+fn declares(file: &File<'_>, k: usize, kind: usize, x: usize) -> bool
+    ensures { result ≡ declares file.now.bytes.now k kind x }
 {
-    if c.nodes <= k {
+    if file.layout.nodes <= k {
         return false;
     }
-    let field = field_at(s, c, c.expressions + k, 0);
-    if field.role != new_of(kind) {
-        return false;
-    }
-    field.value == x
+    let field = field_at(file, file.layout.expressions + k, 0);
+    declares_as(field.role, kind) && field.value == x
 }
 
-fn name_is_right(s: &[u8], c: Script, levels: usize, x: usize) -> bool
-    requires { Laid s.now c × (x < c.names) }
-    ensures { result ≡ name_is_right s.now levels x }
+fn name_is_right(file: &File<'_>, levels: usize, x: usize) -> bool
+    requires { x < file.now.layout.names }
+    ensures { result ≡ name_is_right file.now.bytes.now levels x }
 {
-    let name = name_at(s, x);
-    if 1 < name.kind {
-        return false;
-    }
-    if levels <= name.level {
-        return false;
-    }
-    if name.owner == SESSION {
-        return true;
-    }
-    declares(s, c, name.owner, name.kind, x)
+    let name = file.name(x);
+    name.kind <= 1
+        && name.level < levels
+        && (name.owner == SESSION || declares(file, name.owner, name.kind, x))
 }
 
-// The smallest name at fault, or the number of names.
-pub fn first_wrong_name(s: &[u8], c: Script, levels: usize) -> usize
-    requires { Laid s.now c }
-    ensures { result ≡ first (λ x. not (name_is_right s.now levels x)) c.names }
+// The smallest name at fault.
+pub fn first_wrong_name(file: &File<'_>, levels: usize) -> Option<usize>
+    ensures { result ≡ found (λ x. not (name_is_right file.now.bytes.now levels x)) (name_count file.now.bytes.now) }
 {
-    let n = c.names;
-    let mut x: usize = 0;
-    while x < n {
-        if !name_is_right(s, c, levels, x) {
-            return x;
-        }
-        x += 1;
-    }
-    x
+    first(file.layout.names, |x| !name_is_right(file, levels, x))
 }

@@ -1,116 +1,95 @@
 // What is wrong with an expression or a node by itself: refusals 7 and 8.
-ghost use Rattle.std.specs.Prelude.{◌≡◌, not, ◌+◌, ◌<◌, ◌≤◌};
-ghost use Rattle.prelude.specs.Search.{first, all};
-ghost use Rattle.layout.specs.Promises.{Laid};
+ghost use Rattle.std.specs.Prelude.{◌≡◌, not, ◌+◌, ◌<◌};
+ghost use Rattle.prelude.specs.Search.{all};
+ghost use Rattle.prelude.specs.Promises.{found};
+ghost use Rattle.layout.specs.Layout.{expression_count, node_count};
+ghost use Rattle.layout.specs.Entries.{node};
 ghost use Rattle.fields.specs.Fields.{field_count, field_of};
 ghost use Rattle.entries.specs.Faults.{kind_for, holds_name, field_is_right, kinds_for, part_is_right};
 
-use fields::{Field, field_at, roles};
+use fields::roles::{EXPRESSION_KINDS, NODE_KINDS, Role};
+use fields::{Field, field_at};
 use layout::Script;
-use layout::parts::{Part, name_at, part_at};
+use layout::file::File;
+use layout::parts::Part;
+use prelude::search::{all, first};
 
 // The kind of the names that a field of this role holds.
-fn kind_for(role: u16) -> usize
+fn kind_for(role: Role) -> usize
     ensures { result ≡ kind_for role }
 {
-    if role == roles::REGISTER {
-        return 0;
+    match role {
+        Role::Register | Role::NewRegister => 0,
+        _ => 1,
     }
-    if role == roles::NEW_REGISTER {
-        return 0;
-    }
-    1
 }
 
 // A field of part q holds a name of the right kind, and its own name where it declares one.
-fn holds_name(s: &[u8], c: Script, q: usize, field: Field) -> bool
-    requires { Laid s.now c }
-    ensures { result ≡ holds_name s.now q field }
+fn holds_name(file: &File<'_>, q: usize, field: Field) -> bool
+    ensures { result ≡ holds_name file.now.bytes.now q field }
 {
-    let x = field.value;
-    if c.names <= x {
+    if file.layout.names <= field.value {
         return false;
     }
-    let name = name_at(s, x);
-    if name.kind != kind_for(field.role) {
-        return false;
-    }
-    if roles::is_new(field.role) {
-        return c.expressions + name.owner == q;
-    }
-    true
+    let name = file.name(field.value);
+    name.kind == kind_for(field.role)
+        && (!field.role.is_new() || file.layout.expressions + name.owner == q)
 }
 
-// A field of part q holds what its role asks for.
-fn field_is_right(s: &[u8], c: Script, q: usize, field: Field) -> bool
-    requires { Laid s.now c × (field.value < 65536) }
-    ensures { result ≡ field_is_right s.now q field }
+// Field f of part q holds what its role asks for.
+#[tactic(auto, unfolding(crate::specs::Faults::field_is_right))]
+fn field_is_right(file: &File<'_>, q: usize, f: usize) -> bool
+    requires { (q < file.now.layout.expressions + file.now.layout.nodes) × (f < field_count) }
+    ensures { result ≡ field_is_right file.now.bytes.now q (field_of file.now.bytes.now q f) }
 {
-    let role = field.role;
-    let value = field.value;
-    if role == roles::UNUSED {
-        return value == 0;
+    let field = field_at(file, q, f);
+    match field.role {
+        Role::Unused => field.value == 0,
+        Role::Half => true,
+        Role::Expression => field.value < file.layout.expressions && field.value < q,
+        Role::Child => file.layout.expressions + field.value < q,
+        _ => holds_name(file, q, field),
     }
-    if role == roles::HALF {
-        return true;
-    }
-    if role == roles::EXPRESSION {
-        return value < c.expressions && value < q;
-    }
-    if role == roles::CHILD {
-        return c.expressions + value < q;
-    }
-    holds_name(s, c, q, field)
 }
 
-fn kinds_for(c: Script, q: usize) -> usize
-    ensures { result ≡ kinds_for c.expressions q }
+fn kinds_for(layout: Script, q: usize) -> usize
+    ensures { result ≡ kinds_for layout.expressions q }
 {
-    if q < c.expressions {
-        return roles::EXPRESSION_KINDS;
+    if q < layout.expressions {
+        EXPRESSION_KINDS
+    } else {
+        NODE_KINDS
     }
-    roles::NODE_KINDS
 }
 
-fn fields_are_right(s: &[u8], c: Script, q: usize) -> bool
-    requires { Laid s.now c × (q < c.expressions + c.nodes) }
-    ensures { result ≡ all (λ f. field_is_right s.now q (field_of s.now q f)) field_count }
+fn fields_are_right(file: &File<'_>, q: usize) -> bool
+    requires { q < file.now.layout.expressions + file.now.layout.nodes }
+    ensures { result ≡ all (λ f. field_is_right file.now.bytes.now q (field_of file.now.bytes.now q f)) field_count }
 {
-    let mut f: usize = 0;
-    while f < Part::FIELDS {
-        if !field_is_right(s, c, q, field_at(s, c, q, f)) {
-            return false;
-        }
-        f += 1;
-    }
-    true
+    all(Part::FIELDS, |f| field_is_right(file, q, f))
 }
 
-fn part_is_right(s: &[u8], c: Script, q: usize) -> bool
-    requires { Laid s.now c × (q < c.expressions + c.nodes) }
-    ensures { result ≡ part_is_right s.now q }
+fn part_is_right(file: &File<'_>, q: usize) -> bool
+    requires { q < file.now.layout.expressions + file.now.layout.nodes }
+    ensures { result ≡ part_is_right file.now.bytes.now q }
 {
-    let p = part_at(s, c.offset, q);
-    if kinds_for(c, q) <= p.kind {
-        return false;
-    }
-    if p.zero != 0 {
-        return false;
-    }
-    fields_are_right(s, c, q)
+    let p = file.part(q);
+    p.kind < kinds_for(file.layout, q) && p.zero == 0 && fields_are_right(file, q)
 }
 
-// Of the n parts from part `from` on, the smallest at fault by its number among them, or n.
-pub fn first_wrong_part(s: &[u8], c: Script, from: usize, n: usize) -> usize
-    requires { Laid s.now c × (from + n ≤ c.expressions + c.nodes) }
-    ensures { result ≡ first (λ k. not (part_is_right s.now (from + k))) n }
+// The smallest expression at fault.
+pub fn first_wrong_expression(file: &File<'_>) -> Option<usize>
+    ensures { result ≡ found (λ e. not (part_is_right file.now.bytes.now e)) (expression_count file.now.bytes.now) }
 {
-    let mut k: usize = 0;
-    while k < n {
-        if !part_is_right(s, c, from + k) {
-            return k;
-        }
-        k += 1;
-    }
-    k
+    first(file.layout.expressions, |e| !part_is_right(file, e))
+}
+
+// The smallest node at fault.
+pub fn first_wrong_node(file: &File<'_>) -> Option<usize>
+    ensures { result ≡ found (λ k. not (part_is_right file.now.bytes.now (node file.now.bytes.now k))) (node_count file.now.bytes.now) }
+{
+    first(
+        file.layout.nodes,
+        |k| !part_is_right(file, file.layout.expressions + k),
+    )
 }
