@@ -1,6 +1,6 @@
 -- Laws that the proofs of several functions use.
 pub mod Signed
 pub mod Bits
+pub mod Clamping
 pub mod Rounding
 pub mod Nearest
-pub mod Quotients

@@ -47,7 +47,7 @@ signed_size (pos m) (negsuc n) k = negated_size (pos k)
 signed_size (negsuc m) (pos n) k = negated_size (pos k)
 signed_size (negsuc m) (negsuc n) k = refl
 
-pub size_above : (b : ℤ) → is_zero b ≡ false → 0 < nat_abs b
+size_above : (b : ℤ) → is_zero b ≡ false → 0 < nat_abs b
 size_above (pos zero) t = absurd (true≢false t)
 size_above (pos (suc n)) t = omega arith
 size_above (negsuc n) t = omega arith

@@ -1,7 +1,7 @@
 -- Quotients of natural numbers to the nearest whole number, a tie to the even one: `rounded` gives one, and there is no other.
-use mathlib.Core.Path.{◌≡◌, refl, subst}
+use mathlib.Core.Path.{◌≡◌, subst}
 use Prim.Native.Nat.{ℕ, suc, ◌+◌, ◌*◌, ◌/◌, ◌%◌, ◌≤◌, ◌<◌}
-use native.Mathlib.Nat.{suc-mul, mul-le-mul_right, div-add-mod', div-le_self, mod-lt}
+use native.Mathlib.Nat.{suc-mul, mul-le-mul_right, div-add-mod', mod-lt}
 use native.Mathlib.Omega.{arith}
 use native.Mathlib.Decide.{ℕ_discrete}
 use lib.Dec.{eqb, ltb}
@@ -32,16 +32,6 @@ module _ (m n : ℕ) where
       by_cases P (eqb (cut % 2) 0)
       (λ u. down (omega (arith, ltb-false n twice t, eqb-true (cut % 2) 0 u)))
       (λ u. up (omega (arith, ltb-false twice n s, eqb-false (cut % 2) 0 u)))))
-
-  pub rounded_up : n < twice + cut % 2 → suc cut ≡ rounded m n
-  rounded_up h = by_remainder (λ (k : ℕ). suc cut ≡ k) (λ i. refl) (λ i. omega arith)
-
-  pub rounded_down : twice + cut % 2 ≤ n → cut ≡ rounded m n
-  rounded_down h = by_remainder (λ (k : ℕ). cut ≡ k) (λ i. omega arith) (λ i. refl)
-
-  pub rounded_size : rounded m n ≤ suc m
-  rounded_size =
-      by_remainder (λ (k : ℕ). k ≤ suc m) (λ i. omega (arith, div-le_self m n)) (λ i. omega (arith, div-le_self m n))
 
 module _ (m : ℕ) {n : ℕ} (above : 0 < n) where
   next_apart : apart m (suc (m / n) * n) + m % n ≡ n

@@ -6,17 +6,11 @@ ghost use Rattle.std.proofs.Common.{of_z, to_z};
 pub fn word_of(v: i32) -> u32
     ensures { result ≡ of_z w32 v }
 {
-    if v < 0 {
-        return ((v as i64) + 4294967296) as u32;
-    }
-    v as u32
+    v.cast_unsigned()
 }
 
 pub fn value_of_word(x: u32) -> i32
     ensures { result ≡ to_z w32 x }
 {
-    if x < 2147483648 {
-        return x as i32;
-    }
-    ((x as i64) - 4294967296) as i32
+    x.cast_signed()
 }

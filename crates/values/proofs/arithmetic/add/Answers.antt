@@ -1,17 +1,7 @@
--- `add`: the sum is exact in 64 bits, and `clamp` clamps it.
-use lib.IntN.{◌+ℤ◌}
-use Rattle.values.proofs.Signed.{widens, widened_fits, sum_fits, clamped_result}
+-- `add`: what is nearest to the exact result is its clamped one.
+use Rattle.std.proofs.Common.{rules}
+use Rattle.values.proofs.Clamping.{given_clamped}
 use Rattle.values.proofs.arithmetic.add.Goals as goal
 
-pub overflow_cast-a : goal.overflow_cast-a
-overflow_cast-a c = search widens
-
-pub overflow_cast-b : goal.overflow_cast-b
-overflow_cast-b c = search widens
-
-pub overflow_add-a : goal.overflow_add-a
-overflow_add-a c = search (sum_fits, widened_fits)
-
 pub returns : goal.returns
-returns c =
-    clamped_result ◌+ℤ◌ sum_fits c.ranges.a c.ranges.b c.clamp.type_inv c.clamp.ensures
+returns c = search (rules, given_clamped)
