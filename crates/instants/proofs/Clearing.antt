@@ -11,10 +11,7 @@ use lib.ListN.{length, take, drop, set, length-set}
 use lib.Seq.{set-get_or, drop-set-lt, drop-drop, get_or-drop}
 use Rattle.prelude.specs.Table.{table}
 use Rattle.prelude.proofs.Tables.{fill_none, fill_more, fill_all}
-use Rattle.language.specs.Syntax.{Names}
-use Rattle.language.specs.Steps.{held, instant_start}
-use Rattle.language.specs.Calls.{given_back}
-use Rattle.instants.specs.Promises.{is_cleared, cleared}
+use Rattle.language.specs.Steps.{held}
 
 -- where name x is to hold f x
 pub record Renewed (f : ℕ → ℤ) (old : List ℤ) (x : ℕ) (values : List ℤ) : Type 0 where
@@ -53,14 +50,7 @@ module _ (f : ℕ → ℤ) (old : List ℤ) where
       (x : ℕ) (values : List ℤ) → length old ≤ x → Renewed f old x values → values ≡ table f (length old)
   renewed_all x values h r = fill_all f values (length old) x r.same r.within h r.done
 
-cond_not : {A : Type 0} (b : Bool) (x y : A) → cond (not b) x y ≡ cond b y x
+-- where not the names of the session are cleared
+pub cond_not : {A : Type 0} (b : Bool) (x y : A) → cond (not b) x y ≡ cond b y x
 cond_not true x y = refl
 cond_not false x y = refl
-
--- all names that are to be cleared are 0
-pub all_cleared :
-    (names : Names ℕ) (owned : Bool) (values : List ℤ) →
-    table (λ x. cond (is_cleared names owned x) (pos 0) (held values x)) (length values) ≡ cleared names owned values
-unfolding given_back instant_start
-all_cleared names true values = simp cond_not
-all_cleared names false values = refl

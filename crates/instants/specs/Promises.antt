@@ -1,6 +1,7 @@
 -- What the functions about suspension and instants promise.
 use Rattle.std.specs.Prelude.{◌≡◌, Bool, true, cond, not, ◌&&◌, List, ℕ, ◌≤◌, ◌<◌, ℤ, pos, length}
 use Rattle.prelude.specs.Search.{any}
+use Rattle.prelude.specs.Table.{table}
 use Rattle.language.specs.Syntax.{Names}
 use Rattle.language.specs.Steps.{held, present, suspended, change, no_signal, instant_start}
 use Rattle.language.specs.Calls.{given_back}
@@ -27,12 +28,9 @@ is_present_signal names values x = names.is_signal x && present values x
 abbrev pub some_signal_present : Names ℕ → List ℤ → Bool
 some_signal_present names values = any (is_present_signal names values) (length values)
 
--- the names that are cleared: the owned ones, or else the signals; and the values without theirs
-abbrev pub is_cleared : Names ℕ → Bool → ℕ → Bool
-is_cleared names owned x = cond owned (not (names.is_session x)) (names.is_signal x)
-
-abbrev pub cleared : Names ℕ → Bool → List ℤ → List ℤ
-cleared names owned values = cond owned (given_back names values) (instant_start names no_signal values)
+-- the values without those of the names for which f holds
+abbrev pub cleared_by : (ℕ → Bool) → List ℤ → List ℤ
+cleared_by f values = table (λ x. cond (f x) (pos 0) (held values x)) (length values)
 
 -- what the end of an instant makes of node k, and of the values: no signal is present yet
 pub record NextInstant (words : List ℕ) (k : ℕ) (st st' : List ℕ) (vs vs' : List ℤ) : Type 0 where

@@ -3,12 +3,13 @@
 
 pub mod suspension; // suspension.rt: whether what is left of a node is suspended
 
-ghost use Rattle.std.specs.Prelude.{◌≡◌, ◌<◌};
+ghost use Rattle.std.specs.Prelude.{◌≡◌, ℕ, Bool, length};
+ghost use Rattle.prelude.specs.Promises.{Covers, Computes};
 ghost use Rattle.language.specs.Steps.{change, no_signal, instant_start};
 ghost use Rattle.language.specs.Calls.{given_back};
-ghost use Rattle.program.specs.Program.{most_names, names_of};
+ghost use Rattle.program.specs.Program.{names_of};
 ghost use Rattle.residual.specs.Nodes.{Valued, NodeIn, residual_of};
-ghost use Rattle.instants.specs.Promises.{some_signal_present, is_cleared, cleared, NextInstant, CanSet, MadePresent};
+ghost use Rattle.instants.specs.Promises.{some_signal_present, cleared_by, NextInstant, CanSet, MadePresent};
 
 use program::forms::{find_front, find_rear, form_at};
 use program::{WORDS, forms};
@@ -51,40 +52,20 @@ pub fn some_signal_present(program: &[usize; WORDS], values: &[i32]) -> bool
     requires { Valued program.now values.now }
     ensures { result ≡ some_signal_present (names_of program.now) values.now }
 {
-    let n = values.len();
-    let mut x: usize = 0;
-    while x < n {
-        if program::is_signal(program, x) && evaluation::is_present(values, x) {
-            return true;
-        }
-        x += 1;
-    }
-    false
+    prelude::search::any(values.len(), |x| {
+        program::is_signal(program, x) && evaluation::is_present(values, x)
+    })
 }
 
-// Name x is owned, or else a signal.
-fn is_cleared(program: &[usize; WORDS], owned: bool, x: usize) -> bool
-    requires { x < most_names }
-    ensures { result ≡ is_cleared (names_of program.now) owned x }
+// The names for which the test holds become 0.
+fn clear<F: Fn(usize) -> bool>(values: &mut [i32], cleared: F)
+    requires { Covers (F.pre cleared) (length values.old) }
+    ensures { (f : ℕ → Bool) → Computes (F.post cleared) (length values.old) f → values.new ≡ cleared_by f values.old }
 {
-    if owned {
-        return !program::is_session(program, x);
-    }
-    program::is_signal(program, x)
-}
-
-// Every owned name is 0, or else every signal is absent.
-fn clear(program: &[usize; WORDS], owned: bool, values: &mut [i32])
-    requires { Valued program.now values.old }
-    ensures { values.new ≡ cleared (names_of program.now) owned values.old }
-{
-    let n = values.len();
-    let mut x: usize = 0;
-    while x < n {
-        if is_cleared(program, owned, x) {
+    for x in 0..values.len() {
+        if cleared(x) {
             values[x] = 0;
         }
-        x += 1;
     }
 }
 
@@ -93,7 +74,7 @@ fn clear_signals(program: &[usize; WORDS], values: &mut [i32])
     requires { Valued program.now values.old }
     ensures { values.new ≡ instant_start (names_of program.now) no_signal values.old }
 {
-    clear(program, false, values);
+    clear(values, |x| program::is_signal(program, x));
 }
 
 // The instant ends: what is left of node k changes, by the signals of the instant that ends, and the next one begins.
@@ -110,11 +91,9 @@ pub fn make_present(list: &[u32], from: usize, to: usize, values: &mut [i32])
     requires { CanSet list.now from to values.old }
     ensures { MadePresent list.now from to values.old values.new }
 {
-    let mut k = from;
-    while k < to {
+    for k in from..to {
         let a = inputs::signal_at(list, k);
         values[a] = 1;
-        k += 1;
     }
 }
 
@@ -123,5 +102,5 @@ pub fn clear_owned(program: &[usize; WORDS], values: &mut [i32])
     requires { Valued program.now values.old }
     ensures { values.new ≡ given_back (names_of program.now) values.old }
 {
-    clear(program, true, values);
+    clear(values, |x| !program::is_session(program, x));
 }

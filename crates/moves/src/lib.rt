@@ -13,16 +13,6 @@ use counts::{Counts, Moved, Reason};
 use language::process_kinds;
 use program::{WORDS, forms};
 
-fn clear(state: &mut [u8])
-    ensures { state.new ≡ replicate (length state.old) 0 }
-{
-    let mut i: usize = 0;
-    while i < state.len() {
-        state[i] = forms::WRITTEN;
-        i += 1;
-    }
-}
-
 // The bytes of a loop's body. That of one node needs no loop of its own.
 fn clear_body(state: &mut [u8])
     ensures { state.new ≡ replicate (length state.old) 0 }
@@ -31,7 +21,7 @@ fn clear_body(state: &mut [u8])
         state[0] = forms::WRITTEN;
         return;
     }
-    clear(state);
+    state.fill(forms::WRITTEN);
 }
 
 // A let sets its name and leaves its body.

@@ -1,16 +1,12 @@
 -- `clear`: the names below x hold their new values, the others what they held.
-use mathlib.Core.Bool.{cond}
-use Prim.Native.Nat.{◌-◌}
+use Rattle.std.proofs.Common.{ℕ, Bool, cond, length}
 use lib.IntN.{pos}
+use Rattle.prelude.specs.Promises.{Computes}
 use Rattle.language.specs.Steps.{held}
-use Rattle.program.specs.Program.{names_of}
-use Rattle.instants.specs.Promises.{is_cleared}
 use Rattle.instants.proofs.Clearing.{Renewed}
 use Rattle.instants.proofs.clear.Given as goal
 
 abbrev pub invariant-loop-x : goal.invariant-loop-x
-invariant-loop-x l =
-    Renewed (λ y. cond (is_cleared (names_of l.program) l.owned y) (pos 0) (held l.initial.values y)) l.initial.values l.x l.values
-
-abbrev pub decreases-loop-x : goal.decreases-loop-x
-decreases-loop-x l = l.n - l.x
+invariant-loop-x g l =
+    (f : ℕ → Bool) → Computes (goal.F-post g l.cleared) (length l.initial.values) f →
+    Renewed (λ y. cond (f y) (pos 0) (held l.initial.values y)) l.initial.values l.x l.values

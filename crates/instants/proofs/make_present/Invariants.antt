@@ -4,7 +4,4 @@ use Rattle.instants.specs.Promises.{MadePresent}
 use Rattle.instants.proofs.make_present.Given as goal
 
 abbrev pub invariant-loop-k : goal.invariant-loop-k
-invariant-loop-k l = (l.from ≤ l.k) × (l.k ≤ l.to) × MadePresent l.list l.from l.k l.initial.values l.values
-
-abbrev pub decreases-loop-k : goal.decreases-loop-k
-decreases-loop-k l = l.to - l.k
+invariant-loop-k l = MadePresent l.list l.from l.k l.initial.values l.values
