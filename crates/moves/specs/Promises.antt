@@ -1,5 +1,6 @@
 -- What the functions that make moves ask for and promise.
 use Rattle.std.specs.Prelude.{◌≡◌, Bool, true, false, not, ◌&&◌, ◌⊎◌, List, ℕ, suc, ◌+◌, ◌*◌, ◌/◌, ◌≤◌, ◌<◌, eqb, ℤ, set, length}
+use Rattle.std.specs.Prelude as answer
 use Rattle.std.proofs.Math.Option.{Option}
 use Rattle.language.specs.Kinds.{assign, let_in, if_then_else, while, emit, local}
 use Rattle.language.specs.Syntax.{Proc, nil}
@@ -9,7 +10,6 @@ use Rattle.program.specs.Program.{most_names, node_count, kind_at, a_at, seen_by
 use Rattle.program.specs.Forms.{itself}
 use Rattle.residual.specs.Residual.{own}
 use Rattle.residual.specs.Nodes.{Valued, At, in_front, residual_of}
-use Rattle.moves.specs.declared.log.Noted.{Noted}
 use Rattle.moves.specs.declared.counts.Counts.{Counts}
 use Rattle.moves.specs.declared.counts.Moved.{Moved}
 use Rattle.moves.specs.Moves.{Running, log_after, lines_after, has_room, Live, Silent, Comes}
@@ -39,12 +39,19 @@ pub record CanNote (log : List ℕ) (at : Counts) (x : ℕ) : Type 0 where
   pub instants : at.instants ≤ at.steps
   pub space : 4 * at.lines ≤ length log
 
--- a line is written if there is room for it
-pub record Notes (room : ℕ) (l : Option Line) (n : ℕ) (log : List ℕ) (r : Noted) (after : List ℕ) : Type 0 where
-  pub fits : r.fits ≡ has_room room l n
-  pub written : r.fits ≡ true → after ≡ log_after l n log
-  pub lines : r.fits ≡ true → r.lines ≡ lines_after l n
-  pub full : r.fits ≡ false → after ≡ log
+-- a line is written if there is room for it: so many lines there are then
+pub record Noted (room : ℕ) (l : Option Line) (n : ℕ) (log : List ℕ) (lines : ℕ) (after : List ℕ) : Type 0 where
+  pub fits : has_room room l n ≡ true
+  pub written : after ≡ log_after l n log
+  pub counted : lines ≡ lines_after l n
+
+pub record Unnoted (room : ℕ) (l : Option Line) (n : ℕ) (log after : List ℕ) : Type 0 where
+  pub full : has_room room l n ≡ false
+  pub same : after ≡ log
+
+abbrev pub Notes : ℕ → Option Line → ℕ → List ℕ → answer.Option ℕ → List ℕ → Type 0
+Notes room l n log answer.None after = Unnoted room l n log after
+Notes room l n log (answer.Some lines) after = Noted room l n log lines after
 
 -- What a function of the run asks: a program that can be run with its values, node k with its bytes, and counts within
 -- the limits.

@@ -137,13 +137,12 @@ pub fn move_own(
         let x = program::a_at(program, k);
         let v = written(program, values, k, kind);
         let needed = needs_line(program, values, x, kind);
-        let noted = log::note(log, at, needed, x, v);
-        if !noted.fits {
+        let Some(lines) = log::note(log, at, needed, x, v) else {
             return Moved::Rests(Reason::Full, at);
-        }
+        };
         values[x] = v;
         state[0] = forms::OVER;
-        return Moved::Rests(Reason::Nil, at.after_move(noted.lines));
+        return Moved::Rests(Reason::Nil, at.after_move(lines));
     }
     move_silently(program, values, state, k, kind);
     Moved::Again(at.after_move(at.lines))

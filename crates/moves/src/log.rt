@@ -15,30 +15,21 @@ fn put_line(log: &mut [u32], at: usize, step: u32, instant: u32, name: u32, valu
     log[at + 3] = value;
 }
 
-// Whether there was room, and how many lines there are now.
-#[derive(Clone, Copy)]
-pub struct Noted {
-    pub fits: bool,
-    pub lines: usize,
-}
-
-// Writes the line of a move that gives x this value, if it needs one and there is room.
-pub fn note(log: &mut [u32], at: Counts, needed: bool, x: usize, value: i32) -> Noted
+// Writes the line of a move that gives x this value, if it needs one: how many lines there are then, or none if it has no
+// room.
+pub fn note(log: &mut [u32], at: Counts, needed: bool, x: usize, value: i32) -> Option<usize>
     requires { CanNote log.old at x }
     ensures { Notes (length log.old / 4) (line_of needed at x value) at.lines log.old result log.new }
 {
     let lines = at.lines;
     if !needed {
-        return Noted { fits: true, lines };
+        return Some(lines);
     }
     if log.len() / 4 <= lines {
-        return Noted { fits: false, lines };
+        return None;
     }
     let word = values::words::word_of(value);
     let step = (at.steps + 1) as u32;
     put_line(log, 4 * lines, step, at.instants as u32, x as u32, word);
-    Noted {
-        fits: true,
-        lines: lines + 1,
-    }
+    Some(lines + 1)
 }

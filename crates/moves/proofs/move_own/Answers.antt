@@ -5,9 +5,9 @@ use Prim.Native.Nat.{ℕ, ◌/◌, ◌<◌}
 use native.Mathlib.Nat.{le_antisymm}
 use native.Mathlib.Omega.{arith}
 use mir.Syntax.{w32}
+use mir.Val.{to_z, of_z}
 use mir.Facts.{to_z-of_z}
 use lib.ListN.{length, set}
-use borrow.Author.Tests.{not-true, not-false}
 use mathlib.Core.List.{List}
 use lib.IntN.{ℤ}
 use Rattle.language.specs.Calls.{Line}
@@ -16,12 +16,12 @@ use Rattle.program.specs.Program.{name_count, kind_at, process_of, seen_by}
 use Rattle.residual.specs.Residual.{own}
 use Rattle.residual.proofs.Residuals.{nil_at_four, some_bytes, own_set_at}
 use Rattle.residual.proofs.Sights.{MovesItself, sight}
-use Rattle.moves.specs.Promises.{CanMoveItself, WriterAt, needs_line, Writes, after_move, line_of, Notes, node_at}
+use Rattle.moves.specs.Promises.{CanMoveItself, WriterAt, needs_line, Writes, after_move, line_of, node_at}
 use Rattle.moves.specs.Moves.{stays}
 use Rattle.moves.proofs.Advancing.{goes_silently, stops_full, stops_written}
 use Rattle.moves.proofs.OwnMoves.{is_itself, writer_is, is_silent, itself_live, name_known}
 use Rattle.moves.proofs.move_own.Goals as goal
-use Rattle.moves.proofs.move_own.Goals.{After-a_at-x, After-note-noted, After-written-v, Then-is_writer}
+use Rattle.moves.proofs.move_own.Goals.{After-a_at-x, After-note, After-written-v, Then-is_writer}
 
 -- the node is as its form tells
 moves-itself :
@@ -85,48 +85,44 @@ needs_line-needed-requires c =
     let few = name-few (goal.at.needs_line-needed-requires c).After-a_at-x in
     (omega (arith, few, can.valued.runnable.few_names), omega (arith, few, can.valued.named))
 
-pub note-noted-requires : goal.note-noted-requires
-note-noted-requires c =
+pub note-requires : goal.note-requires
+note-requires c =
     let can = c.requires.can in
     record {
-      few = omega (arith, name-few (goal.at.note-noted-requires c).After-a_at-x, can.valued.runnable.few_names);
+      few = omega (arith, name-few (goal.at.note-requires c).After-a_at-x, can.valued.runnable.few_names);
       time = omega (arith, c.if-limit-at.false, can.counted.most);
       instants = can.counted.instants;
       space = can.counted.space;
     }
 
 -- the line that the move calls for
-abbrev line : (c : After-note-noted) → Option Line
+abbrev line : (c : After-note) → Option Line
 line c =
     let a = c.args in
     let x = c.a_at-x.result in
     line_of (needs_line (seen_by a.program.now) (kind_at a.program.now a.k) a.values.now x) a.at x c.written-v.result
 
--- what was noted, of the value as it was given
-noted :
-    (c : After-note-noted) →
+-- it is the one that was noted, of the value as it was given
+told :
+    (c : After-note) →
     let a = c.args in
-    Notes (length a.log.now / 4) (line c) a.at.lines a.log.now c.note-noted.result c.note-noted.new.log
-noted c =
+    line_of c.needs_line-needed.result a.at c.a_at-x.result (to_z w32 (of_z w32 c.written-v.result)) ≡ line c
+told c =
     let a = c.args in
-    subst
-    (λ l. Notes (length a.log.now / 4) l a.at.lines a.log.now c.note-noted.result c.note-noted.new.log)
-    (ap₂ (λ b v. line_of b a.at c.a_at-x.result v)
+    ap₂ (λ b v. line_of b a.at c.a_at-x.result v)
     (subst (λ n. c.needs_line-needed.result ≡ needs_line (seen_by a.program.now) n a.values.now c.a_at-x.result) c.kind_at-kind.ensures c.needs_line-needed.ensures)
-    (to_z-of_z {w = w32} (record { sfits = c.written-v.type_inv })))
-    c.note-noted.ensures
+    (to_z-of_z {w = w32} (record { sfits = c.written-v.type_inv }))
 
-pub returns-then-not-noted : goal.returns-then-not-noted
-returns-then-not-noted c =
+pub returns-in_default : goal.returns-in_default
+returns-in_default c =
     let a = c.args in
-    let n = noted (goal.at.returns-then-not-noted c).After-note-noted in
+    let before = goal.at.returns-in_default c in
+    let n = rw (told before.After-note) at c.in_default.ensures in
     let here = node_at a.program.now a.k a.state.now a.values.now a.log.now a.at in
-    let w = writes (goal.at.returns-then-not-noted c).After-written-v in
-    let none = not-true _ c.if-not-noted.true in
-    rw (n.full none)
+    rw n.same
     (record {
       path = stays;
-      ends = stops_full (seen_by a.program.now) a.limit (length a.log.now / 4) here w c.if-limit-at.false (sym n.fits ∙ none);
+      ends = stops_full (seen_by a.program.now) a.limit (length a.log.now / 4) here (writes before.After-written-v) c.if-limit-at.false n.full;
     })
 
 pub bounds-values-x : goal.bounds-values-x
@@ -138,14 +134,14 @@ bounds-state-0 c = some_bytes c.requires.can.node
 pub returns-then-is_writer : goal.returns-then-is_writer
 returns-then-is_writer c =
     let a = c.args in
-    let n = noted (goal.at.returns-then-is_writer c).After-note-noted in
+    let before = goal.at.returns-then-is_writer c in
+    let n = rw (told before.After-note) at c.in-Some.ensures in
     let here = node_at a.program.now a.k a.state.now a.values.now a.log.now a.at in
-    let fits = not-false _ c.if-not-noted.false in
-    stops_written (seen_by a.program.now) a.limit (length a.log.now / 4) here (writes (goal.at.returns-then-is_writer c).After-written-v) c.if-limit-at.false (sym n.fits ∙ fits)
+    stops_written (seen_by a.program.now) a.limit (length a.log.now / 4) here (writes before.After-written-v) c.if-limit-at.false n.fits
     (nil_at_four (process_of a.program.now a.k) _ (own_set_at a.state.now (some_bytes c.requires.can.node) 4))
     (ap (set a.values.now c.a_at-x.result) (to_z-of_z {w = w32} (record { sfits = c.written-v.type_inv })))
-    (n.written fits)
-    (c.after_move.ensures ∙ ap (after_move a.at) (n.lines fits))
+    n.written
+    (c.after_move.ensures ∙ ap (after_move a.at) n.counted)
 
 pub move_silently-requires : goal.move_silently-requires
 move_silently-requires c =

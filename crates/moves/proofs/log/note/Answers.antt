@@ -1,6 +1,5 @@
 -- `note`: a line is written where one is needed and there is room.
-use mathlib.Core.Path.{◌≡◌, refl, sym, ap, ap₂, ◌∙◌}
-use mathlib.Core.Bool.{true≢false, false≢true}
+use mathlib.Core.Path.{◌≡◌, refl, ap, ap₂, ◌∙◌}
 use mathlib.Core.List.{List}
 use Prim.Native.Nat.{ℕ, suc, ◌+◌, ◌*◌}
 use native.Mathlib.Numerals.{add-one}
@@ -17,18 +16,15 @@ pub returns-then-not-needed : goal.returns-then-not-needed
 returns-then-not-needed c =
     rw c.if-not-needed.true (record {
       fits = refl;
-      written = λ _. refl;
-      lines = λ _. refl;
-      full = λ _. refl;
+      written = refl;
+      counted = refl;
     })
 
 pub returns-then-log-lines : goal.returns-then-log-lines
 returns-then-log-lines c =
     rw c.if-not-needed.false (record {
-      fits = sym (le-ltb _ _ c.if-log-lines.true);
-      written = λ e. absurd (false≢true e);
-      lines = λ e. absurd (false≢true e);
-      full = λ _. refl;
+      full = le-ltb _ _ c.if-log-lines.true;
+      same = refl;
     })
 
 -- the words that are put are those of the line
@@ -43,11 +39,9 @@ pub returns : goal.returns
 returns c =
     let a = c.args in
     rw c.if-not-needed.false (record {
-      fits = sym (lt-ltb _ _ c.if-log-lines.false);
+      fits = lt-ltb _ _ c.if-log-lines.false;
       written =
-          λ _.
           put a.log.now a.at.lines a.at.steps a.at.instants a.x _ c.ranges.value c.word_of-word.ensures
           c.put_line.ensures;
-      lines = λ _. add-one a.at.lines;
-      full = λ e. absurd (true≢false e);
+      counted = add-one a.at.lines;
     })
