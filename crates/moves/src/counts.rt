@@ -13,7 +13,7 @@ pub struct Counts {
 }
 
 // Why there is no further move: the node is nil; it is suspended; the limit is reached; the next line has no room.
-#[derive(Clone, Copy)]
+#[derive(Clone, Copy, PartialEq, Eq)]
 pub enum Reason {
     Nil,
     Suspended,

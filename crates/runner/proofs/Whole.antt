@@ -1,13 +1,12 @@
 -- A whole run: where it comes to, from where it began and from where it has come to.
 use mathlib.Core.Path.{◌≡◌, refl, sym, ap, ◌∙◌, subst}
-use mathlib.Core.Bool.{true, false≢true}
+use mathlib.Core.Bool.{true}
 use mathlib.Core.List.{List}
 use Prim.Native.Nat.{ℕ, zero, suc, ◌+◌, ◌/◌, ◌<◌}
 use native.Mathlib.Nat.{add-zero}
 use native.Mathlib.Omega.{arith}
 use lib.IntN.{ℤ}
 use lib.ListN.{length}
-use Rattle.language.specs.Calls.{ending_number}
 use Rattle.language.specs.Steps.{suspended}
 use Rattle.program.specs.Program.{names_of, seen_by}
 use Rattle.inputs.specs.Lists.{listed}
@@ -23,16 +22,9 @@ use Rattle.moves.proofs.Framing.{waits_some}
 use Rattle.moves.proofs.Advancing.{counted_on, can_on}
 use Rattle.runner.specs.declared.Ran.{Ran}
 use Rattle.runner.specs.Outcome.{Outcome, stopped}
-use Rattle.runner.specs.Promises.{root, script_at, CanRun, InstantMade, ending_by, ending_of, is_suspended, outcome_of, Idles, Runs}
+use Rattle.runner.specs.Promises.{root, script_at, CanRun, InstantMade, ending_by, meant, outcome_of, Idles, Runs}
 use Rattle.runner.proofs.Idling.{idle_stays, values_stay, outcome_idle}
 use Rattle.runner.proofs.Outcomes.{outcome_moves, outcome_finished, outcome_spent, outcome_full, outcome_changes}
-
--- a reason by name
-pub is_suspended_lem : (why : Reason) → is_suspended why ≡ true → why ≡ Suspended
-is_suspended_lem Nil e = absurd (false≢true e)
-is_suspended_lem Suspended e = refl
-is_suspended_lem Spent e = absurd (false≢true e)
-is_suspended_lem Full e = absurd (false≢true e)
 
 module _ (words list : List ℕ) (limit : ℕ) (begun : Running ℕ) where
   abbrev room : ℕ
@@ -160,13 +152,13 @@ pub runs_to :
     {words list st st₀ : List ℕ} {values values₀ : List ℤ} {log log₀ : List ℕ} {at₀ at : Counts} {limit : ℕ}
     (u : Comes words list limit (script_at words st₀ values₀ log₀ at₀) st values log at) (why : Reason) →
     Ends (seen_by words) limit (length log₀ / 4) (script_at words st values log at) why →
-    (why ≡ Suspended → at.steps ≡ limit) → {r : Ran} → r.ending ≡ ending_of why → r.at ≡ at →
+    (why ≡ Suspended → at.steps ≡ limit) → {r : Ran} → meant r.ending ≡ ending_by why → r.at ≡ at →
     Runs words list limit st₀ values₀ log₀ at₀ st values log r
 runs_to {words} {list} {st} {values = values} {log = log} {at = at} {limit = limit} u why e w {r} n a =
     let o = stops_there words list limit _ u why e w in
     rw a
     (record {
-      ending = n ∙ ap (λ (z : Outcome ℕ). ending_number z.ending) (sym o);
+      ending = n ∙ ap (λ (z : Outcome ℕ). z.ending) (sym o);
       left = ap (λ (z : Outcome ℕ). z.at) (sym o);
       again = u.can;
     })

@@ -1,6 +1,6 @@
 -- What the functions of the runner ask for and promise.
 use Rattle.std.specs.Prelude.{◌≡◌, Bool, true, false, List, ℕ, suc, ◌+◌, ◌-◌, ◌/◌, ◌≤◌, ◌<◌, ℤ, length}
-use Rattle.language.specs.Calls.{Ending, finished, spent, log_full, most_steps, ending_number}
+use Rattle.language.specs.Calls.{Ending, finished, spent, log_full, most_steps}
 use Rattle.program.specs.Program.{name_count, node_count, names_of, seen_by}
 use Rattle.inputs.specs.Lists.{pair_count, signal_at, listed}
 use Rattle.inputs.specs.Promises.{Rising, Cursor}
@@ -14,6 +14,8 @@ use Rattle.moves.specs.Moves.{Running, changed}
 use Rattle.moves.specs.Promises.{CanMove, node_at}
 use Rattle.advance.specs.Promises.{Advances}
 use Rattle.runner.specs.declared.Ran.{Ran}
+use Rattle.runner.specs.declared.ending.Ending as ending
+use Rattle.runner.specs.declared.ending.Ending.TheVariants.{Finished, Spent as ran_out, LogFull}
 use Rattle.runner.specs.Outcome.{Outcome, outcome}
 
 -- the node of the script
@@ -81,14 +83,10 @@ ending_by Suspended = spent
 ending_by Spent = spent
 ending_by Full = log_full
 
-abbrev pub ending_of : Reason → ℕ
-ending_of why = ending_number (ending_by why)
-
-abbrev pub is_suspended : Reason → Bool
-is_suspended Nil = false
-is_suspended Suspended = true
-is_suspended Spent = false
-is_suspended Full = false
+abbrev pub meant : ending.Ending → Ending
+meant Finished = finished
+meant ran_out = spent
+meant LogFull = log_full
 
 -- what comes of a program with a list, for its reader, under a limit on all steps
 abbrev pub outcome_of : List ℕ → List ℕ → ℕ → ℕ → Running ℕ → Outcome ℕ
@@ -98,8 +96,7 @@ outcome_of words list limit room at = outcome (names_of words) (listed list) (se
 pub record Runs
     (words list : List ℕ) (limit : ℕ) (st : List ℕ) (values : List ℤ) (log : List ℕ) (at : Counts) (st' : List ℕ)
     (values' : List ℤ) (log' : List ℕ) (r : Ran) : Type 0 where
-  pub ending :
-      r.ending ≡ ending_number (outcome_of words list limit (length log / 4) (script_at words st values log at)).ending
+  pub ending : meant r.ending ≡ (outcome_of words list limit (length log / 4) (script_at words st values log at)).ending
   pub left :
       script_at words st' values' log' r.at ≡ (outcome_of words list limit (length log / 4) (script_at words st values log at)).at
   pub again : CanRun words st' values' log' limit r.at

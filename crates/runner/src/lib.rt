@@ -1,41 +1,21 @@
 // Runs a program with its list, as far as the step limit and the log let it, from wherever it has come to.
 #![tactic(auto)]
 
+pub mod ending; // ending.rt: how a run ended
+
 ghost use Rattle.std.specs.Prelude.{◌≡◌, ◌≤◌};
 ghost use Rattle.program.specs.Program.{node_count};
-ghost use Rattle.runner.specs.Promises.{root, is_suspended, ending_of, CanRun, InstantMade, CanChange, Begins, CanIdle, Idles, CanRunListed, Runs};
+ghost use Rattle.runner.specs.Promises.{root, CanRun, InstantMade, CanChange, Begins, CanIdle, Idles, CanRunListed, Runs};
 
+use ending::Ending;
 use moves::counts::{Counts, Reason, Rested};
 use program::WORDS;
 
-// How a run ended: 01's number; and what it has counted.
+// How a run ended, and what it has counted.
 #[derive(Clone, Copy)]
 pub struct Ran {
-    pub ending: u32,
+    pub ending: Ending,
     pub at: Counts,
-}
-
-fn waits(why: Reason) -> bool
-    ensures { result ≡ is_suspended why }
-{
-    match why {
-        Reason::Nil => false,
-        Reason::Suspended => true,
-        Reason::Spent => false,
-        Reason::Full => false,
-    }
-}
-
-// The ending of a run whose script makes no further move for this reason. A suspended script at its limit is spent.
-fn ending_of(why: Reason) -> u32
-    ensures { result ≡ ending_of why }
-{
-    match why {
-        Reason::Nil => 0,
-        Reason::Suspended => 1,
-        Reason::Spent => 1,
-        Reason::Full => 2,
-    }
 }
 
 // The node of the script.
@@ -102,10 +82,7 @@ fn idle_changes(
         return rest;
     }
     let ahead = inputs::instant_at(list, cursor) - at.instants - 1;
-    if ahead < rest {
-        return ahead;
-    }
-    rest
+    ahead.min(rest)
 }
 
 // Runs a program from these bytes, values and counts, under a limit on all steps. What is left stands in the bytes, so that
@@ -126,17 +103,12 @@ pub fn run(
     let mut cursor = inputs::pass(list, 0, from.instants);
     loop {
         let r = run_instant(program, values, state, log, limit, at);
-        let why = r.why;
-        let reached = r.at;
-        let ending = ending_of(why);
-        if !waits(why) || limit <= reached.steps {
-            return Ran {
-                ending,
-                at: reached,
-            };
+        let ending = Ending::from(r.why);
+        if r.why != Reason::Suspended || limit <= r.at.steps {
+            return Ran { ending, at: r.at };
         }
-        let idle = idle_changes(program, values, list, cursor, limit, reached);
-        let waited = reached.after_changes(idle);
+        let idle = idle_changes(program, values, list, cursor, limit, r.at);
+        let waited = r.at.after_changes(idle);
         if limit <= waited.steps {
             return Ran { ending, at: waited };
         }

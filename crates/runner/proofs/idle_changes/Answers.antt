@@ -32,14 +32,8 @@ overflow_sub-ahead c = omega (arith, later (goal.at.overflow_sub-ahead c).After-
 pub overflow_sub-ahead-2 : goal.overflow_sub-ahead-2
 overflow_sub-ahead-2 c = omega (arith, later (goal.at.overflow_sub-ahead-2 c).After-instant_at)
 
-pub returns-then-ahead-rest : goal.returns-then-ahead-rest
-returns-then-ahead-rest c =
-    waits_ahead c.requires (sym c.some_signal_present.ensures ∙ c.if-some_signal_present.false) _
-    (omega (arith, c.requires.time, c.if-ahead-rest.true))
-    (omega (arith, later (goal.at.returns-then-ahead-rest c).After-instant_at, c.instant_at.ensures))
-
 pub returns : goal.returns
 returns c =
     waits_ahead c.requires (sym c.some_signal_present.ensures ∙ c.if-some_signal_present.false) _
-    (omega (arith, c.requires.time))
-    (omega (arith, later (goal.at.returns c).After-instant_at, c.instant_at.ensures, c.if-ahead-rest.false))
+    (omega (arith, c.requires.time, c.min.ensures))
+    (omega (arith, later (goal.at.returns c).After-instant_at, c.instant_at.ensures, c.min.ensures))

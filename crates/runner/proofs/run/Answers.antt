@@ -1,6 +1,6 @@
 -- `run`: the script is run as far as it goes in an instant, then the instant changes.
 use mathlib.Core.Path.{◌≡◌, refl, sym, ap, ◌∙◌, subst}
-use mathlib.Core.Bool.{true, true≢false}
+use mathlib.Core.Bool.{Bool, true, false, not, true≢false}
 use mathlib.Core.Logic.{⊎_elim}
 use Prim.Native.Nat.{ℕ, ◌/◌, ◌<◌}
 use native.Mathlib.Nat.{le_antisymm}
@@ -12,13 +12,16 @@ use Rattle.language.specs.Steps.{suspended}
 use Rattle.program.specs.Program.{seen_by}
 use Rattle.inputs.specs.Promises.{Cursor}
 use Rattle.moves.specs.declared.counts.Counts.{Counts}
-use Rattle.moves.specs.declared.counts.Reason.TheVariants.{Suspended}
+use denote.Enum.Bare.{sameb}
+use Rattle.moves.specs.contracts.counts.Reason.{the_type}
+use Rattle.moves.specs.declared.counts.Reason.{Reason}
+use Rattle.moves.specs.declared.counts.Reason.TheVariants.{Nil, Suspended, Spent, Full}
 use Rattle.moves.specs.Moves.{Running, Ends}
 use Rattle.moves.proofs.Advancing.{path_later, path_instants}
-use Rattle.runner.specs.Promises.{script_at, is_suspended, ending_of}
-use Rattle.runner.proofs.Whole.{is_suspended_lem, Comes, comes_on, ends_so, comes_changed, comes_idle, runs_to}
+use Rattle.runner.specs.Promises.{script_at, ending_by}
+use Rattle.runner.proofs.Whole.{Comes, comes_on, ends_so, comes_changed, comes_idle, runs_to}
 use Rattle.runner.proofs.run.Goals as goal
-use Rattle.runner.proofs.run.Goals.{After-after_changes-waited, After-run_instant-r, Else-limit-waited, Else-not-waits}
+use Rattle.runner.proofs.run.Goals.{After-after_changes-waited, After-run_instant-r, Else-limit-waited, Else-limit-r}
 
 -- where the instant has come to, and why it goes no further
 advanced :
@@ -29,7 +32,7 @@ advanced :
     r.new.state r.new.values r.new.log r.result.at
 advanced c =
     let r = c.run_instant-r in
-    comes_on _ _ _ _ c.loop-reached.invariant.0 r.new.state r.new.values r.new.log r.result r.ensures r.auto.state
+    comes_on _ _ _ _ c.loop-r.invariant.0 r.new.state r.new.values r.new.log r.result r.ensures r.auto.state
     r.auto.values r.auto.log
 
 ends :
@@ -40,29 +43,32 @@ ends :
     (script_at a.program.now r.new.state r.new.values r.new.log r.result.at) r.result.why
 ends c =
     let r = c.run_instant-r in
-    ends_so _ _ _ _ c.loop-reached.invariant.0 r.new.state r.new.values r.new.log r.result r.ensures
+    ends_so _ _ _ _ c.loop-r.invariant.0 r.new.state r.new.values r.new.log r.result r.ensures
 
 -- the cursor stands where it stood, since moves count no instant
 cursor-stays :
     (c : After-run_instant-r) →
-    Cursor c.args.list.now c.run_instant-r.result.at.instants c.loop-reached.cursor
+    Cursor c.args.list.now c.run_instant-r.result.at.instants c.loop-r.cursor
 cursor-stays c =
-    subst (λ i. Cursor c.args.list.now i c.loop-reached.cursor) (sym (path_instants c.run_instant-r.ensures.path))
-    c.loop-reached.invariant.1
+    subst (λ i. Cursor c.args.list.now i c.loop-r.cursor) (sym (path_instants c.run_instant-r.ensures.path))
+    c.loop-r.invariant.1
 
 -- the script is suspended
-waiting : (c : Else-not-waits) → c.run_instant-r.result.why ≡ Suspended
-waiting c = is_suspended_lem _ (sym c.waits.ensures ∙ c.if-not-waits.false)
+by_name : (why : Reason) {b : Bool} → b ≡ not (sameb the_type why Suspended) → b ≡ false → why ≡ Suspended
+by_name Nil q e = absurd (true≢false (sym q ∙ e))
+by_name Suspended q e = refl
+by_name Spent q e = absurd (true≢false (sym q ∙ e))
+by_name Full q e = absurd (true≢false (sym q ∙ e))
 
 still :
-    (c : Else-not-waits) →
+    (c : Else-limit-r) →
     let r = c.run_instant-r in
     suspended (script_at c.args.program.now r.new.state r.new.values r.new.log r.result.at).process r.new.values
     ≡ true
 still c =
     let r = c.run_instant-r in
-    subst (Ends _ _ _ _) (is_suspended_lem _ (sym c.waits.ensures ∙ c.if-not-waits.false))
-    (ends_so _ _ _ _ c.loop-reached.invariant.0 r.new.state r.new.values r.new.log r.result r.ensures)
+    subst (Ends _ _ _ _) (by_name _ c.ne.ensures c.if-ne.false)
+    (ends_so _ _ _ _ c.loop-r.invariant.0 r.new.state r.new.values r.new.log r.result r.ensures)
 
 -- after the instants in which nothing changes
 waited :
@@ -73,53 +79,35 @@ waited :
     r.new.state r.new.values r.new.log c.after_changes-waited.result
 waited c =
     let r = c.run_instant-r in
-    let u = c.loop-reached.invariant in
+    let u = c.loop-r.invariant in
     rw c.after_changes-waited.ensures
     (comes_idle _ _ _ _
     (comes_on _ _ _ _ u.0 r.new.state r.new.values r.new.log r.result r.ensures r.auto.state r.auto.values r.auto.log)
-    (subst (Ends _ _ _ _) (is_suspended_lem _ (sym c.waits.ensures ∙ c.if-not-waits.false))
+    (subst (Ends _ _ _ _) (by_name _ c.ne.ensures c.if-ne.false)
     (ends_so _ _ _ _ u.0 r.new.state r.new.values r.new.log r.result r.ensures))
     _
-    (subst (λ i. Cursor c.args.list.now i c.loop-reached.cursor) (sym (path_instants r.ensures.path)) u.1)
+    (subst (λ i. Cursor c.args.list.now i c.loop-r.cursor) (sym (path_instants r.ensures.path)) u.1)
     _ c.idle_changes-idle.ensures)
 
 cursor-waits :
     (c : After-after_changes-waited) →
-    Cursor c.args.list.now c.after_changes-waited.result.instants c.loop-reached.cursor
+    Cursor c.args.list.now c.after_changes-waited.result.instants c.loop-r.cursor
 cursor-waits c = rw c.after_changes-waited.ensures c.idle_changes-idle.ensures.cursor
 
 -- there are steps left
 more : (c : Else-limit-waited) → c.after_changes-waited.result.steps < c.args.limit
 more c = c.if-limit-waited.false
 
-pub pass-cursor-requires : goal.pass-cursor-requires
-pass-cursor-requires c = record { rising = c.requires.right.rising; within = omega arith; passed = λ k l. absurd (omega arith) }
-
-pub loop-reached-init : goal.loop-reached-init
-loop-reached-init c = (record { same = refl; can = c.requires.can; logged = refl }, c.pass-cursor.ensures)
-
-pub run_instant-r-requires : goal.run_instant-r-requires
-run_instant-r-requires c = c.loop-reached.invariant.0.can
-
-pub shape_of-values-then-not-waits : goal.shape_of-values-then-not-waits
-shape_of-values-then-not-waits c = (advanced (goal.at.shape_of-values-then-not-waits c).After-run_instant-r).can.valued.named ∙ sym c.requires.can.valued.named
-
-pub shape_of-state-then-not-waits : goal.shape_of-state-then-not-waits
-shape_of-state-then-not-waits c = (advanced (goal.at.shape_of-state-then-not-waits c).After-run_instant-r).can.node.whole ∙ sym c.requires.can.node.whole
-
-pub shape_of-log-then-not-waits : goal.shape_of-log-then-not-waits
-shape_of-log-then-not-waits c = (advanced (goal.at.shape_of-log-then-not-waits c).After-run_instant-r).logged
-
-pub returns-then-not-waits : goal.returns-then-not-waits
-returns-then-not-waits c =
-    let u = advanced (goal.at.returns-then-not-waits c).After-run_instant-r in
-    runs_to u c.run_instant-r.result.why (ends (goal.at.returns-then-not-waits c).After-run_instant-r)
+pub returns-then-ne : goal.returns-then-ne
+returns-then-ne c =
+    let u = advanced (goal.at.returns-then-ne c).After-run_instant-r in
+    runs_to u c.run_instant-r.result.why (ends (goal.at.returns-then-ne c).After-run_instant-r)
     (λ e.
     ⊎_elim
-    (λ t. absurd (true≢false (sym (ap is_suspended e) ∙ sym c.waits.ensures ∙ t)))
+    (λ t. absurd (true≢false (sym t ∙ c.ne.ensures ∙ ap (λ why. not (sameb the_type why Suspended)) e)))
     (λ t. le_antisymm u.can.counted.time t.1)
-    c.then-not-waits.either)
-    c.ending_of-ending.ensures refl
+    c.then-ne.either)
+    c.from-ending.ensures refl
 
 pub idle_changes-idle-requires : goal.idle_changes-idle-requires
 idle_changes-idle-requires c =
@@ -137,35 +125,17 @@ after_changes-waited-requires c =
     let time = c.idle_changes-idle.ensures.time in
     (omega (arith, time, u.most), omega (arith, u.instants, time, u.most))
 
-pub shape_of-values-then-limit-waited : goal.shape_of-values-then-limit-waited
-shape_of-values-then-limit-waited c = (advanced (goal.at.shape_of-values-then-limit-waited c).After-run_instant-r).can.valued.named ∙ sym c.requires.can.valued.named
-
-pub shape_of-state-then-limit-waited : goal.shape_of-state-then-limit-waited
-shape_of-state-then-limit-waited c = (advanced (goal.at.shape_of-state-then-limit-waited c).After-run_instant-r).can.node.whole ∙ sym c.requires.can.node.whole
-
-pub shape_of-log-then-limit-waited : goal.shape_of-log-then-limit-waited
-shape_of-log-then-limit-waited c = (advanced (goal.at.shape_of-log-then-limit-waited c).After-run_instant-r).logged
-
 pub returns-then-limit-waited : goal.returns-then-limit-waited
 returns-then-limit-waited c =
     let u = waited (goal.at.returns-then-limit-waited c).After-after_changes-waited in
-    runs_to u Suspended (still (goal.at.returns-then-limit-waited c).Else-not-waits)
+    runs_to u Suspended (still (goal.at.returns-then-limit-waited c).Else-limit-r)
     (λ e. le_antisymm u.can.counted.time c.if-limit-waited.true)
-    (c.ending_of-ending.ensures ∙ ap ending_of (waiting (goal.at.returns-then-limit-waited c).Else-not-waits)) refl
+    (c.from-ending.ensures ∙ ap ending_by (by_name _ c.ne.ensures c.if-ne.false)) refl
 
 pub overflow_add-waited : goal.overflow_add-waited
 overflow_add-waited c =
     let u = (waited (goal.at.overflow_add-waited c).After-after_changes-waited).can.counted in
     Fits-under _ _ 4000000 (omega (arith, u.instants, u.time, u.most)) tt
-
-pub pass-to-requires : goal.pass-to-requires
-pass-to-requires c =
-    let at = cursor-waits (goal.at.pass-to-requires c).After-after_changes-waited in
-    record {
-      rising = c.requires.right.rising;
-      within = at.within;
-      passed = λ k l. omega (arith, at.passed k l);
-    }
 
 pub next_instant-at-requires : goal.next_instant-at-requires
 next_instant-at-requires c =
@@ -179,20 +149,20 @@ next_instant-at-requires c =
       after = subst (λ i. Cursor c.args.list.now i c.pass-to.result) (add-one c.after_changes-waited.result.instants) c.pass-to.ensures;
     }
 
-pub loop-reached-smaller : goal.loop-reached-smaller
-loop-reached-smaller c =
+pub loop-r-smaller : goal.loop-r-smaller
+loop-r-smaller c =
     omega (
       arith,
       ap (λ (x : Running ℕ). x.steps) (c.next_instant-at.ensures c.args.log.now),
       ap (λ (x : Counts). x.steps) c.after_changes-waited.ensures,
       path_later c.run_instant-r.ensures.path,
-      more (goal.at.loop-reached-smaller c).Else-limit-waited,
+      more (goal.at.loop-r-smaller c).Else-limit-waited,
     )
 
-pub loop-reached-preserved : goal.loop-reached-preserved
-loop-reached-preserved c =
+pub loop-r-preserved : goal.loop-r-preserved
+loop-r-preserved c =
     let r = c.next_instant-at in
     let e = r.ensures c.args.log.now in (
-      comes_changed _ _ _ _ (waited (goal.at.loop-reached-preserved c).After-after_changes-waited) (still (goal.at.loop-reached-preserved c).Else-not-waits) (more (goal.at.loop-reached-preserved c).Else-limit-waited) r.auto.state r.auto.values (r.ensures _),
+      comes_changed _ _ _ _ (waited (goal.at.loop-r-preserved c).After-after_changes-waited) (still (goal.at.loop-r-preserved c).Else-limit-r) (more (goal.at.loop-r-preserved c).Else-limit-waited) r.auto.state r.auto.values (r.ensures _),
       rw (ap (λ (x : Running ℕ). x.instants) e, ← add-one c.after_changes-waited.result.instants) c.pass-to.ensures,
     )
