@@ -1,5 +1,4 @@
 -- Laws that the proofs of several functions use.
 pub mod Clearing
-pub mod Presence
 pub mod Deciding
 pub mod Changing

@@ -1,10 +1,9 @@
 -- What the functions about suspension and instants promise.
-use Rattle.std.specs.Prelude.{◌≡◌, Bool, true, cond, not, ◌&&◌, List, ℕ, ◌≤◌, ◌<◌, ℤ, pos, length}
+use Rattle.std.specs.Prelude.{◌≡◌, Bool, true, cond, ◌&&◌, List, ℕ, ◌≤◌, ◌<◌, ℤ, pos, length}
 use Rattle.prelude.specs.Search.{any}
 use Rattle.prelude.specs.Table.{table}
 use Rattle.language.specs.Syntax.{Names}
 use Rattle.language.specs.Steps.{held, present, suspended, change, no_signal, instant_start}
-use Rattle.language.specs.Calls.{given_back}
 use Rattle.inputs.specs.Lists.{pair_count, signal_at}
 use Rattle.program.specs.Program.{names_of}
 use Rattle.program.specs.Forms.{beside, part_in}

@@ -6,7 +6,7 @@ use Prim.Native.Nat.{ℕ, ◌+◌, ◌≤◌, ◌<◌}
 use native.Mathlib.Omega.{arith}
 use lib.IntN.{ℤ}
 use Rattle.program.specs.Program.{names_of}
-use Rattle.inputs.specs.Lists.{pair_count, instant_at}
+use Rattle.inputs.specs.Lists.{instant_at}
 use Rattle.inputs.proofs.Lists.{cursor_later, rising_from}
 use Rattle.instants.specs.Promises.{some_signal_present}
 use Rattle.moves.specs.declared.counts.Counts.{Counts}
@@ -14,24 +14,7 @@ use Rattle.runner.specs.Promises.{CanIdle, Idles}
 
 module _ {words : List ℕ} {values : List ℤ} {list : List ℕ} {c limit : ℕ} {at : Counts}
     (can : CanIdle words values list c limit at) where
-  pub waits_none : Idles words values list c limit at 0
-  waits_none =
-      record {
-        time = omega (arith, can.time);
-        absent = λ l. absurd (omega arith);
-        cursor = cursor_later can.cursor (omega arith) (λ k l h. omega (arith, can.cursor.ahead k l h));
-      }
-
   module _ (none : some_signal_present (names_of words) values ≡ false) (n : ℕ) (time : at.steps + n ≤ limit) where
-    -- to the limit, where no pair is ahead
-    pub waits_past : pair_count list ≤ c → Idles words values list c limit at n
-    waits_past p =
-        record {
-          time = time;
-          absent = λ l. none;
-          cursor = cursor_later can.cursor (omega arith) (λ k l h. absurd (omega arith));
-        }
-
     -- to the instant before the pair that is next
     pub waits_ahead : at.instants + n < instant_at list c → Idles words values list c limit at n
     waits_ahead a =

@@ -1,5 +1,5 @@
 -- What the functions of the runner ask for and promise.
-use Rattle.std.specs.Prelude.{◌≡◌, Bool, true, false, List, ℕ, suc, ◌+◌, ◌-◌, ◌/◌, ◌≤◌, ◌<◌, ℤ, length}
+use Rattle.std.specs.Prelude.{◌≡◌, true, false, List, ℕ, suc, ◌+◌, ◌-◌, ◌/◌, ◌≤◌, ◌<◌, ℤ, length}
 use Rattle.language.specs.Calls.{Ending, finished, spent, log_full, most_steps}
 use Rattle.program.specs.Program.{name_count, node_count, names_of, seen_by}
 use Rattle.inputs.specs.Lists.{pair_count, signal_at, listed}

@@ -1,5 +1,5 @@
 -- `clear_owned`: the names that are not the session's are 0.
-use Rattle.std.proofs.Common.{rules, ◌∙◌, ap, not}
+use Rattle.std.proofs.Common.{rules, ◌∙◌, not}
 use Rattle.language.specs.Calls.{given_back}
 use Rattle.program.specs.Program.{names_of}
 use Rattle.instants.proofs.Clearing.{cond_not}

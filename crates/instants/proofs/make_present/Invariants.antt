@@ -1,5 +1,4 @@
 -- `make_present`: the signals of the pairs before k are present.
-use Prim.Native.Nat.{◌-◌, ◌≤◌}
 use Rattle.instants.specs.Promises.{MadePresent}
 use Rattle.instants.proofs.make_present.Given as goal
 

@@ -1,22 +1,9 @@
 -- `next_instant`: the script's node changes, the listed signals are present, and one step more is counted.
 use mathlib.Core.Path.{ap, ◌∙◌}
 use native.Mathlib.Numerals.{add-one}
-use native.Mathlib.Omega.{arith}
 use Rattle.moves.specs.declared.counts.Counts.{Counts}
-use Rattle.runner.proofs.Entering.{in_order, entered_is}
+use Rattle.runner.proofs.Entering.{entered_is}
 use Rattle.runner.proofs.next_instant.Goals as goal
-
-pub begin_instant-requires : goal.begin_instant-requires
-begin_instant-requires c = rw c.root_of-k.ensures c.requires.node
-
-pub make_present-requires : goal.make_present-requires
-make_present-requires c =
-    let pre = c.requires in
-    record {
-      order = in_order pre.before pre.after;
-      within = pre.after.within;
-      valued = λ k l. omega (arith, pre.right.known k l, pre.node.valued.named, c.begin_instant.auto.values);
-    }
 
 pub returns : goal.returns
 returns c =
