@@ -12,38 +12,31 @@ pub fn pair_count(list: &[u32]) -> usize
     list.len() / 2
 }
 
-fn number_of(word: u32) -> usize
-    ensures { result ≡ word }
-{
-    word as usize
-}
-
 pub fn instant_at(list: &[u32], k: usize) -> usize
     requires { k < pair_count list.now }
     ensures { result ≡ instant_at list.now k }
 {
-    number_of(list[2 * k])
+    list[2 * k] as usize
 }
 
 pub fn signal_at(list: &[u32], k: usize) -> usize
     requires { k < pair_count list.now }
     ensures { result ≡ signal_at list.now k }
 {
-    number_of(list[2 * k + 1])
+    list[2 * k + 1] as usize
 }
 
 // The cursor moves on from pair `from`, past the pairs of this instant and of earlier ones.
+#[tactic(auto, using(crate::proofs::Lists::stops_at, crate::proofs::Lists::stops_past))]
 pub fn pass(list: &[u32], from: usize, instant: usize) -> usize
     requires { CanPass list.now from instant }
     ensures { Cursor list.now instant result }
 {
     let n = pair_count(list);
-    let mut k = from;
-    while k < n {
+    for k in from..n {
         if instant < instant_at(list, k) {
             return k;
         }
-        k += 1;
     }
     n
 }
