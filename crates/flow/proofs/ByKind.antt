@@ -30,7 +30,7 @@ module _ (𝓛 : Lattice ℕ) (names : Names ℕ) where
   abbrev pub pair_holds : ℕ → List (Proc ℕ) → Bool
   pair_holds k [] = true
   pair_holds k (p ∷ []) = true
-  pair_holds k (p ∷ (q ∷ r)) = pair_need 𝓛.leq k (levels p) (levels q)
+  pair_holds k (p ∷ (q ∷ r)) = pair_need 𝓛 k (levels p) (levels q)
 
   pub write_by_kind :
       (p : Proc ℕ) → write_from (kind_of p) (own_of 𝓛 names p) (together (children_of p)) ≡ write_level 𝓛 names p
@@ -48,7 +48,7 @@ module _ (𝓛 : Lattice ℕ) (names : Names ℕ) where
   write_by_kind (parallel p q) = refl
 
   pub test_by_kind :
-      (p : Proc ℕ) → test_from 𝓛.join (kind_of p) (own_of 𝓛 names p) (together (children_of p)) ≡ test_level 𝓛 names p
+      (p : Proc ℕ) → test_from 𝓛 (kind_of p) (own_of 𝓛 names p) (together (children_of p)) ≡ test_level 𝓛 names p
   unfolding kind_of children_of own_of write_level test_level
   test_by_kind nil = refl
   test_by_kind (assign x e) = refl
@@ -65,7 +65,7 @@ module _ (𝓛 : Lattice ℕ) (names : Names ℕ) where
   pub need_by_kind :
       (p : Proc ℕ) →
       (pair_holds (kind_of p) (children_of p)
-      && own_need 𝓛.leq (kind_of p) (own_of 𝓛 names p) (write_level 𝓛 names p) (test_level 𝓛 names p))
+      && own_need 𝓛 (kind_of p) (own_of 𝓛 names p) (write_level 𝓛 names p) (test_level 𝓛 names p))
       ≡ need 𝓛 names p
   unfolding kind_of children_of own_of write_level test_level need
   need_by_kind nil = refl

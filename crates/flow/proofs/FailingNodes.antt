@@ -23,7 +23,8 @@ use Rattle.scope.specs.Reach.{lies_in}
 use Rattle.scope.specs.Promises.{FieldUses}
 use Rattle.scope.proofs.Reaching.{lies_self, lies_deeper, lies_cases, lies_below}
 use Rattle.script.specs.Checked.{Checked}
-use Rattle.flow.specs.Flow.{Levels, Smallest, FailsIn, lattice}
+use Rattle.lattice.specs.Lattice.{Lattice}
+use Rattle.flow.specs.Flow.{Smallest, FailsIn}
 use Rattle.flow.specs.Needs.{need_at}
 use Rattle.flow.proofs.Least.{smallest_same, smallest_either}
 use Rattle.flow.proofs.Shapes.{Children, none, one, two, children, child_field}
@@ -38,8 +39,8 @@ module _ (s : List ℕ) (k : ℕ) where
       ((0 < child_count part.kind) × (lies_in s (node s j) (node s (first_child part)) ≡ true))
       ⊎ ((1 < child_count part.kind) × (lies_in s (node s j) (node s (second_child part)) ≡ true))
 
-  abbrev pub FailsBelow : Levels → ℕ → Type 0
-  FailsBelow l j = Below j × (need_at (lattice l) s j ≡ false)
+  abbrev pub FailsBelow : Lattice ℕ → ℕ → Type 0
+  FailsBelow 𝓛 j = Below j × (need_at 𝓛 s j ≡ false)
 
   in_first :
       (q : ℕ) → Children s k → 0 < child_count part.kind → lies_in s q (node s (first_child part)) ≡ true →
@@ -93,25 +94,25 @@ module _ (s : List ℕ) (ok : Checked s) (k : ℕ) (h : k < node_count s) where
 
 -- node k among the failing ones
 module _
-    (l : Levels) (s : List ℕ) (ok : Checked s) (k : ℕ) (h : k < node_count s) (f : ℕ)
-    (w : Smallest (FailsBelow s k l) (node_count s) f) where
-  pub passes : need_at (lattice l) s k ≡ true → Smallest (FailsIn (lattice l) s k) (node_count s) f
+    (𝓛 : Lattice ℕ) (s : List ℕ) (ok : Checked s) (k : ℕ) (h : k < node_count s) (f : ℕ)
+    (w : Smallest (FailsBelow s k 𝓛) (node_count s) f) where
+  pub passes : need_at 𝓛 s k ≡ true → Smallest (FailsIn 𝓛 s k) (node_count s) f
   passes e =
-      smallest_same (FailsBelow s k l) (node_count s) (FailsIn (lattice l) s k) f
+      smallest_same (FailsBelow s k 𝓛) (node_count s) (FailsIn 𝓛 s k) f
       (λ j u. (node_below s ok k h j u.0, u.1))
       (λ j u.
-      ⊎_elim (λ q. absurd (true≢false (sym e ∙ ap (need_at (lattice l) s) q ∙ u.1))) (λ b. (b, u.1))
+      ⊎_elim (λ q. absurd (true≢false (sym e ∙ ap (need_at 𝓛 s) q ∙ u.1))) (λ b. (b, u.1))
       (node_cases s ok k h j u.0))
       w
 
   only : Smallest (λ j. k ≡ j) (node_count s) k
   only = record { within = omega arith; holds = λ _. refl; least = λ j e. omega arith }
 
-  pub fails : need_at (lattice l) s k ≡ false → Smallest (FailsIn (lattice l) s k) (node_count s) (lesser k f)
+  pub fails : need_at 𝓛 s k ≡ false → Smallest (FailsIn 𝓛 s k) (node_count s) (lesser k f)
   fails e =
-      smallest_same (λ j. (k ≡ j) ⊎ FailsBelow s k l j) (node_count s) (FailsIn (lattice l) s k) (lesser k f)
+      smallest_same (λ j. (k ≡ j) ⊎ FailsBelow s k 𝓛 j) (node_count s) (FailsIn 𝓛 s k) (lesser k f)
       (λ j.
-      ⊎_elim (λ q. subst (FailsIn (lattice l) s k) q (lies_self s (node s k), e))
+      ⊎_elim (λ q. subst (FailsIn 𝓛 s k) q (lies_self s (node s k), e))
       (λ u. (node_below s ok k h j u.0, u.1)))
       (λ j u. ⊎_elim inl (λ b. inr (b, u.1)) (node_cases s ok k h j u.0))
-      (smallest_either (λ j. k ≡ j) (node_count s) (FailsBelow s k l) k f only w)
+      (smallest_either (λ j. k ≡ j) (node_count s) (FailsBelow s k 𝓛) k f only w)

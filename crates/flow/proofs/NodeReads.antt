@@ -1,75 +1,65 @@
 -- The same laws, where the walk has read a node: what the children's walks ask, and what each number of children gives.
-use mathlib.Core.Path.{◌≡◌, refl, sym, ap, ◌∙◌, subst}
+use mathlib.Core.Path.{◌≡◌, sym, ap, ◌∙◌, subst}
 use mathlib.Core.Bool.{Bool, true}
 use mathlib.Core.List.{List}
 use Prim.Native.Nat.{ℕ, ◌<◌}
 use native.Mathlib.Omega.{arith}
-use Rattle.book.specs.LevelBook.{most_levels, at_or_below}
-use Rattle.pairs.specs.Table.{kept}
+use Rattle.book.specs.declared.Book.{Book}
+use Rattle.layout.specs.declared.Script.{Script}
 use Rattle.layout.specs.declared.parts.Part.{Part}
 use Rattle.layout.specs.Entries.{part_of, node}
+use Rattle.layout.proofs.Layouts.{nodes_are}
 use Rattle.fields.specs.Children.{first_child, second_child, child_count}
-use Rattle.layout.specs.Layout.{layout_of}
+use Rattle.language.specs.declared.process_kinds.ProcessKind.{ProcessKind}
+use Rattle.language.specs.KindNumbers.{process_number}
 use Rattle.flow.specs.declared.nodes.Flow.{Flow}
 use Rattle.flow.specs.declared.nodes.Own.{Own}
-use Rattle.flow.specs.Nodes.{pair_need, test_from, both_from, flow_from, OwnWithin, FlowWithin}
-use Rattle.flow.specs.Flow.{Levels, lattice, Ready, Walks, IsNodeAt, OwnOf, FlowAt}
-use Rattle.flow.proofs.BookLevels.{own_index, flow_index, test_index, flow_same}
+use Rattle.flow.specs.Nodes.{pair_need, both_from, flow_from, FlowWithin}
+use Rattle.flow.specs.Flow.{lattice_by, Readable, IsNodeAt, OwnOf, FlowAt}
 use Rattle.flow.proofs.Shapes.{Children, children, first_below, second_below}
 use Rattle.flow.proofs.NodeFlows.{PartsAt, parts_none, parts_one, parts_two, flow_at_lem}
 
--- what is known where node k has been read: its part, what it brings itself, and how many children it has
-pub record Read
-    (s : List ℕ) (offset expressions nodes : ℕ) (rows : List ℕ) (top bottom : ℕ) (join meet : List (List ℕ)) (l : Levels)
-    (k : ℕ) (p : Part) (own : Own) (m : ℕ) : Type 0 where
-  pub walks : Walks s offset expressions nodes rows top bottom join meet l
-  pub at : IsNodeAt s p k
-  pub brings : OwnOf l s p own
-  pub count : m ≡ child_count p.kind
-
+-- what is known where node k has been read: its part and its kind
 module _
-    {s : List ℕ} {offset expressions nodes : ℕ} {rows : List ℕ} {top bottom : ℕ} {join meet : List (List ℕ)} {l : Levels} {k : ℕ} {p : Part}
-    {own : Own} {m : ℕ} (read : Read s offset expressions nodes rows top bottom join meet l k p own m) where
-  ready : Ready s (layout_of s) l
-  ready = read.walks.reads.ready
-
+    {s : List ℕ} {c : Script} {b : Book} {k : ℕ} {kind : ProcessKind} {p : Part} (r : Readable s c b)
+    (at : IsNodeAt s kind p k) where
   shape : Children s k
-  shape = children s ready.checked k read.at.known
+  shape = children s r.checked k at.known
 
-  count_is : m ≡ child_count (part_of s (node s k)).kind
-  count_is = read.count ∙ ap (λ p. child_count p.kind) read.at.same
+  count_is : child_count (part_of s (node s k)).kind ≡ child_count p.kind
+  count_is = sym (ap (λ p. child_count p.kind) at.same)
+
+  -- the number of its kind
+  kind_is : process_number kind ≡ (part_of s (node s k)).kind
+  kind_is = at.kinded ∙ ap (λ p. p.kind) at.same
 
   -- what the walk asks of a node below k
   abbrev Asks : ℕ → Type 0
-  Asks j = (j < k) × (j < nodes)
+  Asks j = (j < k) × (Readable s c b × (j < c.nodes))
 
   asks : (j : ℕ) → j < k → Asks j
-  asks j h = (h, omega (arith, h, read.at.known, read.walks.nodes))
+  asks j h = (h, (r, omega (arith, h, at.known, nodes_are r.laid)))
 
-  pub none_parts : m ≡ 0 → PartsAt l s k (record { write = top; test = bottom; failing = nodes }) true
-  none_parts z =
-      subst (λ w. PartsAt l s k (record { write = w; test = bottom; failing = nodes }) true) (sym read.walks.top)
-      (subst (λ d. PartsAt l s k (record { write = l.top; test = d; failing = nodes }) true)
-      (sym read.walks.reads.bottom)
-      (subst (λ n. PartsAt l s k (record { write = l.top; test = l.bottom; failing = n }) true) (sym read.walks.nodes)
-      (parts_none ready k read.at.known shape (sym count_is ∙ z))))
+  pub none_parts :
+      child_count p.kind ≡ 0 → {w t n : ℕ} → w ≡ (lattice_by b).top → t ≡ (lattice_by b).bottom → n ≡ c.nodes →
+      PartsAt b s k (record { write = w; test = t; failing = n }) true
+  none_parts z ew et en =
+      parts_none r.checked b k at.known shape (count_is ∙ z) ew et (en ∙ nodes_are r.laid)
 
   module _ {i : ℕ} (first-child : i ≡ first_child p) where
     first_same : i ≡ first_child (part_of s (node s k))
-    first_same = first-child ∙ ap first_child read.at.same
+    first_same = first-child ∙ ap first_child at.same
 
-    pub first_asks : (m ≡ 0 → ⊥) → Asks i
-    first_asks n =
-        asks i (omega (arith, first_same, first_below s k shape (λ z. n (count_is ∙ z))))
+    pub first_asks : (child_count p.kind ≡ 0 → ⊥) → Asks i
+    first_asks n = asks i (omega (arith, first_same, first_below s k shape (λ z. n (sym count_is ∙ z))))
 
-    pub one_parts : m ≡ 1 → {f : Flow} → FlowAt l s i f → PartsAt l s k f true
+    pub one_parts : child_count p.kind ≡ 1 → {f : Flow} → FlowAt b s i f → PartsAt b s k f true
     one_parts z {f} a =
-        parts_one ready k read.at.known shape (sym count_is ∙ z) f
-        (subst (λ j. FlowAt l s j f) first_same a)
+        parts_one r.checked b k at.known shape (count_is ∙ z) f (subst (λ j. FlowAt b s j f) first_same a)
 
-    module _ {j : ℕ} (second-child : j ≡ second_child p) (n₀ : m ≡ 0 → ⊥) (n₁ : m ≡ 1 → ⊥) where
+    module _ {j : ℕ} (second-child : j ≡ second_child p) (z : child_count p.kind ≡ 2) where
       second_same : j ≡ second_child (part_of s (node s k))
-      second_same = second-child ∙ ap second_child read.at.same
+      second_same = second-child ∙ ap second_child at.same
 
       pub second_asks : Asks j
       second_asks =
@@ -77,50 +67,22 @@ module _
           (omega (
             arith,
             second_same,
-            second_below s k shape (λ z. n₀ (count_is ∙ z)) (λ z. n₁ (count_is ∙ z)),
+            second_below s k shape (λ q. omega (arith, q, count_is, z)) (λ q. omega (arith, q, count_is, z)),
           ))
 
       pub two_parts :
-          {f g : Flow} → FlowAt l s i f → FlowAt l s j g →
-          PartsAt l s k (both_from (kept join) (kept meet) f g) (pair_need (at_or_below rows) p.kind f g)
+          {f g : Flow} → FlowAt b s i f → FlowAt b s j g →
+          PartsAt b s k (both_from (lattice_by b) f g) (pair_need (lattice_by b) (part_of s (node s k)).kind f g)
       two_parts {f} {g} a d =
-          parts_two ready k read.at.known f g (subst (λ j. FlowAt l s j f) first_same a)
-          (subst (λ j. FlowAt l s j g) second_same d)
-          join
-          meet
-          read.walks.reads.joins
-          read.walks.meets
+          parts_two r.checked b k at.known f g (subst (λ j. FlowAt b s j f) first_same a)
+          (subst (λ j. FlowAt b s j g) second_same d)
           shape
-          (λ z. n₀ (count_is ∙ z))
-          (λ z. n₁ (count_is ∙ z))
-          _
-          refl
-          _
-          (ap (λ rows. pair_need (at_or_below rows) p.kind f g) read.walks.rows
-          ∙ ap (λ p. pair_need (at_or_below l.book.rows) p.kind f g) read.at.same)
-
-  own_inside : OwnWithin l.book.count own
-  own_inside = read.brings.inside
-
-  -- what `node_flow` asks
-  pub node_asks :
-      {parts : Flow} → FlowWithin l.book.count parts →
-      OwnWithin most_levels own
-      × (FlowWithin most_levels parts × (test_from (kept join) p.kind own parts < most_levels))
-  node_asks {parts} inside = (
-    own_index ready.ordered own_inside,
-    (
-      flow_index ready.ordered inside,
-      test_index ready.ordered p.kind own parts own_inside inside join read.walks.reads.joins,
-    ),
-  )
+          (count_is ∙ z)
 
   pub node_at_lem :
-      {parts : Flow} {pair : Bool} → PartsAt l s k parts pair → {r : Flow} →
-      r ≡ flow_from (kept join) (at_or_below rows) k p.kind own parts pair → FlowAt l s k r
-  node_at_lem {parts} {pair} at {r} e =
-      flow_at_lem ready k read.at.known own parts pair (read.brings.same k read.at) own_inside at r
-      (e
-      ∙ ap (λ rows. flow_from (kept join) (at_or_below rows) k p.kind own parts pair) read.walks.rows
-      ∙ flow_same ready.ordered p.kind own parts own_inside at.inside join read.walks.reads.joins k pair
-      ∙ ap (λ p. flow_from (lattice l).join (lattice l).leq k p.kind own parts pair) read.at.same)
+      {own : Own} → OwnOf b s kind p own → {parts : Flow} {pair : Bool} → PartsAt b s k parts pair → {f : Flow} →
+      f ≡ flow_from (lattice_by b) k (process_number kind) own parts pair → FlowWithin b.count f → FlowAt b s k f
+  node_at_lem {own} brings {parts} {pair} parts-at {f} e inside =
+      flow_at_lem r.checked b k at.known own parts pair (brings.same k at) parts-at f
+      (e ∙ ap (λ n. flow_from (lattice_by b) k n own parts pair) kind_is)
+      inside

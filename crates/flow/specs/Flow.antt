@@ -8,9 +8,11 @@ use Rattle.book.specs.LevelBook.{most_levels, at_or_below}
 use Rattle.pairs.specs.Table.{Keeps}
 use Rattle.lattice.specs.Lattice.{Lattice, lattice_of}
 use Rattle.language.specs.Levels.{exp_level, write_level, test_level}
+use Rattle.language.specs.declared.process_kinds.ProcessKind.{ProcessKind}
+use Rattle.language.specs.KindNumbers.{process_number}
 use Rattle.layout.specs.declared.Script.{Script}
 use Rattle.layout.specs.declared.parts.Part.{Part}
-use Rattle.layout.specs.Layout.{expressions_at, expression_count, node_count, layout_of}
+use Rattle.layout.specs.Layout.{node_count}
 use Rattle.layout.specs.Promises.{Laid}
 use Rattle.layout.specs.Entries.{part_of, node}
 use Rattle.scope.specs.Reach.{lies_in}
@@ -43,8 +45,11 @@ order_of b = at_or_below b.rows
 abbrev pub levels_of : Book → Levels
 levels_of b = record { book = b; top = orders.top (order_of b) b.count; bottom = orders.bottom (order_of b) b.count }
 
+abbrev pub lattice_by : Book → Lattice ℕ
+lattice_by b = lattice_of (order_of b) b.count
+
 abbrev pub lattice : Levels → Lattice ℕ
-lattice l = lattice_of (order_of l.book) l.book.count
+lattice l = lattice_by l.book
 
 -- the book is a lattice of at most 16 levels, and beside it stand its own top and bottom
 pub record Ordered (l : Levels) : Type 0 where
@@ -66,48 +71,37 @@ Joins l t = Keeps t l.book.count (least_upper (order_of l.book) l.book.count)
 abbrev pub Meets : Levels → List (List ℕ) → Type 0
 Meets l t = Keeps t l.book.count (greatest_lower (order_of l.book) l.book.count)
 
--- What the readers of expressions are handed of some levels l: a checked script, where its parts begin, the
--- bottom and the table of joins.
-pub record Reads (s : List ℕ) (offset least : ℕ) (join : List (List ℕ)) (l : Levels) : Type 0 where
-  pub ready : Ready s (layout_of s) l
-  pub start : offset ≡ expressions_at s
-  pub joins : Joins l join
-  pub bottom : least ≡ l.bottom
+-- What the readers of a script ask: it is checked, with its layout, and each name has a level of the book.
+pub record Readable (s : List ℕ) (c : Script) (b : Book) : Type 0 where
+  pub laid : Laid s c
+  pub checked : Checked s
+  pub levelled : Levelled s b.count
 
--- What the walk is handed: also how many expressions and nodes there are, the rows, the top and the table of meets.
-pub record Walks
-    (s : List ℕ) (offset e n : ℕ) (sets : List ℕ) (greatest least : ℕ) (join meet : List (List ℕ)) (l : Levels) : Type 0 where
-  pub reads : Reads s offset least join l
-  pub expressions : e ≡ expression_count s
-  pub nodes : n ≡ node_count s
-  pub meets : Meets l meet
-  pub rows : sets ≡ l.book.rows
-  pub top : greatest ≡ l.top
-
--- p has the bytes of node k
-pub record IsNodeAt (s : List ℕ) (p : Part) (k : ℕ) : Type 0 where
+-- p has the bytes of node k, which is of this kind
+pub record IsNodeAt (s : List ℕ) (kind : ProcessKind) (p : Part) (k : ℕ) : Type 0 where
   pub known : k < node_count s
   pub same : p ≡ part_of s (node s k)
+  pub kinded : process_number kind ≡ p.kind
 
-abbrev pub IsNode : List ℕ → Part → Type 0
-IsNode s p = (k : ℕ) × IsNodeAt s p k
+abbrev pub IsNode : List ℕ → ProcessKind → Part → Type 0
+IsNode s kind p = (k : ℕ) × IsNodeAt s kind p k
 
 -- What the walks find: of an expression, ..
-pub record LevelAt (l : Levels) (s : List ℕ) (e level : ℕ) : Type 0 where
-  pub same : level ≡ exp_level (lattice l) (names_of s) (expression_of s e)
-  pub inside : level < l.book.count
+pub record LevelAt (b : Book) (s : List ℕ) (e level : ℕ) : Type 0 where
+  pub same : level ≡ exp_level (lattice_by b) (names_of s) (expression_of s e)
+  pub inside : level < b.count
 
 -- .. of what a node with these bytes brings itself, ..
-pub record OwnOf (l : Levels) (s : List ℕ) (p : Part) (own : Own) : Type 0 where
-  pub same : (k : ℕ) → IsNodeAt s p k → own ≡ own_of (lattice l) (names_of s) (process_of s k)
-  pub inside : OwnWithin l.book.count own
+pub record OwnOf (b : Book) (s : List ℕ) (kind : ProcessKind) (p : Part) (own : Own) : Type 0 where
+  pub same : (k : ℕ) → IsNodeAt s kind p k → own ≡ own_of (lattice_by b) (names_of s) (process_of s k)
+  pub inside : OwnWithin b.count own
 
 -- .. of a node with all that lies under it, ..
-pub record FlowAt (l : Levels) (s : List ℕ) (k : ℕ) (f : Flow) : Type 0 where
-  pub write : f.write ≡ write_level (lattice l) (names_of s) (process_of s k)
-  pub test : f.test ≡ test_level (lattice l) (names_of s) (process_of s k)
-  pub inside : FlowWithin l.book.count f
-  pub failing : Smallest (FailsIn (lattice l) s k) (node_count s) f.failing
+pub record FlowAt (b : Book) (s : List ℕ) (k : ℕ) (f : Flow) : Type 0 where
+  pub write : f.write ≡ write_level (lattice_by b) (names_of s) (process_of s k)
+  pub test : f.test ≡ test_level (lattice_by b) (names_of s) (process_of s k)
+  pub inside : FlowWithin b.count f
+  pub failing : Smallest (FailsIn (lattice_by b) s k) (node_count s) f.failing
 
 -- .. of the whole script
 pub record FlowOf (l : Levels) (s : List ℕ) (f : Flow) : Type 0 where

@@ -1,10 +1,9 @@
 -- 01's list of W, T and the needs, by the number of a node's kind: what a node has, from what it brings itself and what
--- its children have. `join` and `leq` are those of a lattice, or what a table keeps and a book says.
+-- its children have.
 -- proofs/ByKind.antt shows that this is `write_level`, `test_level` and `need`; no part of what is promised.
 use Rattle.std.specs.Prelude.{Bool, true, cond, ◌&&◌, ◌||◌, ℕ, ◌<◌, eqb}
 use Rattle.prelude.specs.Search.{lesser}
 use Rattle.lattice.specs.Lattice.{Lattice}
-use Rattle.order.specs.Order.{Relation}
 use Rattle.language.specs.Syntax.{Names, Proc, nil, assign, let_in, if_then_else, while, sequence, emit, local, watching, when, parallel}
 use Rattle.language.specs.Levels.{exp_level}
 use Rattle.flow.specs.declared.nodes.Flow.{Flow}
@@ -41,54 +40,48 @@ pub record FlowWithin (n : ℕ) (f : Flow) : Type 0 where
   pub test : f.test < n
 
 -- two children together: 'W meet, T join of both'
-abbrev pub both_from : (ℕ → ℕ → ℕ) → (ℕ → ℕ → ℕ) → Flow → Flow → Flow
-both_from join meet first second =
+abbrev pub both_from : Lattice ℕ → Flow → Flow → Flow
+both_from 𝓛 first second =
     record {
-      write = meet first.write second.write;
-      test = join first.test second.test;
+      write = 𝓛.meet first.write second.write;
+      test = 𝓛.join first.test second.test;
       failing = lesser first.failing second.failing;
     }
 
 -- 'sequence: .. needs T of a ≤ W of b. Parallel: also T of b ≤ W of a.' If asks nothing of its two children alone.
-abbrev pub pair_need : Relation → ℕ → Flow → Flow → Bool
-pair_need leq k first second =
+abbrev pub pair_need : Lattice ℕ → ℕ → Flow → Flow → Bool
+pair_need 𝓛 k first second =
     cond (eqb k kind.if_then_else) true
-    (leq first.test second.write && (eqb k kind.sequence || leq second.test first.write))
+    (𝓛.leq first.test second.write && (eqb k kind.sequence || 𝓛.leq second.test first.write))
 
 -- 'Assign, emit: W the name's level'; else what the children write
 abbrev pub write_from : ℕ → Own → Flow → ℕ
 write_from k own parts = cond (has_write k) own.name parts.write
 
 -- if, when, watching, while: 'T joined with D'; else what the children test
-abbrev pub test_from : (ℕ → ℕ → ℕ) → ℕ → Own → Flow → ℕ
-test_from join k own parts = cond (has_test k) (join own.level parts.test) parts.test
+abbrev pub test_from : Lattice ℕ → ℕ → Own → Flow → ℕ
+test_from 𝓛 k own parts = cond (has_test k) (𝓛.join own.level parts.test) parts.test
 
 -- 'Assign and let need D at or below the name's level', while 'needs the joined T ≤ W', if, when and watching 'D ≤ W'
-abbrev pub own_need : Relation → ℕ → Own → ℕ → ℕ → Bool
-own_need leq k own write test =
-    cond (has_value k) (leq own.level own.name)
-    (cond (eqb k kind.while) (leq test write)
-    (cond (has_test k) (leq own.level write)
+abbrev pub own_need : Lattice ℕ → ℕ → Own → ℕ → ℕ → Bool
+own_need 𝓛 k own write test =
+    cond (has_value k) (𝓛.leq own.level own.name)
+    (cond (eqb k kind.while) (𝓛.leq test write)
+    (cond (has_test k) (𝓛.leq own.level write)
     true))
 
 -- node k, of kind n; `pair` says that it has what it needs of its two children
-abbrev pub flow_from : (ℕ → ℕ → ℕ) → Relation → ℕ → ℕ → Own → Flow → Bool → Flow
-flow_from join leq k n own parts pair =
+abbrev pub flow_from : Lattice ℕ → ℕ → ℕ → Own → Flow → Bool → Flow
+flow_from 𝓛 k n own parts pair =
     let write : ℕ = write_from n own parts in
-    let test : ℕ = test_from join n own parts in
+    let test : ℕ = test_from 𝓛 n own parts in
     record {
       write = write;
       test = test;
-      failing = cond (pair && own_need leq n own write test) parts.failing (lesser k parts.failing);
+      failing = cond (pair && own_need 𝓛 n own write test) parts.failing (lesser k parts.failing);
     }
 
--- a node with two children: what they have together indexes the tables, ..
-pub record PairWithin
-    (n : ℕ) (join meet : ℕ → ℕ → ℕ) (k : ℕ) (own : Own) (first second : Flow) : Type 0 where
-  pub parts : FlowWithin n (both_from join meet first second)
-  pub test : test_from join k own (both_from join meet first second) < n
-
--- .. and what it has
-abbrev pub pair_from : (ℕ → ℕ → ℕ) → (ℕ → ℕ → ℕ) → Relation → ℕ → ℕ → Own → Flow → Flow → Flow
-pair_from join meet leq k n own first second =
-    flow_from join leq k n own (both_from join meet first second) (pair_need leq n first second)
+-- and with two children
+abbrev pub pair_from : Lattice ℕ → ℕ → ℕ → Own → Flow → Flow → Flow
+pair_from 𝓛 k n own first second =
+    flow_from 𝓛 k n own (both_from 𝓛 first second) (pair_need 𝓛 n first second)

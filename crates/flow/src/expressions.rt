@@ -1,29 +1,26 @@
 // The level of an expression.
 ghost use Rattle.std.specs.Prelude.{◌<◌};
-ghost use Rattle.layout.specs.Layout.{expression_count};
-ghost use Rattle.flow.specs.Flow.{Levels, Reads, LevelAt};
+ghost use Rattle.flow.specs.Flow.{Readable, LevelAt};
 
-use language::expression_kinds;
+use crate::levels::LevelTables;
+use language::expression_kinds::ExpressionKind;
+use layout::Script;
 use layout::parts::{name_at, part_at};
-use pairs::table::{PairTable, level_at};
 
 // The join of the levels of the registers of expression e, bottom if it has none.
-pub fn level_of(s: &[u8], offset: usize, bottom: usize, join: &PairTable, e: usize) -> usize
-    requires { ((l : Levels) × Reads s.now offset bottom join.now l) × (e < expression_count s.now) }
-    ensures { (l : Levels) → Reads s.now offset bottom join.now l → LevelAt l s.now e result }
+pub fn level_of(s: &[u8], c: &Script, levels: &LevelTables<'_>, e: usize) -> usize
+    requires { Readable s.now c.now levels.now.book × (e < c.now.expressions) }
+    ensures { LevelAt levels.now.book s.now e result }
 {
-    let part = part_at(s, offset, e);
-    if part.kind == expression_kinds::CONSTANT {
-        return bottom;
+    let part = part_at(s, c.offset, e);
+    match ExpressionKind::from_number(part.kind) {
+        ExpressionKind::Constant => levels.bottom,
+        ExpressionKind::Register => name_at(s, part.a).level,
+        ExpressionKind::Not => level_of(s, c, levels, part.a),
+        _ => {
+            let left = level_of(s, c, levels, part.a);
+            let right = level_of(s, c, levels, part.b);
+            levels.join(left, right)
+        }
     }
-    if part.kind == expression_kinds::REGISTER {
-        let name = name_at(s, part.a);
-        return name.level;
-    }
-    let left = level_of(s, offset, bottom, join, part.a);
-    if part.kind == expression_kinds::NOT {
-        return left;
-    }
-    let right = level_of(s, offset, bottom, join, part.b);
-    level_at(join, left, right)
 }

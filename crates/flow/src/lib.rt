@@ -1,14 +1,15 @@
 // Write level, test level and refusal 11: one walk over the tree of a checked script.
 #![tactic(auto)]
 
+mod levels; // levels.rt: the levels of a book, as the walk looks them up
 mod expressions; // expressions.rt: the level of an expression
 mod own; // own.rt: what a node brings itself
 mod walk; // walk.rt: the walk over the nodes
 pub mod nodes; // nodes.rt: what a node has, from what its children have
-pub mod groups; // groups.rt: the groups of kinds that the levels tell apart
 
 ghost use Rattle.flow.specs.Flow.{levels_of, Ready, Joins, Meets, FlowOf};
 
+use crate::levels::LevelTables;
 use crate::nodes::Flow;
 use book::Book;
 use layout::Script;
@@ -20,18 +21,12 @@ pub fn find_flow(s: &[u8], c: Script, b: Book, join: PairTable, meet: PairTable)
     requires { Ready s.now c (levels_of b) × (Joins (levels_of b) join × Meets (levels_of b) meet) }
     ensures { FlowOf (levels_of b) s.now result }
 {
-    let top = lattice::top_of(b);
-    let bottom = lattice::bottom_of(b);
-    walk::flow_at(
-        s,
-        c.offset,
-        c.expressions,
-        c.nodes,
-        &b.rows,
-        top,
-        bottom,
-        &join,
-        &meet,
-        c.nodes - 1,
-    )
+    let levels = LevelTables {
+        book: b,
+        joins: &join,
+        meets: &meet,
+        top: lattice::top_of(b),
+        bottom: lattice::bottom_of(b),
+    };
+    walk::flow_at(s, &c, &levels, c.nodes - 1)
 }

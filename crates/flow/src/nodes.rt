@@ -1,14 +1,11 @@
 // What a node has, from what it brings itself and what its children have: 01's list of W, T and the needs.
 ghost use Rattle.std.specs.Prelude.{◌≡◌, ◌<◌};
-ghost use Rattle.book.specs.LevelBook.{most_levels, at_or_below};
-ghost use Rattle.pairs.specs.Table.{kept};
-ghost use Rattle.flow.specs.Nodes.{OwnWithin, FlowWithin, write_from, test_from, both_from, own_need, pair_need, flow_from, PairWithin, pair_from};
+ghost use Rattle.language.specs.KindNumbers.{process_number};
+ghost use Rattle.flow.specs.Flow.{lattice_by};
+ghost use Rattle.flow.specs.Nodes.{OwnWithin, FlowWithin, write_from, test_from, both_from, own_need, pair_need, flow_from, pair_from};
 
-use crate::groups;
-use crate::groups::is_either;
-use book::{Book, at_or_below};
-use language::process_kinds;
-use pairs::table::{PairTable, level_at};
+use crate::levels::LevelTables;
+use language::process_kinds::ProcessKind;
 
 // What a node brings itself: D, which is the level of its expression or signal, and the level of its name. What it has
 // not counts as bottom.
@@ -28,125 +25,120 @@ pub struct Flow {
 }
 
 // W and T of two children together, and the smaller of their failing nodes.
-fn both_of(join: &PairTable, meet: &PairTable, first: Flow, second: Flow) -> Flow
-    requires { FlowWithin most_levels first × FlowWithin most_levels second }
-    ensures { result ≡ both_from (kept join.now) (kept meet.now) first second }
+fn both_of(levels: &LevelTables<'_>, first: Flow, second: Flow) -> Flow
+    requires { FlowWithin levels.now.book.count first × FlowWithin levels.now.book.count second }
+    ensures same { result ≡ both_from (lattice_by levels.now.book) first second }
+    ensures inside { FlowWithin levels.now.book.count result }
 {
     Flow {
-        write: level_at(meet, first.write, second.write),
-        test: level_at(join, first.test, second.test),
-        failing: prelude::lesser(first.failing, second.failing),
+        write: levels.meet(first.write, second.write),
+        test: levels.join(first.test, second.test),
+        failing: first.failing.min(second.failing),
     }
 }
 
 // What a node of this kind needs of its two children.
-fn pair_need(rows: &[u16; Book::MAX_LEVELS], kind: usize, first: Flow, second: Flow) -> bool
-    requires { FlowWithin most_levels first × FlowWithin most_levels second }
-    ensures { result ≡ pair_need (at_or_below rows.now) kind first second }
+fn pair_need(levels: &LevelTables<'_>, kind: ProcessKind, first: Flow, second: Flow) -> bool
+    requires { FlowWithin levels.now.book.count first × FlowWithin levels.now.book.count second }
+    ensures { result ≡ pair_need (lattice_by levels.now.book) (process_number kind) first second }
 {
-    if kind == process_kinds::IF {
-        return true;
+    match kind {
+        ProcessKind::If => true,
+        ProcessKind::Sequence => levels.at_or_below(first.test, second.write),
+        _ => {
+            levels.at_or_below(first.test, second.write)
+                && levels.at_or_below(second.test, first.write)
+        }
     }
-    if !at_or_below(rows, first.test, second.write) {
-        return false;
-    }
-    if kind == process_kinds::SEQUENCE {
-        return true;
-    }
-    at_or_below(rows, second.test, first.write)
 }
 
 // What a node of this kind with these levels needs itself.
 fn own_need(
-    rows: &[u16; Book::MAX_LEVELS],
-    kind: usize,
+    levels: &LevelTables<'_>,
+    kind: ProcessKind,
     own: Own,
     write: usize,
     test: usize,
 ) -> bool
-    requires { OwnWithin most_levels own × ((write < most_levels) × (test < most_levels)) }
-    ensures { result ≡ own_need (at_or_below rows.now) kind own write test }
+    requires { OwnWithin levels.now.book.count own × ((write < levels.now.book.count) × (test < levels.now.book.count)) }
+    ensures { result ≡ own_need (lattice_by levels.now.book) (process_number kind) own write test }
 {
-    if is_either(kind, process_kinds::ASSIGN, process_kinds::LET) {
-        return at_or_below(rows, own.level, own.name);
+    match kind {
+        ProcessKind::Assign | ProcessKind::Let => levels.at_or_below(own.level, own.name),
+        ProcessKind::While => levels.at_or_below(test, write),
+        ProcessKind::If | ProcessKind::Watching | ProcessKind::When => {
+            levels.at_or_below(own.level, write)
+        }
+        _ => true,
     }
-    if kind == process_kinds::WHILE {
-        return at_or_below(rows, test, write);
-    }
-    if groups::has_test(kind) {
-        return at_or_below(rows, own.level, write);
-    }
-    true
 }
 
 // W of a node: that of its name, if it assigns or emits; else that of its children.
-fn write_of(kind: usize, own: Own, parts: Flow) -> usize
-    ensures { result ≡ write_from kind own parts }
+fn write_of(kind: ProcessKind, own: Own, parts: Flow) -> usize
+    ensures { result ≡ write_from (process_number kind) own parts }
 {
-    if is_either(kind, process_kinds::ASSIGN, process_kinds::EMIT) {
-        return own.name;
+    if kind.is_writer() {
+        own.name
+    } else {
+        parts.write
     }
-    parts.write
 }
 
 // T of a node: that of its children, joined with D, if it tests.
-fn test_of(join: &PairTable, kind: usize, own: Own, parts: Flow) -> usize
-    requires { OwnWithin most_levels own × FlowWithin most_levels parts }
-    ensures { result ≡ test_from (kept join.now) kind own parts }
+fn test_of(levels: &LevelTables<'_>, kind: ProcessKind, own: Own, parts: Flow) -> usize
+    requires { OwnWithin levels.now.book.count own × FlowWithin levels.now.book.count parts }
+    ensures same { result ≡ test_from (lattice_by levels.now.book) (process_number kind) own parts }
+    ensures inside { result < levels.now.book.count }
 {
-    if groups::has_test(kind) {
-        return level_at(join, own.level, parts.test);
+    if kind.has_test() {
+        levels.join(own.level, parts.test)
+    } else {
+        parts.test
     }
-    parts.test
 }
 
 // Node k, of this kind: W and T, and the smallest failing node under it, where `parts` has what its children have
 // together, and `pair` says that it has what it needs of its two children.
 pub fn node_flow(
-    rows: &[u16; Book::MAX_LEVELS],
-    join: &PairTable,
+    levels: &LevelTables<'_>,
     k: usize,
-    kind: usize,
+    kind: ProcessKind,
     own: Own,
     parts: Flow,
     pair: bool,
 ) -> Flow
-    requires { OwnWithin most_levels own × (FlowWithin most_levels parts × (test_from (kept join.now) kind own parts < most_levels)) }
-    ensures { result ≡ flow_from (kept join.now) (at_or_below rows.now) k kind own parts pair }
+    requires { OwnWithin levels.now.book.count own × FlowWithin levels.now.book.count parts }
+    ensures same { result ≡ flow_from (lattice_by levels.now.book) k (process_number kind) own parts pair }
+    ensures inside { FlowWithin levels.now.book.count result }
 {
     let write = write_of(kind, own, parts);
-    let test = test_of(join, kind, own, parts);
-    if pair {
-        if own_need(rows, kind, own, write, test) {
-            return Flow {
-                write,
-                test,
-                failing: parts.failing,
-            };
-        }
-    }
+    let test = test_of(levels, kind, own, parts);
+    let failing = if pair && own_need(levels, kind, own, write, test) {
+        parts.failing
+    } else {
+        k.min(parts.failing)
+    };
     Flow {
         write,
         test,
-        failing: prelude::lesser(k, parts.failing),
+        failing,
     }
 }
 
 // The same of a node with two children.
 pub fn pair_flow(
-    rows: &[u16; Book::MAX_LEVELS],
-    join: &PairTable,
-    meet: &PairTable,
+    levels: &LevelTables<'_>,
     k: usize,
-    kind: usize,
+    kind: ProcessKind,
     own: Own,
     first: Flow,
     second: Flow,
 ) -> Flow
-    requires { OwnWithin most_levels own × (FlowWithin most_levels first × (FlowWithin most_levels second × PairWithin most_levels (kept join.now) (kept meet.now) kind own first second)) }
-    ensures { result ≡ pair_from (kept join.now) (kept meet.now) (at_or_below rows.now) k kind own first second }
+    requires { OwnWithin levels.now.book.count own × (FlowWithin levels.now.book.count first × FlowWithin levels.now.book.count second) }
+    ensures same { result ≡ pair_from (lattice_by levels.now.book) k (process_number kind) own first second }
+    ensures inside { FlowWithin levels.now.book.count result }
 {
-    let parts = both_of(join, meet, first, second);
-    let pair = pair_need(rows, kind, first, second);
-    node_flow(rows, join, k, kind, own, parts, pair)
+    let parts = both_of(levels, first, second);
+    let pair = pair_need(levels, kind, first, second);
+    node_flow(levels, k, kind, own, parts, pair)
 }

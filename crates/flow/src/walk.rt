@@ -1,50 +1,38 @@
 // The walk over the nodes.
 ghost use Rattle.std.specs.Prelude.{◌<◌};
-ghost use Rattle.flow.specs.Flow.{Levels, Walks, FlowAt};
+ghost use Rattle.flow.specs.Flow.{Readable, FlowAt};
 
+use crate::levels::LevelTables;
 use crate::nodes::Flow;
-use crate::own;
-use book::Book;
+use crate::{nodes, own};
 use fields::children::children_of;
 use fields::roles::child_count;
+use language::process_kinds::ProcessKind;
+use layout::Script;
 use layout::parts::part_at;
-use pairs::table::PairTable;
 
-// The levels of node k, and the smallest failing node under it. The parts begin at byte `at`, the nodes after so many
-// expressions. (Numbers, since the layout of the script would be copied at each node.)
-pub fn flow_at(
-    s: &[u8],
-    at: usize,
-    expressions: usize,
-    nodes: usize,
-    rows: &[u16; Book::MAX_LEVELS],
-    top: usize,
-    bottom: usize,
-    join: &PairTable,
-    meet: &PairTable,
-    k: usize,
-) -> Flow
-    requires { ((l : Levels) × Walks s.now at expressions nodes rows.now top bottom join.now meet.now l) × (k < nodes) }
-    ensures { (l : Levels) → Walks s.now at expressions nodes rows.now top bottom join.now meet.now l → FlowAt l s.now k result }
+// The levels of node k, and the smallest failing node under it.
+pub fn flow_at(s: &[u8], c: &Script, levels: &LevelTables<'_>, k: usize) -> Flow
+    requires { Readable s.now c.now levels.now.book × (k < c.now.nodes) }
+    ensures { FlowAt levels.now.book s.now k result }
 {
-    let p = part_at(s, at, expressions + k);
-    let own = own::own_levels(s, at, bottom, join, p);
+    let p = part_at(s, c.offset, c.expressions + k);
+    let kind = ProcessKind::from_number(p.kind);
+    let own = own::own_levels(s, c, levels, kind, p);
     let count = child_count(p.kind);
     if count == 0 {
         let none = Flow {
-            write: top,
-            test: bottom,
-            failing: nodes,
+            write: levels.top,
+            test: levels.bottom,
+            failing: c.nodes,
         };
-        return crate::nodes::node_flow(rows, join, k, p.kind, own, none, true);
+        return nodes::node_flow(levels, k, kind, own, none, true);
     }
     let children = children_of(p);
-    let i = children.first;
-    let first = flow_at(s, at, expressions, nodes, rows, top, bottom, join, meet, i);
+    let first = flow_at(s, c, levels, children.first);
     if count == 1 {
-        return crate::nodes::node_flow(rows, join, k, p.kind, own, first, true);
+        return nodes::node_flow(levels, k, kind, own, first, true);
     }
-    let j = children.second;
-    let second = flow_at(s, at, expressions, nodes, rows, top, bottom, join, meet, j);
-    crate::nodes::pair_flow(rows, join, meet, k, p.kind, own, first, second)
+    let second = flow_at(s, c, levels, children.second);
+    nodes::pair_flow(levels, k, kind, own, first, second)
 }

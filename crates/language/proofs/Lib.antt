@@ -19,3 +19,4 @@ pub mod RequiredRanges
 pub mod MoveBounds
 pub mod PathMoves
 pub mod Theorems
+pub mod KindNumbers

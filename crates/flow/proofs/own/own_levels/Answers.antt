@@ -1,59 +1,36 @@
--- `own_levels`: by the three tests of the kind.
-use mathlib.Core.Path.{sym, ◌∙◌, subst}
-use Rattle.flow.specs.Nodes.{brings}
-use Rattle.flow.specs.Flow.{OwnOf}
+-- `own_levels`: kind by kind.
 use Rattle.layout.proofs.Layouts.{name_within}
+use Rattle.flow.proofs.BookLevels.{bottom_inside}
 use Rattle.flow.proofs.OwnViews.{value_known, value_brings, condition_known, condition_brings, signal_known, signal_brings, nothing_brings}
 use Rattle.flow.proofs.own.own_levels.Goals as goal
 
-pub name_at-name-requires : goal.name_at-name-requires
-name_at-name-requires c =
-    let ready = c.requires.0.1.ready in
-    name_within ready.laid (value_known ready c.requires.1 (sym c.is_either.ensures ∙ c.if-is_either.true)).0
-
 pub level_of-requires : goal.level_of-requires
-level_of-requires c = (
-  c.requires.0,
-  (value_known c.requires.0.1.ready c.requires.1 (sym c.is_either.ensures ∙ c.if-is_either.true)).1,
-)
+level_of-requires c = (c.requires.0, (value_known c.requires.0 c.requires.1 c.in-Assign.is).1)
 
-pub returns-then-is_either : goal.returns-then-is_either
-returns-then-is_either c l h =
-    value_brings h.ready c.requires.1 (sym c.is_either.ensures ∙ c.if-is_either.true) (c.level_of.ensures l h)
-    c.name_at-name.ensures
+pub name_at-requires : goal.name_at-requires
+name_at-requires c =
+    name_within c.requires.0.laid (value_known c.requires.0 c.requires.1 c.in-Assign.is).0
 
-pub level_of-requires-then-is_either-2 : goal.level_of-requires-then-is_either-2
-level_of-requires-then-is_either-2 c = (
-  c.requires.0,
-  condition_known c.requires.0.1.ready c.requires.1 (sym c.is_either.ensures ∙ c.if-is_either.false)
-      (sym c.is_either-2.ensures ∙ c.if-is_either-2.true),
-)
+pub returns-in-Assign : goal.returns-in-Assign
+returns-in-Assign c =
+    value_brings c.requires.0 c.requires.1 c.in-Assign.is c.level_of.ensures c.name_at.ensures
 
-pub returns-then-is_either-2 : goal.returns-then-is_either-2
-returns-then-is_either-2 c l h =
-    subst (λ b. OwnOf l c.args.s.now c.args.p (brings c.level_of-then-is_either-2.result b)) (sym h.bottom)
-    (condition_brings h.ready c.requires.1 (sym c.is_either.ensures ∙ c.if-is_either.false)
-    (sym c.is_either-2.ensures ∙ c.if-is_either-2.true)
-    (c.level_of-then-is_either-2.ensures l h))
+pub level_of-requires-in-If : goal.level_of-requires-in-If
+level_of-requires-in-If c = (c.requires.0, condition_known c.requires.0 c.requires.1 c.in-If.is)
 
-pub name_at-name-requires-then-has_signal : goal.name_at-name-requires-then-has_signal
-name_at-name-requires-then-has_signal c =
-    let ready = c.requires.0.1.ready in
-    name_within ready.laid
-    (signal_known ready c.requires.1 (sym c.is_either.ensures ∙ c.if-is_either.false)
-    (sym c.is_either-2.ensures ∙ c.if-is_either-2.false)
-    (sym c.has_signal.ensures ∙ c.if-has_signal.true))
+pub returns-in-If : goal.returns-in-If
+returns-in-If c =
+    let l = c.args.levels.now in
+    condition_brings c.requires.0 c.requires.1 c.in-If.is c.level_of-in-If.ensures l.least (bottom_inside l)
 
-pub returns-then-has_signal : goal.returns-then-has_signal
-returns-then-has_signal c l h =
-    signal_brings h.ready c.requires.1 (sym c.is_either.ensures ∙ c.if-is_either.false)
-    (sym c.is_either-2.ensures ∙ c.if-is_either-2.false)
-    (sym c.has_signal.ensures ∙ c.if-has_signal.true)
-    c.name_at-name-then-has_signal.ensures
+pub name_at-level-requires : goal.name_at-level-requires
+name_at-level-requires c =
+    name_within c.requires.0.laid (signal_known c.requires.0 c.requires.1 c.in-Emit.is)
 
-pub returns : goal.returns
-returns c l h =
-    subst (λ b. OwnOf l c.args.s.now c.args.p (brings b b)) (sym h.bottom)
-    (nothing_brings h.ready c.requires.1 (sym c.is_either.ensures ∙ c.if-is_either.false)
-    (sym c.is_either-2.ensures ∙ c.if-is_either-2.false)
-    (sym c.has_signal.ensures ∙ c.if-has_signal.false))
+pub returns-in-Emit : goal.returns-in-Emit
+returns-in-Emit c = signal_brings c.requires.0 c.requires.1 c.in-Emit.is c.name_at-level.ensures
+
+pub returns-in-Nil : goal.returns-in-Nil
+returns-in-Nil c =
+    let l = c.args.levels.now in
+    nothing_brings c.requires.0 c.requires.1 c.in-Nil.is l.least (bottom_inside l)
