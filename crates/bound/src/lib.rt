@@ -2,13 +2,12 @@
 #![tactic(auto)]
 
 ghost use Rattle.std.specs.Prelude.{◌≡◌, ◌≤◌};
-ghost use Rattle.layout.specs.Promises.{Laid};
 ghost use Rattle.layout.specs.Layout.{most_nodes};
 ghost use Rattle.bound.specs.Bound.{bound_of};
 ghost use Rattle.bound.specs.Promises.{counts_up_to, with_kind, bound_by, Few};
 
 use language::process_kinds::ProcessKind;
-use layout::{Script, parts};
+use layout::file::File;
 
 // How many nodes are other than nil, how many are parallels, how many are whiles.
 #[derive(Clone, Copy, Default)]
@@ -44,22 +43,19 @@ impl NodeCounts {
     }
 }
 
-fn count_nodes(s: &[u8], c: Script) -> NodeCounts
-    requires { Laid s.now c }
-    ensures { result ≡ counts_up_to s.now c.nodes }
+fn count_nodes(file: &File<'_>) -> NodeCounts
+    ensures { result ≡ counts_up_to file.now.bytes.now file.now.layout.nodes }
 {
     let mut counts = NodeCounts::default();
-    for k in 0..c.nodes {
-        let part = parts::part_at(s, c.offset, c.expressions + k);
-        counts = counts.with_kind(part.kind);
+    for k in 0..file.layout.nodes {
+        counts = counts.with_kind(file.part(file.layout.expressions + k).kind);
     }
     counts
 }
 
-// The bound of a script whose file has this layout; none where it holds a while.
-pub fn find_bound(s: &[u8], c: Script) -> Option<u32>
-    requires { Laid s.now c }
-    ensures { result ≡ bound_of s.now }
+// The bound of the script of a file; none where it holds a while.
+pub fn find_bound(file: &File<'_>) -> Option<u32>
+    ensures { result ≡ bound_of file.now.bytes.now }
 {
-    count_nodes(s, c).bound()
+    count_nodes(file).bound()
 }

@@ -11,10 +11,10 @@ use Rattle.bound.proofs.find_bound.Goals as goal
 pub bound-requires : goal.bound-requires
 bound-requires c =
     subst (λ n. Few n most_nodes) (sym c.count_nodes.ensures)
-    (few_more (omega (arith, few_bounds c.args.c c.requires.few)) (counts_few c.args.s.now c.args.c.nodes))
+    (few_more (omega (arith, few_bounds c.args.file.now.layout c.args.file.now.laid.few)) (counts_few c.args.file.now.bytes.now c.args.file.now.layout.nodes))
 
 pub returns : goal.returns
 unfolding bound_of
 returns c =
     c.bound.ensures
-    ∙ ap bound_by (c.count_nodes.ensures ∙ ap (counts_up_to c.args.s.now) (nodes_are c.requires))
+    ∙ ap bound_by (c.count_nodes.ensures ∙ ap (counts_up_to c.args.file.now.bytes.now) (nodes_are c.args.file.now.laid))
