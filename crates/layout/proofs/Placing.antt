@@ -9,7 +9,10 @@ use lib.Dec.{eqb}
 use borrow.Author.Tests.{lt-ltb, le-ltb}
 use Rattle.prelude.specs.declared.Refusal.{Refusal}
 use Rattle.prelude.specs.Refusals.{refused_by, not_refused, passes}
+use Rattle.std.proofs.Common.{Some, None}
+use Rattle.prelude.specs.Promises.{found}
 use Rattle.prelude.specs.Search.{first}
+use Rattle.prelude.proofs.Found.{given_found, given_nothing}
 use Rattle.prelude.proofs.Searches.{NoneBelow, first_within, first_at_end, first_none, first_same}
 use Rattle.layout.specs.declared.Script.{Script}
 use Rattle.layout.specs.Layout.{layout_of, expression_count, node_count, part_count}
@@ -47,6 +50,15 @@ module _ (s : List ℕ) (number : ℕ) (fault : ℕ → Bool) (n : ℕ) where
   pub past_parts : NoneBelow fault n → at_first_part s number fault n ≡ not_refused
   past_parts none = past_first fault n (λ q. refused_by number (place_of_part (expression_count s) q)) not_refused none
 
+  -- what a search of them gives
+  pub found_part :
+      {q : ℕ} → found fault n ≡ Some q →
+      at_first_part s number fault n ≡ refused_by number (place_of_part (expression_count s) q)
+  found_part = given_found fault n (λ q. refused_by number (place_of_part (expression_count s) q)) not_refused
+
+  pub found_no_part : found fault n ≡ None → at_first_part s number fault n ≡ not_refused
+  found_no_part = given_nothing fault n (λ q. refused_by number (place_of_part (expression_count s) q)) not_refused
+
 -- the expressions, then the nodes
 pub both :
     (s : List ℕ) (fault : ℕ → Bool) (n : ℕ) →
@@ -56,20 +68,3 @@ both s fault n a b q h =
       | yes l ↦ a q l
       | no l ↦ subst (λ p. fault p ≡ false) (omega arith) (b (q - expression_count s) (omega arith))
     ]
-
--- searches by the counts of the layout that was read
-module _ (s : List ℕ) (c : Script) (same : c ≡ layout_of s) (fault : ℕ → Bool) where
-  pub over_expressions : first (λ k. fault (0 + k)) c.expressions ≡ first fault (expression_count s)
-  over_expressions =
-      first_same _ _ c.expressions (λ k h. ap fault (omega arith)) ∙ ap (λ d. first fault d.expressions) same
-
-  pub over_nodes : first (λ k. fault (c.expressions + k)) c.nodes ≡ first (λ k. fault (node s k)) (node_count s)
-  over_nodes = ap (λ d. first (λ k. fault (d.expressions + k)) d.nodes) same
-
-  -- what was found, by the definition
-  pub over_parts :
-      (number : ℕ) (n : ℕ → ℕ) {q : ℕ} → q ≡ first fault (n (c.expressions + c.nodes)) →
-      at_part number c.expressions (n (c.expressions + c.nodes)) q ≡ at_first_part s number fault (n (part_count s))
-  over_parts number n p =
-      ap (at_part number c.expressions (n (c.expressions + c.nodes))) p
-      ∙ ap (λ d. let m : ℕ = n (d.expressions + d.nodes) in at_part number d.expressions m (first fault m)) same

@@ -2,7 +2,7 @@
 ghost use Rattle.std.specs.Prelude.{◌≡◌, ◌+◌, ◌<◌};
 ghost use Rattle.prelude.specs.Refusals.{refused_by};
 ghost use Rattle.prelude.specs.Promises.{Answers};
-ghost use Rattle.layout.specs.Layout.{layout_refusal};
+ghost use Rattle.layout.specs.Layout.{expression_count, layout_refusal};
 ghost use Rattle.layout.specs.Entries.{name_of, part_of};
 ghost use Rattle.layout.specs.Places.{place_of_part};
 ghost use Rattle.layout.specs.Promises.{Laid, SmallFields};
@@ -61,7 +61,7 @@ impl File<'_> {
     // The refusal of this number at part q.
     pub fn refused_at(&self, number: u32, q: usize) -> Refusal
         requires { q < self.now.layout.expressions + self.now.layout.nodes }
-        ensures { result ≡ refused_by number (place_of_part self.now.layout.expressions q) }
+        ensures { result ≡ refused_by number (place_of_part (expression_count self.now.bytes.now) q) }
     {
         if q < self.layout.expressions {
             return Refusal::at(number, q);
