@@ -1,27 +1,37 @@
 -- The part that a field uses, by the field's role; how often the parts so far use one.
 use mathlib.Core.Path.{◌≡◌, refl, sym, ap, ◌∙◌}
 use mathlib.Core.List.{List}
-use Prim.Native.Nat.{ℕ, zero, suc, ◌+◌, ◌*◌, ◌≤◌}
+use Prim.Native.Nat.{ℕ, zero, suc, ◌+◌, ◌*◌, ◌≤◌, ◌<◌}
 use native.Mathlib.Nat.{add-zero}
 use native.Mathlib.Numerals.{add-one}
 use native.Mathlib.Omega.{arith}
 use lib.Dec.{eqb}
 use lib.ListN.{replicate, get_or-replicate}
-use borrow.Author.Tests.{eqb-true}
+use Rattle.std.proofs.Common.{Option, Some, None}
+use Rattle.std.specs.Option.{unwrap_or}
 use Rattle.prelude.specs.Search.{count, total}
-use Rattle.prelude.proofs.Bools.{by_cases}
 use Rattle.prelude.proofs.Counts.{count_within}
 use Rattle.layout.specs.Layout.{most_parts, expression_count, part_count}
 use Rattle.fields.specs.declared.Field.{Field}
-use Rattle.fields.specs.Roles.{expression, child}
+use Rattle.fields.specs.declared.roles.Role.{Role}
+use Rattle.fields.specs.declared.roles.Role.TheVariants.{Unused, Register, Signal, NewRegister, NewSignal, Expression, Child, Half}
 use Rattle.fields.specs.Fields.{field_count, field_of}
-use Rattle.uses.specs.Uses.{used_by, used, times_in, times_used}
+use Rattle.uses.specs.Uses.{part_used, used_by, used, times_in, times_used}
 use Rattle.uses.specs.Promises.{KeepsTimes, KeepsTimesTo}
 
 module _ (s : List ℕ) where
   pub used_of : (p f : ℕ) → used s p f ≡ used_by (expression_count s) (field_of s p f)
   unfolding used
   used_of p f = refl
+
+  -- the same, where the field uses a part, and where it uses none
+  pub used_some : (p f : ℕ) {u : ℕ} → part_used (expression_count s) (field_of s p f) ≡ Some u → used s p f ≡ u
+  unfolding used
+  used_some p f e = rw e
+
+  pub used_none : (p f : ℕ) → part_used (expression_count s) (field_of s p f) ≡ None → used s p f ≡ most_parts
+  unfolding used
+  used_none p f e = rw e
 
   pub times_within : (q n : ℕ) → total (times_in s q) n ≤ field_count * n
   unfolding total
@@ -43,15 +53,31 @@ module _ (s : List ℕ) where
   unfolding times_used count
   times_all p times all keeps q h = keeps.1 q h ∙ add-zero _ ∙ ap (total (times_in s q)) all
 
-pub used_expression : (n : ℕ) (x : Field) → x.role ≡ expression → used_by n x ≡ x.value
+-- a number of a part is that of one that is used
+pub used_part : (n : ℕ) (x : Field) → used_by n x < most_parts → part_used n x ≡ Some (used_by n x)
+used_part n x = go (part_used n x)
+  where
+    go : (o : Option ℕ) → unwrap_or o most_parts < most_parts → o ≡ Some (unwrap_or o most_parts)
+    go None h = absurd (omega arith)
+    go (Some u) h = refl
+
+pub used_expression : (n : ℕ) (x : Field) → x.role ≡ Expression → used_by n x ≡ x.value
 used_expression n x e = rw e
 
-pub used_child : (n : ℕ) (x : Field) → x.role ≡ child → used_by n x ≡ n + x.value
+pub used_child : (n : ℕ) (x : Field) → x.role ≡ Child → used_by n x ≡ n + x.value
 used_child n x e = rw e
 
 pub used_by_role :
-    (M : ℕ → Type 0) (n : ℕ) (x : Field) → (x.role ≡ expression → M x.value) → (x.role ≡ child → M (n + x.value)) →
+    (M : ℕ → Type 0) (n : ℕ) (x : Field) → (x.role ≡ Expression → M x.value) → (x.role ≡ Child → M (n + x.value)) →
     M most_parts → M (used_by n x)
-used_by_role M n x operand node none =
-    by_cases M (eqb x.role expression) (λ e. operand (eqb-true _ _ e))
-    (λ _. by_cases M (eqb x.role child) (λ e. node (eqb-true _ _ e)) (λ _. none))
+used_by_role M n x operand node none = go x.role refl
+  where
+    go : (r : Role) → x.role ≡ r → M (used_by n x)
+    go Expression e = rw e (operand e)
+    go Child e = rw e (node e)
+    go Unused e = rw e none
+    go Register e = rw e none
+    go Signal e = rw e none
+    go NewRegister e = rw e none
+    go NewSignal e = rw e none
+    go Half e = rw e none

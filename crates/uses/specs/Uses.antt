@@ -1,19 +1,26 @@
 -- 01, 'Script file': 'Each expression, and each node but the last, is used exactly once.'
-use Rattle.std.specs.Prelude.{Bool, cond, not, List, ℕ, ◌+◌, ◌-◌, eqb}
+use Rattle.std.specs.Prelude.{Bool, not, List, ℕ, ◌+◌, ◌-◌, eqb, Option, Some, None}
+use Rattle.std.specs.Option.{unwrap_or}
 use Rattle.prelude.specs.declared.Refusal.{Refusal}
 use Rattle.prelude.specs.Search.{count, total}
 use Rattle.layout.specs.Layout.{most_parts, expression_count, part_count}
 use Rattle.layout.specs.Places.{at_first_part}
 use Rattle.fields.specs.declared.Field.{Field}
-use Rattle.fields.specs.Roles.{expression, child}
+use Rattle.fields.specs.declared.roles.Role.TheVariants.{Expression, Child}
 use Rattle.fields.specs.Fields.{field_count, field_of}
 
--- the part that a field uses; `most_parts`, which is the number of no part, if it uses none
+-- the part that a field uses, if it uses one
+abbrev pub part_used : ℕ → Field → Option ℕ
+part_used expressions x =
+    elim x.role [
+      | Expression ↦ Some x.value
+      | Child ↦ Some (expressions + x.value)
+      | _ ↦ None
+    ]
+
+-- its number; `most_parts`, which is the number of no part, if it uses none
 abbrev pub used_by : ℕ → Field → ℕ
-used_by expressions x =
-    cond (eqb x.role expression) x.value
-    (cond (eqb x.role child) (expressions + x.value)
-    most_parts)
+used_by expressions x = unwrap_or (part_used expressions x) most_parts
 
 -- the part that field f of part p uses
 unfoldable pub used : List ℕ → ℕ → ℕ → ℕ

@@ -1,94 +1,73 @@
 // How often each expression and each node is used: refusal 9.
 #![tactic(auto)]
 
-ghost use Rattle.std.specs.Prelude.{◌≡◌, not, eqb, get_or, ◌+◌, ◌<◌, ◌≤◌};
-ghost use Rattle.prelude.specs.Search.{first};
-ghost use Rattle.layout.specs.Layout.{most_parts};
-ghost use Rattle.layout.specs.Promises.{Laid};
-ghost use Rattle.fields.specs.Fields.{field_count};
-ghost use Rattle.uses.specs.Uses.{used_by, used, use_refusal};
+ghost use Rattle.std.specs.Prelude.{◌≡◌, ◌+◌, ◌-◌, ◌<◌};
+ghost use Rattle.prelude.specs.Promises.{found, outcome};
+ghost use Rattle.layout.specs.Layout.{expression_count, part_count};
+ghost use Rattle.fields.specs.Fields.{field_count, field_of};
+ghost use Rattle.uses.specs.Uses.{part_used, is_loose, use_refusal};
 ghost use Rattle.uses.specs.Promises.{KeepsTimes, KeepsTimesTo};
 
-use fields::{Field, field_at, roles};
+use fields::field_at;
+use fields::roles::Role;
 use layout::Script;
+use layout::file::File;
 use layout::parts::Part;
-use layout::places::at_part;
 use prelude::Refusal;
+use prelude::search::first;
 
-// The part that a field uses, or MAX_PARTS.
-fn used_by(c: Script, field: Field) -> usize
-    requires { (c.expressions ≤ most_parts) × (field.value < 65536) }
-    ensures { result ≡ used_by c.expressions field }
+// The part that field f of part q uses, if it uses one.
+pub fn used_at(file: &File<'_>, q: usize, f: usize) -> Option<usize>
+    requires { (q < file.now.layout.expressions + file.now.layout.nodes) × (f < field_count) }
+    ensures { result ≡ part_used (expression_count file.now.bytes.now) (field_of file.now.bytes.now q f) }
 {
-    if field.role == roles::EXPRESSION {
-        return field.value;
+    let field = field_at(file, q, f);
+    match field.role {
+        Role::Expression => Some(field.value),
+        Role::Child => Some(file.layout.expressions + field.value),
+        _ => None,
     }
-    if field.role == roles::CHILD {
-        return c.expressions + field.value;
-    }
-    Script::MAX_PARTS
-}
-
-// The part that field f of part q uses, or MAX_PARTS.
-pub fn used_at(s: &[u8], c: Script, q: usize, f: usize) -> usize
-    requires { Laid s.now c × ((q < c.expressions + c.nodes) × (f < field_count)) }
-    ensures { result ≡ used s.now q f }
-{
-    used_by(c, field_at(s, c, q, f))
 }
 
 // Counts what the fields of part q use, where those of the parts before it are counted.
-fn count_fields(s: &[u8], c: Script, q: usize, times: &mut [u16; Script::MAX_PARTS])
-    requires { Laid s.now c × ((q < c.expressions + c.nodes) × KeepsTimesTo s.now q 0 times.old) }
-    ensures { KeepsTimesTo s.now (q + 1) 0 times.new }
+fn count_fields(file: &File<'_>, q: usize, times: &mut [u16; Script::MAX_PARTS])
+    requires { (q < file.now.layout.expressions + file.now.layout.nodes) × KeepsTimesTo file.now.bytes.now q 0 times.old }
+    ensures { KeepsTimesTo file.now.bytes.now (q + 1) 0 times.new }
 {
-    let mut f: usize = 0;
-    while f < Part::FIELDS {
-        let part = used_at(s, c, q, f);
-        if part < Script::MAX_PARTS {
-            times[part] = times[part] + 1;
+    for f in 0..Part::FIELDS {
+        if let Some(part) = used_at(file, q, f) {
+            if part < Script::MAX_PARTS {
+                times[part] += 1;
+            }
         }
-        f += 1;
     }
 }
 
 // For each part how often it is used.
-fn count_uses(s: &[u8], c: Script) -> [u16; Script::MAX_PARTS]
-    requires { Laid s.now c }
-    ensures { KeepsTimes s.now result }
+fn count_uses(file: &File<'_>) -> [u16; Script::MAX_PARTS]
+    ensures { KeepsTimes file.now.bytes.now result }
 {
     let mut times = [0u16; Script::MAX_PARTS];
-    let n = c.expressions + c.nodes;
-    let mut q: usize = 0;
-    while q < n {
-        count_fields(s, c, q, &mut times);
-        q += 1;
+    for q in 0..file.parts() {
+        count_fields(file, q, &mut times);
     }
     times
 }
 
-// The smallest of the first n parts that is not used exactly once, or n.
-fn first_loose(times: &[u16; Script::MAX_PARTS], n: usize) -> usize
-    requires { n ≤ most_parts }
-    ensures { result ≡ first (λ q. not (eqb (get_or times.now q 0) 1)) n }
+// The smallest part but the last that is not used exactly once.
+fn first_loose(file: &File<'_>, times: &[u16; Script::MAX_PARTS]) -> Option<usize>
+    requires { KeepsTimes file.now.bytes.now times.now }
+    ensures { result ≡ found (is_loose file.now.bytes.now) (part_count file.now.bytes.now - 1) }
 {
-    let mut q: usize = 0;
-    while q < n {
-        if times[q] != 1 {
-            return q;
-        }
-        q += 1;
-    }
-    q
+    first(file.parts() - 1, |q| times[q] != 1)
 }
 
 // Row 9. The last part, which is the last node, is used by nothing.
-pub fn refusal(s: &[u8], c: Script) -> Refusal
-    requires { Laid s.now c }
-    ensures { result ≡ use_refusal s.now }
+pub fn check(file: &File<'_>) -> Result<(), Refusal>
+    ensures { result ≡ outcome (use_refusal file.now.bytes.now) tt }
 {
-    let e = c.expressions;
-    let n = e + c.nodes - 1;
-    let times = count_uses(s, c);
-    at_part(9, e, n, first_loose(&times, n))
+    match first_loose(file, &count_uses(file)) {
+        Some(q) => Err(file.refused_at(9, q)),
+        None => Ok(()),
+    }
 }
