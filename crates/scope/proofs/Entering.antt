@@ -5,7 +5,7 @@ use mathlib.Core.List.{List}
 use Prim.Native.Nat.{ℕ}
 use lib.Dec.{eqb}
 use Rattle.fields.specs.declared.Field.{Field}
-use Rattle.fields.specs.Roles.{child, is_use, is_new}
+use Rattle.fields.specs.Roles.{is_child, is_use, is_new}
 use Rattle.fields.specs.Fields.{field_of}
 use Rattle.scope.specs.Reach.{in_reach, misses_name}
 use Rattle.scope.specs.Promises.{opens}
@@ -17,24 +17,24 @@ module _
   tests : Bool → Field → Bool
   tests t d = (t && (is_new d.role && eqb d.value x)) || in_set
 
-  opens_is : tests (eqb (field_of s q f).role child) (field_of s q 0) ≡ (opens s q f x || in_set)
+  opens_is : tests (is_child (field_of s q f).role) (field_of s q 0) ≡ (opens s q f x || in_set)
   unfolding tests
   opens_is = refl
 
-  pub opens_none : eqb field.role child ≡ false → in_set ≡ (opens s q f x || in_set)
+  pub opens_none : is_child field.role ≡ false → in_set ≡ (opens s q f x || in_set)
   unfolding tests
   opens_none e =
       let d : Field = field_of s q 0 in
-      ap (λ t. tests t d) (sym e) ∙ ap (λ (z : Field). tests (eqb z.role child) d) is ∙ opens_is
+      ap (λ t. tests t d) (sym e) ∙ ap (λ (z : Field). tests (is_child z.role) d) is ∙ opens_is
 
   module _
       (declared : Field) (first : declared ≡ field_of s q 0)
-      (e : eqb field.role child ≡ true) where
+      (e : is_child field.role ≡ true) where
     opens_declared :
         ((is_new declared.role && eqb declared.value x) || in_set) ≡ (opens s q f x || in_set)
     unfolding tests
     opens_declared =
-        ap (λ t. tests t declared) (sym e) ∙ ap₂ (λ (z d : Field). tests (eqb z.role child) d) is first ∙ opens_is
+        ap (λ t. tests t declared) (sym e) ∙ ap₂ (λ (z d : Field). tests (is_child z.role) d) is first ∙ opens_is
 
     pub opens_no_name : is_new declared.role ≡ false → in_set ≡ (opens s q f x || in_set)
     opens_no_name n = ap (λ t. (t && eqb declared.value x) || in_set) (sym n) ∙ opens_declared

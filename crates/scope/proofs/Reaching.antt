@@ -17,8 +17,9 @@ use Rattle.prelude.proofs.Searches.{any_some, some_of_any}
 use Rattle.prelude.proofs.Courses.{earlier, not_earlier}
 use Rattle.layout.specs.Layout.{most_parts, name_count, expression_count, part_count}
 use Rattle.layout.specs.Entries.{name_of, is_session, node}
-use Rattle.fields.specs.Roles.{child, is_new}
+use Rattle.fields.specs.Roles.{is_child, is_new}
 use Rattle.fields.specs.Fields.{field_count, field_of}
+use Rattle.fields.proofs.RoleTests.{child_lem}
 use Rattle.entries.proofs.Holding.{holds_child_lem, right_field}
 use Rattle.entries.proofs.Naming.{Owned, owned, is_new_lem, named_new}
 use Rattle.uses.specs.Uses.{used}
@@ -131,24 +132,24 @@ module _ (s : List ℕ) (joined : Joined s) (x : ℕ) (known : x < name_count s)
   declaration = owned s joined.sound x known own
 
   in_body_lem :
-      {f b : ℕ} (q : ℕ) → FieldUses s owner f b → eqb (field_of s owner f).role child ≡ true → lies_in s q b ≡ true →
+      {f b : ℕ} (q : ℕ) → FieldUses s owner f b → is_child (field_of s owner f).role ≡ true → lies_in s q b ≡ true →
       in_body s x q ≡ true
   unfolding in_body
   in_body_lem {f} q w e t =
       any_some _ field_count f w.inside
-      (and_intro (eqb (field_of s owner f).role child) _ e (subst (λ u. lies_in s q u ≡ true) (sym w.same) t))
+      (and_intro (is_child (field_of s owner f).role) _ e (subst (λ u. lies_in s q u ≡ true) (sym w.same) t))
 
   pub body_of :
       {M : Type 0} (q : ℕ) → in_body s x q ≡ true →
-      ((f b : ℕ) → FieldUses s owner f b → eqb (field_of s owner f).role child ≡ true → lies_in s q b ≡ true → M) → M
+      ((f b : ℕ) → FieldUses s owner f b → is_child (field_of s owner f).role ≡ true → lies_in s q b ≡ true → M) → M
   unfolding in_body
   body_of q e go =
       let r = some_of_any _ field_count e in
       let f : ℕ = r.0 in
-      let c : Bool = eqb (field_of s owner f).role child in
+      let c : Bool = is_child (field_of s owner f).role in
       let role = and_left c _ r.2 in
       let inside : owner < part_count s = omega (arith, declaration.inside) in
-      let held = eqb-true (field_of s owner f).role child role in
+      let held = child_lem (field_of s owner f).role role in
       let before : used s owner f < owner =
       subst (λ u. u < owner) (sym (used_of s owner f ∙ used_child (expression_count s) (field_of s owner f) held))
       (ltb-true _ _ (sym (holds_child_lem s owner (field_of s owner f) held) ∙ right_field s joined.sound owner f inside r.1)) in
@@ -165,7 +166,7 @@ module _ (s : List ℕ) (joined : Joined s) {p f q : ℕ} (w : FieldUses s p f q
   module _ (own : is_session s x ≡ false) where
     opened : opens s p f x ≡ true → in_body s x q ≡ true
     opened o =
-        let c : Bool = eqb (field_of s p f).role child in
+        let c : Bool = is_child (field_of s p f).role in
         let right = and_right c _ o in
         let n = and_left (is_new (field_of s p 0).role) _ right in
         let e : (field_of s p 0).value ≡ x = eqb-true _ _ (and_right (is_new (field_of s p 0).role) _ right) in
@@ -173,7 +174,7 @@ module _ (s : List ℕ) (joined : Joined s) {p f q : ℕ} (w : FieldUses s p f q
         subst (λ y. node s (name_of s y).owner ≡ p) e
         ((named_new s joined.sound p 0 w.known (omega arith) n).own n) in
         in_body_lem s joined x known own q (subst (λ k. FieldUses s k f q) (sym d) w)
-        (subst (λ k. eqb (field_of s k f).role child ≡ true) (sym d) (and_left c _ o))
+        (subst (λ k. is_child (field_of s k f).role ≡ true) (sym d) (and_left c _ o))
         (lies_self s q)
 
     down : in_body s x p ≡ true → in_body s x q ≡ true
@@ -192,7 +193,7 @@ module _ (s : List ℕ) (joined : Joined s) {p f q : ℕ} (w : FieldUses s p f q
               or_first (opens s p f x) _
               (subst (λ k. opens s k f x ≡ true) (sym only.0)
               (subst (λ g. opens s (node s (name_of s x).owner) g x ≡ true) (sym only.1)
-              (and_intro (eqb (field_of s (node s (name_of s x).owner) g).role child) _ c
+              (and_intro (is_child (field_of s (node s (name_of s x).owner) g).role) _ c
               (and_intro (is_new (field_of s (node s (name_of s x).owner) 0).role) _
               (is_new_lem s joined.sound x (declaration s joined x known own))
               (eq-eqb _ _ (declaration s joined x known own).itself)))))

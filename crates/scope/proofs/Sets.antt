@@ -1,18 +1,13 @@
--- A set of names as a number: the set with one name more.
+-- A set of names as a number, collected name by name.
 use mathlib.Core.Path.{◌≡◌, sym, ap, ◌∙◌}
-use mathlib.Core.Bool.{Bool, true, false, ◌&&◌, ◌||◌, or_comm}
-use Prim.Native.Nat.{ℕ, ◌+◌, ◌^◌, ◌≤◌}
+use mathlib.Core.Bool.{Bool, true, false, ◌&&◌, ◌||◌}
+use Prim.Native.Nat.{ℕ, ◌+◌, ◌≤◌}
 use native.Mathlib.Decide.{dec_lt, ℕ_discrete}
 use native.Mathlib.Omega.{arith}
 use lib.Dec.{eqb, ltb}
-use lib.Bits.{bit_or}
 use borrow.Author.Tests.{eq-eqb, ne_eqb, lt-ltb, le-ltb}
 use Rattle.prelude.specs.Sets.{has, IsSet}
-use Rattle.prelude.proofs.Sets.{has_zero, has_either, has_one}
-
--- the set with name x
-pub has_more : (set x y : ℕ) → has (bit_or set (2 ^ x)) y ≡ (eqb x y || has set y)
-has_more set x y = has_either set (2 ^ x) y ∙ ap (λ b. has set y || b) (has_one x y) ∙ or_comm (has set y) (eqb x y)
+use Rattle.prelude.proofs.Sets.{has_zero}
 
 -- a loop that collects the names of which f holds: none of them, with name x, without it, all
 abbrev pub up_to : ℕ → (ℕ → Bool) → ℕ → Bool

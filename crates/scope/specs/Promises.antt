@@ -4,7 +4,7 @@ use Rattle.std.specs.Prelude.{◌≡◌, Bool, ◌&&◌, List, ℕ, suc, ◌+◌
 use Rattle.prelude.specs.Sets.{IsSet}
 use Rattle.layout.specs.Layout.{most_parts, name_count, part_count}
 use Rattle.layout.specs.Entries.{is_session}
-use Rattle.fields.specs.Roles.{child, is_new}
+use Rattle.fields.specs.Roles.{is_child, is_new}
 use Rattle.fields.specs.Fields.{field_count, field_of}
 use Rattle.uses.specs.Uses.{used}
 use Rattle.scope.specs.Reach.{in_reach}
@@ -18,11 +18,19 @@ pub record FieldUses (s : List ℕ) (p f q : ℕ) : Type 0 where
 
 -- field f of part p uses the body of a declaration of x
 abbrev pub opens : List ℕ → ℕ → ℕ → ℕ → Bool
-opens s p f x = eqb (field_of s p f).role child && (is_new (field_of s p 0).role && eqb (field_of s p 0).value x)
+opens s p f x = is_child (field_of s p f).role && (is_new (field_of s p 0).role && eqb (field_of s p 0).value x)
 
--- a table that keeps the names in reach in part q as a set
+-- the set of the names in reach in part q
+abbrev pub IsReach : List ℕ → ℕ → ℕ → Type 0
+IsReach s q set = IsSet (name_count s) (λ x. in_reach s x q) set
+
+-- a table that keeps it
 abbrev pub KeepsReachAt : List ℕ → ℕ → List ℕ → Type 0
-KeepsReachAt s q sets = IsSet (name_count s) (λ x. in_reach s x q) (get_or sets q 0)
+KeepsReachAt s q sets = IsReach s q (get_or sets q 0)
+
+-- one that keeps them in every part
+abbrev pub KeepsReach : List ℕ → List ℕ → Type 0
+KeepsReach s sets = (q : ℕ) → q < part_count s → KeepsReachAt s q sets
 
 -- one that keeps them in the last part, and in the parts that the fields from field f of part p on use
 pub record KeepsReachFrom (s : List ℕ) (p f : ℕ) (sets : List ℕ) : Type 0 where

@@ -7,7 +7,7 @@ use Rattle.prelude.specs.Course.{entry}
 use Rattle.layout.specs.Layout.{part_count}
 use Rattle.layout.specs.Places.{at_first_part}
 use Rattle.layout.specs.Entries.{name_of, is_session, node}
-use Rattle.fields.specs.Roles.{child, is_use}
+use Rattle.fields.specs.Roles.{is_child, is_use}
 use Rattle.fields.specs.Fields.{field_count, field_of}
 use Rattle.uses.specs.Uses.{used}
 
@@ -19,7 +19,7 @@ lies_in s q = entry (λ p earlier. eqb q p || any (λ f. get_or earlier (used s 
 unfoldable pub in_body : List ℕ → ℕ → ℕ → Bool
 in_body s x q =
     let d : ℕ = node s (name_of s x).owner in
-    any (λ f. eqb (field_of s d f).role child && lies_in s q (used s d f)) field_count
+    any (λ f. is_child (field_of s d f).role && lies_in s q (used s d f)) field_count
 
 -- x may be used in part q
 abbrev pub in_reach : List ℕ → ℕ → ℕ → Bool

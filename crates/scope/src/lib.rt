@@ -1,144 +1,117 @@
 // Where owned names are used: refusal 10.
 #![tactic(auto)]
 
-ghost use Rattle.std.specs.Prelude.{◌≡◌, ◌||◌, eqb, ◌+◌, ◌<◌};
-ghost use Rattle.prelude.specs.Search.{first};
+ghost use Rattle.std.specs.Prelude.{◌≡◌, ◌||◌, ◌+◌, ◌<◌};
+ghost use Rattle.prelude.specs.Promises.{found, outcome};
 ghost use Rattle.prelude.specs.Sets.{has, IsSet};
-ghost use Rattle.layout.specs.Layout.{most_names};
-ghost use Rattle.layout.specs.Promises.{Laid};
+ghost use Rattle.layout.specs.Layout.{name_count, part_count};
 ghost use Rattle.layout.specs.Entries.{is_session};
 ghost use Rattle.fields.specs.Fields.{field_count};
-ghost use Rattle.entries.specs.Promises.{Sound};
 ghost use Rattle.scope.specs.Reach.{misses_name, is_out_of_reach, reach_refusal};
-ghost use Rattle.scope.specs.Promises.{opens, KeepsReachAt, KeepsReachFrom};
+ghost use Rattle.scope.specs.Promises.{opens, IsReach, KeepsReach, KeepsReachFrom};
 ghost use Rattle.scope.specs.Joined.{Joined};
 
-use fields::{field_at, roles};
+use fields::field_at;
+use fields::roles::Role;
 use layout::Script;
-use layout::parts::{Part, SESSION, name_at};
-use layout::places::at_part;
-use prelude::Refusal;
+use layout::file::File;
+use layout::parts::{Part, SESSION};
+use prelude::search::{any, first};
+use prelude::{Refusal, set};
 use uses::used_at;
 
-// Name x is in the set: bit x.
-fn has(set: u64, x: usize) -> bool
-    requires { x < most_names }
-    ensures { result ≡ has set x }
-{
-    (set >> x) % 2 == 1
-}
-
-// The set with name x.
-fn with_name(set: u64, x: usize) -> u64
-    requires { x < most_names }
-    ensures { IsSet most_names (λ y. eqb x y || has set y) result }
-{
-    set | (1 << x)
+// A file that refusals 4 to 9 leave.
+#[derive(Clone, Copy)]
+pub struct JoinedFile<'a> {
+    pub file: File<'a>,
+    ghost joined: { Joined file.bytes.now },
 }
 
 // The session names.
-fn session_names(s: &[u8], c: Script) -> u64
-    requires { Laid s.now c }
-    ensures { IsSet c.names (is_session s.now) result }
+fn session_names(file: &File<'_>) -> u64
+    ensures { IsSet (name_count file.now.bytes.now) (is_session file.now.bytes.now) result }
 {
-    let n = c.names;
-    let mut set: u64 = 0;
-    let mut x: usize = 0;
-    while x < n {
-        let name = name_at(s, x);
-        if name.owner == SESSION {
-            set = with_name(set, x);
+    let mut names: u64 = 0;
+    for x in 0..file.layout.names {
+        if file.name(x).owner == SESSION {
+            names = set::with(names, x);
         }
-        x += 1;
     }
-    set
+    names
 }
 
-// The names in reach in the part that field f of part q uses, where `set` is in reach in part q:
-// in the body of a declaration the declared name is, too.
-fn entered(s: &[u8], c: Script, q: usize, f: usize, set: u64) -> u64
-    requires { Laid s.now c × (Sound s.now × ((q < c.expressions + c.nodes) × (f < field_count))) }
-    ensures { IsSet c.names (λ x. opens s.now q f x || has set x) result }
+// The names in reach in the part that field f of part q uses, where those of `reach` are in reach in part q: in the
+// body of a declaration the declared name is, too.
+fn entered(joined: &JoinedFile<'_>, q: usize, f: usize, reach: u64) -> u64
+    requires { (q < joined.now.file.layout.expressions + joined.now.file.layout.nodes) × (f < field_count) }
+    ensures { IsSet (name_count joined.now.file.bytes.now) (λ x. opens joined.now.file.bytes.now q f x || has reach x) result }
 {
-    let field = field_at(s, c, q, f);
-    if field.role != roles::CHILD {
-        return set;
+    let field = field_at(&joined.file, q, f);
+    let declared = field_at(&joined.file, q, 0);
+    if field.role == Role::Child && declared.role.is_new() {
+        return set::with(reach, declared.value);
     }
-    let declared = field_at(s, c, q, 0);
-    if !roles::is_new(declared.role) {
-        return set;
-    }
-    with_name(set, declared.value)
+    reach
 }
 
 // Finds the names in reach in the parts that the fields of part q use, where those of the later parts are found.
-fn enter_fields(s: &[u8], c: Script, q: usize, sets: &mut [u64; Script::MAX_PARTS])
-    requires { Laid s.now c × (Joined s.now × ((q < c.expressions + c.nodes) × KeepsReachFrom s.now (q + 1) 0 sets.old)) }
-    ensures { KeepsReachFrom s.now q 0 sets.new }
+fn enter_fields(joined: &JoinedFile<'_>, q: usize, sets: &mut [u64; Script::MAX_PARTS])
+    requires { (q < joined.now.file.layout.expressions + joined.now.file.layout.nodes) × KeepsReachFrom joined.now.file.bytes.now (q + 1) 0 sets.old }
+    ensures { KeepsReachFrom joined.now.file.bytes.now q 0 sets.new }
 {
-    let mut f = Part::FIELDS;
-    while 0 < f {
-        f -= 1;
-        let part = used_at(s, c, q, f);
-        if part < Script::MAX_PARTS {
-            sets[part] = entered(s, c, q, f, sets[q]);
+    for f in (0..Part::FIELDS).rev() {
+        if let Some(part) = used_at(&joined.file, q, f) {
+            sets[part] = entered(joined, q, f, sets[q]);
         }
     }
+}
+
+// For each part the names in reach in it. A part is used by a later one, so this goes from the last part to the first.
+fn find_reach(joined: &JoinedFile<'_>) -> [u64; Script::MAX_PARTS]
+    ensures { KeepsReach joined.now.file.bytes.now result }
+{
+    let mut sets = [0u64; Script::MAX_PARTS];
+    let n = joined.file.parts();
+    sets[n - 1] = session_names(&joined.file);
+    for q in (0..n).rev() {
+        enter_fields(joined, q, &mut sets);
+    }
+    sets
 }
 
 // Field f of part q uses a name that is not in reach.
-fn misses_name(s: &[u8], c: Script, sets: &[u64; Script::MAX_PARTS], q: usize, f: usize) -> bool
-    requires { Laid s.now c × (Sound s.now × (KeepsReachAt s.now q sets.now × ((q < c.expressions + c.nodes) × (f < field_count)))) }
-    ensures { result ≡ misses_name s.now q f }
+fn misses_name(joined: &JoinedFile<'_>, reach: u64, q: usize, f: usize) -> bool
+    requires in_reach { IsReach joined.now.file.bytes.now q reach }
+    requires inside { (q < joined.now.file.layout.expressions + joined.now.file.layout.nodes) × (f < field_count) }
+    ensures { result ≡ misses_name joined.now.file.bytes.now q f }
 {
-    let field = field_at(s, c, q, f);
-    if !roles::is_use(field.role) {
-        return false;
-    }
-    !has(sets[q], field.value)
+    let field = field_at(&joined.file, q, f);
+    field.role.is_use() && !set::has(reach, field.value)
 }
 
-fn is_out_of_reach(s: &[u8], c: Script, sets: &[u64; Script::MAX_PARTS], q: usize) -> bool
-    requires { Laid s.now c × (Sound s.now × (KeepsReachAt s.now q sets.now × (q < c.expressions + c.nodes))) }
-    ensures { result ≡ is_out_of_reach s.now q }
+#[tactic(auto, unfolding(crate::specs::Reach::is_out_of_reach))]
+fn is_out_of_reach(joined: &JoinedFile<'_>, reach: u64, q: usize) -> bool
+    requires in_reach { IsReach joined.now.file.bytes.now q reach }
+    requires inside { q < joined.now.file.layout.expressions + joined.now.file.layout.nodes }
+    ensures { result ≡ is_out_of_reach joined.now.file.bytes.now q }
 {
-    let mut f: usize = 0;
-    while f < Part::FIELDS {
-        if misses_name(s, c, sets, q, f) {
-            return true;
-        }
-        f += 1;
-    }
-    false
+    any(Part::FIELDS, |f| misses_name(joined, reach, q, f))
 }
 
-// The smallest part that uses a name out of reach, or the number of parts. A part is used by a later one, so this goes
-// from the last part to the first, and finds for each part the names in reach.
-fn first_out_of_reach(s: &[u8], c: Script) -> usize
-    requires { Laid s.now c × Joined s.now }
-    ensures { result ≡ first (is_out_of_reach s.now) (c.expressions + c.nodes) }
+// The smallest part that uses a name out of reach.
+fn first_out_of_reach(joined: &JoinedFile<'_>, sets: &[u64; Script::MAX_PARTS]) -> Option<usize>
+    requires { KeepsReach joined.now.file.bytes.now sets.now }
+    ensures { result ≡ found (is_out_of_reach joined.now.file.bytes.now) (part_count joined.now.file.bytes.now) }
 {
-    let mut sets = [0u64; Script::MAX_PARTS];
-    let n = c.expressions + c.nodes;
-    sets[n - 1] = session_names(s, c);
-    let mut outside = n;
-    let mut q = n;
-    while 0 < q {
-        q -= 1;
-        enter_fields(s, c, q, &mut sets);
-        if is_out_of_reach(s, c, &sets, q) {
-            outside = q;
-        }
-    }
-    outside
+    first(joined.file.parts(), |q| is_out_of_reach(joined, sets[q], q))
 }
 
 // Row 10.
-pub fn refusal(s: &[u8], c: Script) -> Refusal
-    requires { Laid s.now c × Joined s.now }
-    ensures { result ≡ reach_refusal s.now }
+pub fn check(joined: &JoinedFile<'_>) -> Result<(), Refusal>
+    ensures { result ≡ outcome (reach_refusal joined.now.file.bytes.now) tt }
 {
-    let e = c.expressions;
-    let n = e + c.nodes;
-    at_part(10, e, n, first_out_of_reach(s, c))
+    match first_out_of_reach(joined, &find_reach(joined)) {
+        Some(q) => Err(joined.file.refused_at(10, q)),
+        None => Ok(()),
+    }
 }
