@@ -7,8 +7,8 @@ use lib.Dec.{leb, ltb}
 use borrow.Author.Tests.{lt-ltb, ltb-true, le-leb, leb-true}
 use Rattle.prelude.specs.Refusals.{refused_by, not_refused, passes, or_else}
 use Rattle.prelude.proofs.Bools.{and_intro, and_left, and_right}
-use Rattle.prelude.proofs.Refusing.{passes_test, past_test, passes_both, or_else_next}
-use Rattle.layout.specs.Layout.{tail_is_right, counts_are_right, layout_of}
+use Rattle.prelude.proofs.Refusing.{passes_test, passes_both, or_else_next}
+use Rattle.layout.specs.Layout.{tail_is_right, counts_are_right, layout_of, layout_refusal}
 use Rattle.layout.specs.Entries.{name_of}
 use Rattle.layout.proofs.Layouts.{few_bounds, laid}
 use Rattle.entries.specs.Faults.{fault_refusal}
@@ -24,9 +24,10 @@ module _ (s : List ℕ) (levels : ℕ) where
   pub checked : is_accepted s levels ≡ true → Checked s × Levelled s levels
   unfolding refusal entry_refusal
   checked h =
-      let t = passes_test (tail_is_right s) (refused_by 4 0) _ refl h in
+      let l = passes_both (layout_refusal s) (or_else (fault_refusal s levels) (or_else (use_refusal s) (reach_refusal s))) h in
+      let t = passes_test (tail_is_right s) (refused_by 4 0) _ refl l.0 in
       let c = passes_test (counts_are_right (layout_of s)) (refused_by 5 0) _ refl t.1 in
-      let f = passes_both (fault_refusal s levels) (or_else (use_refusal s) (reach_refusal s)) c.1 in
+      let f = passes_both (fault_refusal s levels) (or_else (use_refusal s) (reach_refusal s)) l.1 in
       let u = passes_both (use_refusal s) (reach_refusal s) f.1 in
       let right = faultless s levels f.0 in
       let some = (few_bounds (layout_of s) c.0).1.1.0 in (
@@ -56,8 +57,7 @@ module _ (s : List ℕ) (levels : ℕ) where
   unfolding refusal entry_refusal
   passes_all ok levelled =
       let some = (few_bounds (layout_of s) ok.laid.few).1.1.0 in
-      past_test (tail_is_right s) _ _ ok.tail
-      ∙ past_test (counts_are_right (layout_of s)) _ _ ok.laid.few
+      or_else_next (layout_refusal s) _ (rw (ok.tail, ok.laid.few))
       ∙ or_else_next (fault_refusal s levels) _ (ap passes (no_fault s levels (right_all ok levelled)))
       ∙ or_else_next (use_refusal s) _ (ap passes (none_loose s some ok.joined.once))
       ∙ none_outside s ok.reach

@@ -2,3 +2,4 @@
 pub mod Accepting
 pub mod Theorems
 pub mod Worked
+pub mod Rows

@@ -1,18 +1,20 @@
 -- What is proved about script files.
-use Rattle.std.specs.Prelude.{◌≡◌, true, List, ℕ}
+use Rattle.std.specs.Prelude.{◌≡◌, true, List, ℕ, Result, IfOk}
+use Rattle.prelude.specs.declared.Refusal.{Refusal}
+use Rattle.prelude.specs.Promises.{Answers}
 use Rattle.layout.specs.Promises.{Laid}
 use Rattle.script.specs.Checked.{Checked, Levelled}
-use Rattle.script.specs.declared.LoadedScript.{LoadedScript}
-use Rattle.script.specs.Refusals.{is_accepted}
-use Rattle.script.specs.Load.{loaded}
+use Rattle.script.specs.declared.CheckedFile.{CheckedFile}
+use Rattle.script.specs.Refusals.{refusal, is_accepted}
 
 -- A file is not refused exactly when it has everything that later layers ask of it.
 pub record AcceptedExactly : Type 0 where
   pub checked : (s : List ℕ) (levels : ℕ) → is_accepted s levels ≡ true → Checked s × Levelled s levels
   pub accepted : (s : List ℕ) (levels : ℕ) → Checked s → Levelled s levels → is_accepted s levels ≡ true
 
--- What a caller of `load` has: a file that is not refused is laid out as the answer says, and checked.
+-- What a caller of `load` has: a file that is not refused has the bytes that were read, and is laid out and checked.
 abbrev pub LoadedChecked : Type 0
 LoadedChecked =
-    (s : List ℕ) (levels : ℕ) (r : LoadedScript) → r ≡ loaded s levels → r.refusal.number ≡ 0 →
-    Laid s r.script × (Checked s × Levelled s levels)
+    (s : List ℕ) (levels : ℕ) (r : Result CheckedFile Refusal) →
+    Answers (refusal s levels) (λ f. f.file.bytes.now ≡ s) r →
+    IfOk r (λ f. Laid s f.file.layout × (Checked s × Levelled s levels))
