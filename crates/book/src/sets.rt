@@ -4,15 +4,8 @@ ghost use Rattle.prelude.specs.Search.{first};
 ghost use Rattle.prelude.specs.Sets.{has, IsSet, outside};
 ghost use Rattle.book.specs.LevelBook.{most_levels};
 
-// Level j is in the set.
-pub fn has(set: u16, j: usize) -> bool
-    requires { j < most_levels }
-    ensures { result ≡ has set j }
-{
-    (set >> j) % 2 == 1
-}
-
 // The set of level j alone.
+#[tactic(auto, using(prelude::proofs::Sets::has_one, crate::proofs::Shifts::shifted_one))]
 pub fn only(j: usize) -> u16
     requires { j < most_levels }
     ensures { IsSet most_levels (eqb j) result }
@@ -21,6 +14,7 @@ pub fn only(j: usize) -> u16
 }
 
 // The levels of two sets together.
+#[tactic(auto, using(prelude::proofs::Sets::has_either))]
 pub fn union(set: u16, other: u16) -> u16
     ensures { IsSet most_levels (λ j. has set j || has other j) result }
 {
@@ -28,6 +22,7 @@ pub fn union(set: u16, other: u16) -> u16
 }
 
 // The smallest level of the set, or the most levels of a book.
+#[tactic(auto, using(prelude::proofs::Sets::trailing_is))]
 pub fn lowest(set: u16) -> usize
     ensures { result ≡ first (has set) most_levels }
 {
@@ -47,7 +42,7 @@ pub fn any_beyond(set: u16, n: usize) -> bool
     requires { n ≤ most_levels }
     ensures { result ≡ ltb 0 (set / 2 ^ n) }
 {
-    0 < (set as u32) >> n
+    0 < u32::from(set) >> n
 }
 
 // Of the first n levels, one is in `set` and not in `other`.
@@ -56,7 +51,7 @@ pub fn any_outside(set: u16, other: u16, n: usize) -> bool
     ensures { result ≡ outside set other n }
 {
     let end: u32 = 1 << n;
-    let all = set as u32;
-    let both = all & (other as u32);
+    let all = u32::from(set);
+    let both = all & u32::from(other);
     both % end != all % end
 }

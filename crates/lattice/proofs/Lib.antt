@@ -1,6 +1,5 @@
 -- Laws that the proofs of several functions use, and the theorems of the crate.
 pub mod Passing
-pub mod Loads
 pub mod Tops
 pub mod Theorems
 pub mod Examples

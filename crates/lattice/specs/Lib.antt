@@ -1,4 +1,5 @@
 -- The lattice that a level book gives.
 pub mod Refusals
 pub mod Lattice
+pub mod Promises
 pub mod Examples

@@ -6,20 +6,25 @@ ghost use Rattle.std.specs.Prelude.{◌≡◌, ◌≤◌};
 ghost use Rattle.prelude.specs.Search.{all};
 ghost use Rattle.prelude.specs.Sets.{IsSet};
 ghost use Rattle.order.specs.Order.{top, bottom};
+ghost use Rattle.prelude.specs.Promises.{Answers};
 ghost use Rattle.book.specs.LevelBook.{most_levels, at_or_below};
+ghost use Rattle.lattice.specs.Promises.{IsChecked};
+ghost use Rattle.lattice.specs.Refusals.{refusal};
 
 use book::{Book, sets};
+use order::OrderedBook;
+use pairs::table::Tables;
+use prelude::{Refusal, search};
 
-// The levels that each of n levels is at or below.
-fn common(rows: &[u16; Book::MAX_LEVELS], n: usize) -> u16
-    requires { n ≤ most_levels }
-    ensures { IsSet most_levels (λ t. all (λ i. at_or_below rows.now i t) n) result }
+// The levels that every level is at or below.
+#[tactic(auto, using(prelude::proofs::Sets::has_both, prelude::proofs::Searches::all_more))]
+fn common(b: &Book) -> u16
+    requires { b.now.count ≤ most_levels }
+    ensures { IsSet most_levels (λ t. all (λ i. at_or_below b.now.rows i t) b.now.count) result }
 {
     let mut set = !0u16;
-    let mut i: usize = 0;
-    while i < n {
-        set &= rows[i];
-        i += 1;
+    for i in 0..b.count {
+        set &= b.rows[i];
     }
     set
 }
@@ -29,9 +34,7 @@ pub fn top_of(b: Book) -> usize
     requires { b.count ≤ most_levels }
     ensures { result ≡ top (at_or_below b.rows) b.count }
 {
-    let n = b.count;
-    let rows = b.rows;
-    prelude::lesser(sets::lowest(common(&rows, n)), n)
+    sets::lowest(common(&b)).min(b.count)
 }
 
 // The least level of all, that is at or below every level. (It need not be the first.)
@@ -39,14 +42,22 @@ pub fn bottom_of(b: Book) -> usize
     requires { b.count ≤ most_levels }
     ensures { result ≡ bottom (at_or_below b.rows) b.count }
 {
-    let n = b.count;
-    let rows = b.rows;
-    let mut t: usize = 0;
-    while t < n {
-        if !sets::any_outside(!0u16, rows[t], n) {
-            return t;
-        }
-        t += 1;
-    }
-    t
+    search::first(b.count, |t| !sets::any_outside(!0u16, b.rows[t], b.count)).unwrap_or(b.count)
+}
+
+// A book that refusals 1 to 3 let through, with both levels of every pair.
+#[derive(Clone, Copy)]
+pub struct CheckedBook {
+    pub book: Book,
+    pub tables: Tables,
+}
+
+// Refusals 1 to 3, of any bytes.
+#[tactic(auto, unfolding(crate::specs::Refusals::refusal))]
+pub fn load(s: &[u8]) -> Result<CheckedBook, Refusal>
+    ensures { Answers (refusal s.now) (IsChecked s.now) result }
+{
+    let book = order::load(s)?;
+    let tables = pairs::find_tables(&OrderedBook { book })?;
+    Ok(CheckedBook { book, tables })
 }

@@ -8,7 +8,7 @@ use Rattle.prelude.proofs.Sets.{set_is, set_lt}
 use Rattle.prelude.proofs.Tables.{table_at}
 use Rattle.book.specs.LevelBook.{most_levels, at_or_below}
 use Rattle.order.specs.Order.{Relation, converse, PartialOrder}
-use Rattle.order.specs.Rows.{InOrder, converse_rows}
+use Rattle.order.specs.Rows.{InOrder, lower_levels, converse_rows}
 
 pub dual : (R : Relation) (n : ℕ) → PartialOrder R n → PartialOrder (converse R) n
 dual R n o =
@@ -20,12 +20,12 @@ dual R n o =
 
 module _ (rs : List ℕ) (n : ℕ) where
   pub upside_down : (i j : ℕ) → i < most_levels → j < n → at_or_below (converse_rows rs n) i j ≡ converse (at_or_below rs) i j
-  unfolding converse_rows
+  unfolding converse_rows lower_levels
   upside_down i j a b =
       ap (λ set. has set j) (table_at _ most_levels i 0 a) ∙ set_is (λ k. at_or_below rs k i) n j b
 
   pub converse_in_order : InOrder rs n → InOrder (converse_rows rs n) n
-  unfolding converse_rows
+  unfolding converse_rows lower_levels
   converse_in_order w =
       let o : PartialOrder (converse (at_or_below rs)) n = dual _ _ w.order in
       let l = w.few in

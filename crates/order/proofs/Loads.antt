@@ -1,57 +1,52 @@
 -- What each way out of `load` has to show, and what a book that it does not refuse is.
-use mathlib.Core.Path.{◌≡◌, refl, sym, ap, ◌∙◌}
+use mathlib.Core.Path.{◌≡◌, refl, sym, ap, subst}
 use mathlib.Core.Bool.{Bool, true, false, cond, not, false≢true}
 use mathlib.Core.List.{List}
-use Prim.Native.Nat.{ℕ, ◌≤◌, ◌<◌}
+use Prim.Native.Nat.{ℕ, ◌≤◌}
 use native.Mathlib.Omega.{arith}
-use lib.Dec.{ltb, eqb}
-use borrow.Author.Tests.{ltb-false, lt-ltb, le-ltb, not-false}
+use lib.Dec.{ltb}
+use borrow.Author.Tests.{ltb-false, not-false}
+use Rattle.std.proofs.Common.{Some, None, Ok, Err}
 use Rattle.prelude.specs.Search.{first}
 use Rattle.prelude.specs.Refusals.{refused_by, not_refused, passes}
+use Rattle.prelude.specs.Promises.{found, outcome}
 use Rattle.prelude.proofs.Searches.{first_within, first_at_end}
-use Rattle.book.specs.declared.LoadedBook.{LoadedBook}
+use Rattle.prelude.proofs.Found.{given_found, given_nothing, found_nothing}
 use Rattle.book.specs.declared.Book.{Book}
-use Rattle.book.specs.LevelBook.{count, size_is_right, rows}
+use Rattle.book.specs.LevelBook.{most_levels, count, size_is_right, rows}
 use Rattle.order.specs.Rows.{InOrder}
 use Rattle.order.specs.Refusals.{is_faulty, first_faulty, refusal}
-use Rattle.book.specs.Load.{answer, no_book, book_of}
-use Rattle.order.specs.Load.{loaded}
-use Rattle.book.proofs.Sizes.{few}
+use Rattle.book.specs.Load.{book_of}
+use Rattle.book.proofs.Sizes.{few, read_some, read_none}
 use Rattle.order.proofs.Faultless.{in_order}
 
-module _ (s : List ℕ) (r : LoadedBook) where
-  -- a refusal by a number other than 0
-  refuses : (k p : ℕ) → eqb k 0 ≡ false → refusal s ≡ refused_by k p → r ≡ answer (refused_by k p) no_book → r ≡ loaded s
-  unfolding loaded
-  refuses k p h e q = q ∙ sym (rw (e, h))
+-- no book
+pub unread : (s : List ℕ) → cond (size_is_right s) (Some (book_of s)) None ≡ None → outcome (refusal s) (book_of s) ≡ Err (refused_by 1 0)
+unfolding refusal
+unread s e = rw (read_none s e)
 
-  pub size_way : size_is_right s ≡ false → r ≡ answer (refused_by 1 0) no_book → r ≡ loaded s
-  unfolding refusal
-  size_way h = refuses 1 0 refl (rw h)
+-- the book that was read
+module _ (s : List ℕ) {b : Book} (e : cond (size_is_right s) (Some (book_of s)) None ≡ Some b) where
+  pub few_levels : b.count ≤ most_levels
+  few_levels = let h = read_some s e in subst (λ (x : Book). x.count ≤ most_levels) h.1 (few s h.0)
 
-  -- the book that was read, and the smallest level at fault
-  module _
-      (size : size_is_right s ≡ true)
-      (b : Book)
-      (read : b ≡ book_of s)
-      (f : ℕ)
-      (faulty : f ≡ first_faulty b.rows b.count)
-    where
-      faulty_is : f ≡ first_faulty (rows s) (count s)
-      faulty_is = faulty ∙ ap (λ x. first_faulty x.rows x.count) read
+  pub faulty : {i : ℕ} → found (is_faulty b.rows b.count) b.count ≡ Some i → outcome (refusal s) (book_of s) ≡ Err (refused_by 2 i)
+  unfolding refusal first_faulty
+  faulty {i} q =
+      let h = read_some s e in
+      let at = subst (λ (x : Book). found (is_faulty x.rows x.count) x.count ≡ Some i) (sym h.1) q in
+      rw (h.0, given_found (is_faulty (rows s) (count s)) (count s) (refused_by 2) not_refused at) refl
 
-      pub order_way : f < b.count → r ≡ answer (refused_by 2 f) no_book → r ≡ loaded s
-      unfolding refusal
-      order_way l =
-          let below : first_faulty (rows s) (count s) < count s = omega (arith, faulty_is, ap (λ x. x.count) read) in
-          refuses 2 f refl (rw (size, lt-ltb _ _ below, faulty_is))
+  module _ (none : found (is_faulty b.rows b.count) b.count ≡ None) where
+    pub faultless : outcome (refusal s) (book_of s) ≡ Ok b
+    unfolding refusal first_faulty
+    faultless =
+        let h = read_some s e in
+        let at = subst (λ (x : Book). found (is_faulty x.rows x.count) x.count ≡ None) (sym h.1) none in
+        rw (h.0, given_nothing (is_faulty (rows s) (count s)) (count s) (refused_by 2) not_refused at) (ap Ok h.1)
 
-      pub no_way : b.count ≤ f → r ≡ answer not_refused b → r ≡ loaded s
-      unfolding refusal loaded
-      no_way l q =
-          let past : count s ≤ first_faulty (rows s) (count s) = omega (arith, faulty_is, ap (λ x. x.count) read) in
-          let e : refusal s ≡ not_refused = rw (size, le-ltb _ _ past) in
-          q ∙ ap (answer not_refused) read ∙ sym (rw e)
+    pub ordered : InOrder b.rows b.count
+    ordered = in_order b.rows b.count (found_nothing (is_faulty b.rows b.count) b.count none) few_levels
 
 -- the two tests of a refusal fail
 parts :

@@ -2,4 +2,3 @@
 pub mod Order
 pub mod Rows
 pub mod Refusals
-pub mod Load

@@ -4,37 +4,46 @@
 mod disorder; // disorder.rt: the faults of refusal 2
 pub mod converse; // converse.rt: the order upside down
 
-ghost use Rattle.std.specs.Prelude.{◌≡◌};
-ghost use Rattle.prelude.specs.Refusals.{not_refused};
-ghost use Rattle.book.specs.Load.{answer};
-ghost use Rattle.order.specs.Load.{loaded};
+ghost use Rattle.std.specs.Prelude.{◌≡◌, IfOk};
+ghost use Rattle.prelude.specs.Promises.{outcome};
+ghost use Rattle.book.specs.Load.{book_of};
+ghost use Rattle.order.specs.Refusals.{refusal};
+ghost use Rattle.order.specs.Rows.{InOrder, converse_of};
 
-use book::{Book, LoadedBook, read, refused_book};
+use book::{Book, read};
 use prelude::Refusal;
 
-fn accepted(b: Book) -> LoadedBook
-    ensures { result ≡ answer not_refused b }
-{
-    LoadedBook {
-        refusal: Refusal {
-            number: 0,
-            place: 0,
-        },
-        book: b,
+// A book in order.
+#[derive(Clone, Copy)]
+pub struct OrderedBook {
+    pub book: Book,
+    ghost in_order: { InOrder book.rows book.count },
+}
+
+impl OrderedBook {
+    // The order upside down.
+    pub fn converse(&self) -> OrderedBook
+        ensures { result.book ≡ converse_of self.now.book }
+    {
+        OrderedBook {
+            book: Book {
+                count: self.book.count,
+                rows: converse::converse_rows(&self.book),
+            },
+        }
     }
 }
 
 // Checks the size and the order of a level book of any bytes.
-pub fn load(s: &[u8]) -> LoadedBook
-    ensures { result ≡ loaded s.now }
+pub fn load(s: &[u8]) -> Result<Book, Refusal>
+    ensures checked { result ≡ outcome (refusal s.now) (book_of s.now) }
+    ensures in_order { IfOk result (λ b. InOrder b.rows b.count) }
 {
-    if !read::size_is_right(s) {
-        return refused_book(1, 0);
+    let Some(b) = read::read_book(s) else {
+        return Err(Refusal::at(1, 0));
+    };
+    match disorder::first_faulty(&b) {
+        Some(i) => Err(Refusal::at(2, i)),
+        None => Ok(b),
     }
-    let b = read::read_book(s);
-    let faulty = disorder::first_faulty(b);
-    if faulty < b.count {
-        return refused_book(2, faulty);
-    }
-    accepted(b)
 }

@@ -1,22 +1,17 @@
 -- The first m pairs, and the tables in which they have their levels.
-use mathlib.Core.Path.{◌≡◌, sym, ◌∙◌, subst}
-use mathlib.Core.Bool.{Bool, true, false, cond, ◌&&◌, ◌||◌, or-true}
+use mathlib.Core.Path.{◌≡◌, refl, sym, ◌∙◌}
+use mathlib.Core.Bool.{Bool, true, false, cond, ◌||◌, or-true, true≢false}
 use mathlib.Core.List.{List}
-use Prim.Native.Nat.{ℕ, ◌+◌, ◌≤◌, ◌<◌}
+use Prim.Native.Nat.{ℕ, ◌+◌, ◌<◌}
 use native.Mathlib.Decide.{ℕ_discrete}
 use native.Mathlib.Omega.{arith}
-use lib.Dec.{ltb}
-use borrow.Author.Tests.{lt-ltb, ltb-true}
+use lib.Dec.{eqb, ltb}
+use borrow.Author.Tests.{lt-ltb, ltb-true, eq-eqb, eqb-true}
 use Rattle.prelude.proofs.Bools.{fails, and_intro, and_left, and_right, same_truth}
-use Rattle.book.specs.LevelBook.{most_levels}
-use Rattle.pairs.specs.Table.{kept, Square, put, stored}
+use Rattle.pairs.specs.Table.{kept, is_pair, Stores}
+use Rattle.pairs.specs.Promises.{is_taken, entry}
 use Rattle.pairs.specs.Sweeping.{pair_number}
 use Rattle.pairs.proofs.Numbers.{one_number}
-use Rattle.pairs.proofs.Stores.{put_same, put_other, put_square}
-
--- i < j are one of the first m pairs of n levels
-abbrev pub is_taken : ℕ → ℕ → ℕ → ℕ → Bool
-is_taken n m i j = ltb i j && (ltb j n && ltb (pair_number n i j) m)
 
 module _ (n m a b : ℕ) (t : is_taken n m a b ≡ true) where
   pub taken_order : a < b
@@ -34,16 +29,8 @@ is_taken_lem n m a b h l k = and_intro _ _ (lt-ltb a b h) (and_intro _ _ (lt-ltb
 pub none_taken : (n a b : ℕ) → is_taken n 0 a b ≡ false
 none_taken n a b = fails _ (λ t. omega (arith, taken_number n 0 a b t))
 
--- of the first m pairs the level, at both entries; every other entry is as handed in
-abbrev pub entry : ℕ → ℕ → (ℕ → ℕ → ℕ) → List (List ℕ) → ℕ → ℕ → ℕ
-entry n m level handed a b = cond (is_taken n m a b || is_taken n m b a) (level a b) (kept handed a b)
-
-pub record Filled (n m : ℕ) (level : ℕ → ℕ → ℕ) (handed t : List (List ℕ)) : Type 0 where
-  pub square : Square most_levels t
-  pub entries : (a b : ℕ) → kept t a b ≡ entry n m level handed a b
-
-pub filled_none : (n : ℕ) (level : ℕ → ℕ → ℕ) (t : List (List ℕ)) → Square most_levels t → Filled n 0 level t t
-filled_none n level t w = record { square = w; entries = λ a b. sym (rw (none_taken n a b, none_taken n b a)) }
+pub filled_none : (n : ℕ) (level : ℕ → ℕ → ℕ) (t : List (List ℕ)) (a b : ℕ) → kept t a b ≡ entry n 0 level t a b
+filled_none n level t a b = sym (rw (none_taken n a b, none_taken n b a))
 
 -- pair number m
 module _ (n m i j : ℕ) (h : i < j) (l : j < n) (e : m ≡ pair_number n i j) where
@@ -66,61 +53,31 @@ module _ (n m i j : ℕ) (h : i < j) (l : j < n) (e : m ≡ pair_number n i j) w
       ])
       (λ t. is_taken_lem n (m + 1) a b (taken_order n m a b t) (taken_within n m a b t) (omega (arith, taken_number n m a b t)))
 
-  module _ (few : n ≤ most_levels) (level : ℕ → ℕ → ℕ) (both : level j i ≡ level i j) (handed t : List (List ℕ)) (w : Filled n m level handed t) where
-    hi : i < most_levels
-    hi = omega arith
+  -- the tables with the level of this pair stored
+  module _
+      (level : ℕ → ℕ → ℕ)
+      (both : level j i ≡ level i j)
+      (handed t t' : List (List ℕ))
+      (v : ℕ)
+      (found : v ≡ level i j)
+      (stores : Stores t i j v t')
+      (w : (a b : ℕ) → kept t a b ≡ entry n m level handed a b)
+    where
+      at_this : (a b : ℕ) → a ≡ i → b ≡ j → v ≡ entry n (m + 1) level handed a b
+      at_this a b p q = found ∙ sym (rw (p, q, this_taken))
 
-    hj : j < most_levels
-    hj = omega arith
+      at_back : (a b : ℕ) → a ≡ j → b ≡ i → v ≡ entry n (m + 1) level handed a b
+      at_back a b p q = found ∙ sym both ∙ sym (rw (p, q, this_taken, or-true (is_taken n (m + 1) j i)))
 
-    module _ (v : ℕ) (found : v ≡ level i j) where
-      once_square : Square most_levels (put t i j v)
-      once_square = put_square most_levels t w.square i j v hi hj
-
-      abbrev after : ℕ → ℕ → ℕ
-      after = entry n (m + 1) level handed
-
-      at_this : kept (stored t i j v) i j ≡ after i j
-      at_this =
-          put_other most_levels (put t i j v) once_square j i v hj hi i j (λ x y. omega arith)
-          ∙ put_same most_levels t w.square i j v hi hj
-          ∙ found
-          ∙ sym (rw this_taken)
-
-      at_back : kept (stored t i j v) j i ≡ after j i
-      at_back =
-          put_same most_levels (put t i j v) once_square j i v hj hi
-          ∙ found
-          ∙ sym both
-          ∙ sym (rw (this_taken, or-true (is_taken n (m + 1) j i)))
-
-      elsewhere : (a b : ℕ) → (a ≡ i → b ≡ j → ⊥) → (a ≡ j → b ≡ i → ⊥) → kept (stored t i j v) a b ≡ after a b
-      elsewhere a b x y =
-          put_other most_levels (put t i j v) once_square j i v hj hi a b y
-          ∙ put_other most_levels t w.square i j v hi hj a b x
-          ∙ w.entries a b
-          ∙ sym (rw (others_taken a b x, others_taken b a (λ p q. y q p)))
-
-      pub filled_next : Filled n (m + 1) level handed (stored t i j v)
-      filled_next =
-          record {
-            square = put_square most_levels (put t i j v) once_square j i v hj hi;
-            entries =
-                λ a b.
-                elim (ℕ_discrete i a) [
-                  | yes p ↦
-                      elim (ℕ_discrete j b) [
-                        | yes q ↦ subst (λ x. kept (stored t i j v) x b ≡ after x b) p (subst (λ x. kept (stored t i j v) i x ≡ after i x) q at_this)
-                        | no q ↦ elsewhere a b (λ x y. q (sym y)) (λ x y. omega arith)
-                      ]
-                  | no p ↦
-                      elim (ℕ_discrete j a) [
-                        | yes q ↦
-                            elim (ℕ_discrete i b) [
-                              | yes r ↦ subst (λ x. kept (stored t i j v) x b ≡ after x b) q (subst (λ x. kept (stored t i j v) j x ≡ after j x) r at_back)
-                              | no r ↦ elsewhere a b (λ x y. p (sym x)) (λ x y. r (sym y))
-                            ]
-                        | no q ↦ elsewhere a b (λ x y. p (sym x)) (λ x y. q (sym x))
-                      ]
-                ];
-          }
+      pub filled_next : (a b : ℕ) → kept t' a b ≡ entry n (m + 1) level handed a b
+      filled_next a b = stores a b ∙ go (is_pair i j a b) refl (is_pair j i a b) refl
+        where
+          go :
+              (p : Bool) → is_pair i j a b ≡ p → (q : Bool) → is_pair j i a b ≡ q →
+              cond (p || q) v (kept t a b) ≡ entry n (m + 1) level handed a b
+          go true e q f = at_this a b (eqb-true a i (and_left (eqb a i) _ e)) (eqb-true b j (and_right (eqb a i) _ e))
+          go false e true f = at_back a b (eqb-true a j (and_left (eqb a j) _ f)) (eqb-true b i (and_right (eqb a j) _ f))
+          go false e false f =
+              let x : a ≡ i → b ≡ j → ⊥ = λ p q. true≢false (sym (and_intro _ _ (eq-eqb a i p) (eq-eqb b j q)) ∙ e) in
+              let y : b ≡ i → a ≡ j → ⊥ = λ p q. true≢false (sym (and_intro _ _ (eq-eqb a j q) (eq-eqb b i p)) ∙ f) in
+              w a b ∙ sym (rw (others_taken a b x, others_taken b a y))

@@ -1,6 +1,5 @@
 -- Laws that the proofs of several functions use.
 pub mod Orders
-pub mod Stores
 pub mod Rows
 pub mod Lacks
 pub mod Numbers

@@ -1,10 +1,12 @@
 -- The numbers of the pairs: they count the pairs before, each pair has its own, and there are n(n - 1)/2 of them.
 use mathlib.Core.Path.{◌≡◌, sym, ap, ◌∙◌}
+use mathlib.Core.Logic.{◌⊎◌, inl, inr}
 use Prim.Native.Nat.{ℕ, zero, suc, ◌+◌, ◌*◌, ◌-◌, ◌≤◌, ◌<◌}
 use native.Mathlib.Nat.{mul-suc, suc-mul, zero-mul, le_refl, mul-le-mul}
 use native.Mathlib.Decide.{dec_lt}
 use native.Mathlib.Omega.{arith}
-use Rattle.prelude.specs.Search.{total}
+use Rattle.prelude.specs.Search.{total, lesser}
+use Rattle.prelude.proofs.Searches.{lesser_left, lesser_right}
 use Rattle.prelude.proofs.Totals.{total_none, total_more, total_longer}
 use Rattle.book.specs.LevelBook.{most_levels}
 use Rattle.pairs.specs.Sweeping.{level_pairs, pair_number}
@@ -47,6 +49,10 @@ module _ (n : ℕ) where
   unfolding pair_number
   next_row i = omega (arith, total_more (row n) i, ap (total (row n)) {x = suc i} {y = i + 1} (omega arith))
 
+  pub level_end : (i j : ℕ) → i < j → j < n → pair_number n i j ≤ pair_number n (i + 1) (i + 1 + 1)
+  unfolding pair_number
+  level_end i j h l = omega (arith, next_row i)
+
   pub last_row : pair_number n n (n + 1) ≡ level_pairs n
   unfolding pair_number
   last_row = omega (arith, all_pairs)
@@ -82,4 +88,31 @@ module _ (n : ℕ) where
                   let x : a ≡ i = omega arith in
                   (x, omega (arith, e, x, ap (total (row n)) x))
             ]
+      ]
+
+-- t is the lesser of k and the number p of pairs
+module _ (k p t : ℕ) (e : t ≡ lesser k p) where
+  pub before_both : (t ≤ k) × ((t ≤ p) × ((k ≤ t) ⊎ (p ≤ t)))
+  before_both =
+      elim (dec_lt p k) [
+        | yes l ↦ let same = e ∙ lesser_right k p (omega arith) in (omega arith, (omega arith, inr (omega arith)))
+        | no l ↦ let same = e ∙ lesser_left k p (omega arith) in (omega arith, (omega arith, inl (omega arith)))
+      ]
+
+  pub before_here : t < k → t ≡ p
+  before_here h =
+      elim (dec_lt p k) [
+        | yes l ↦ e ∙ lesser_right k p (omega arith)
+        | no l ↦ absurd (omega (arith, e ∙ lesser_left k p (omega arith)))
+      ]
+
+  pub before_next : t < k → t + 1 ≡ lesser k (p + 1)
+  before_next h = let same = before_here h in omega (arith, same, lesser_right k (p + 1) (omega (arith, same)))
+
+  -- where k of them are taken up, there are no fewer when there are more pairs
+  pub before_more : k ≤ t → (q : ℕ) → p ≤ q → t ≡ lesser k q
+  before_more h q l =
+      elim (dec_lt p k) [
+        | yes u ↦ absurd (omega (arith, e ∙ lesser_right k p (omega arith)))
+        | no u ↦ e ∙ lesser_left k p (omega arith) ∙ sym (lesser_left k q (omega arith))
       ]

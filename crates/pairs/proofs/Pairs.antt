@@ -2,42 +2,47 @@
 use mathlib.Core.Path.{◌≡◌, refl, sym, ap, ◌∙◌, subst}
 use mathlib.Core.Bool.{true, false, not, or-true}
 use mathlib.Core.List.{List}
+use Rattle.std.proofs.Common.{Option, Some, None, Ok, rules}
+use Rattle.std.specs.Prelude.{⊤}
 use Prim.Native.Nat.{ℕ, ◌+◌, ◌*◌, ◌≤◌, ◌<◌}
 use native.Mathlib.Decide.{dec_lt}
 use native.Mathlib.Omega.{arith}
 use borrow.Author.Tests.{lt-ltb, le-ltb, eq-eqb}
 use Rattle.prelude.proofs.Bools.{and_intro}
 use Rattle.prelude.proofs.Searches.{first_at_end, lesser_right}
+use Rattle.prelude.specs.Refusals.{passes}
+use Rattle.book.specs.declared.Book.{Book}
 use Rattle.order.specs.Order.{Relation, converse, least_upper, greatest_lower}
 use Rattle.order.specs.Rows.{InOrder}
 use Rattle.order.proofs.Duals.{dual}
 use Rattle.book.specs.LevelBook.{most_levels, at_or_below}
 use Rattle.pairs.specs.declared.Swept.{Swept}
+use Rattle.pairs.specs.declared.table.Tables.{Tables}
+use Rattle.pairs.specs.Promises.{lack_outcome, KeepsAll, pair_refusal}
 use Rattle.pairs.specs.Refusals.{first_lacking}
 use Rattle.pairs.specs.Table.{kept, Keeps, new_level}
 use Rattle.pairs.specs.Sweeping.{level_pairs, pair_number, lacks_one, refused_number, taken_up, place_within, is_found, kept_after, Sweeps}
 use Rattle.pairs.proofs.Orders.{least_above}
 use Rattle.pairs.proofs.Lacks.{within_places, refused_pair, lacks_at}
-use Rattle.pairs.proofs.Numbers.{number_within}
+use Rattle.pairs.proofs.Numbers.{number_within, pairs_fit}
 
--- What is found of all pairs: the place of refusal 3; where no pair lacks a level, both are kept for every pair.
-pub record Paired (R : Relation) (n : ℕ) (join meet : List (List ℕ)) (place : ℕ) : Type 0 where
-  pub first_place : place ≡ first_lacking R n
-  pub joins : place ≡ most_levels * most_levels → Keeps join n (least_upper R n)
-  pub meets : place ≡ most_levels * most_levels → Keeps meet n (greatest_lower R n)
+-- what is answered of a place
+pub lack_ok : (place : Option ℕ) {u : ⊤} → lack_outcome place ≡ Ok u → place ≡ None
+lack_ok (Some p) e = search rules
+lack_ok None e = refl
 
 module _ (R : Relation) (n k : ℕ) (few : n ≤ most_levels) (enough : level_pairs n ≤ k) where
-  -- the place is that of refusal 3
-  any_place : place_within R n k ≡ first_lacking R n
-  any_place =
+  -- where a pair lacks a level, the place is that of refusal 3
+  place_there : first_lacking R n < most_levels * most_levels → place_within R n k ≡ Some (first_lacking R n)
+  place_there l =
+      let q = refused_pair R n l in
+      rw (lt-ltb _ _ l, lt-ltb (refused_number R n) k (omega (arith, number_within n _ _ q.order q.within))) refl
+
+  pub none_lacks : place_within R n k ≡ None → first_lacking R n ≡ most_levels * most_levels
+  none_lacks e =
       elim (dec_lt (first_lacking R n) (most_levels * most_levels)) [
-        | yes l ↦
-            let q = refused_pair R n l in
-            rw (
-              lt-ltb _ _ l,
-              lt-ltb (refused_number R n) k (omega (arith, number_within n _ _ q.order q.within)),
-            )
-        | no l ↦ rw (le-ltb (first_lacking R n) (most_levels * most_levels) (omega arith)) (omega (arith, within_places R n))
+        | yes l ↦ let q = place_there l in search rules
+        | no l ↦ omega (arith, within_places R n)
       ]
 
   module _ (none : first_lacking R n ≡ most_levels * most_levels) where
@@ -73,22 +78,30 @@ module _ (R : Relation) (n k : ℕ) (few : n ≤ most_levels) (enough : level_pa
               ]
         ]
 
-module _ (rs : List ℕ) (n k : ℕ) (w : InOrder rs n) (enough : level_pairs n ≤ k) where
-  pub paired :
-      (join meet join' meet' : List (List ℕ)) (r : Swept) → Keeps join most_levels new_level → Keeps meet most_levels new_level →
-      Sweeps (at_or_below rs) n k join meet join' meet' r → Paired (at_or_below rs) n join' meet' r.place
-  paired join meet join' meet' r u v swept =
-      let R : Relation = at_or_below rs in
-      let place : r.place ≡ first_lacking R n = swept.place ∙ any_place R n k w.few enough in
+-- a sweep over all pairs, of new tables
+module _ (b : Book) (w : InOrder b.rows b.count) (t t' : Tables) (r : Swept) (swept : Sweeps (at_or_below b.rows) b.count (most_levels * most_levels) t t' r) where
+  abbrev R : Relation
+  R = at_or_below b.rows
+
+  abbrev n : ℕ
+  n = b.count
+
+  enough : level_pairs n ≤ most_levels * most_levels
+  enough = pairs_fit n w.few
+
+  pub keeps_all :
+      Keeps t.join most_levels new_level → Keeps t.meet most_levels new_level → {u : ⊤} → lack_outcome r.place ≡ Ok u →
+      (passes (pair_refusal b) ≡ true) × KeepsAll b t'
+  keeps_all u v e =
       let o = w.order in
-      record {
-        first_place = place;
-        joins =
-            λ e.
-            all_kept R n k w.few enough (sym place ∙ e) (least_upper R n)
-            (λ i h. least_above R n o i i h h (o.reflexive i h)) join join' u swept.joins;
-        meets =
-            λ e.
-            all_kept R n k w.few enough (sym place ∙ e) (greatest_lower R n)
-            (λ i h. least_above (converse R) n (dual R n o) i i h h (o.reflexive i h)) meet meet' v swept.meets;
-      }
+      let none = none_lacks R n _ w.few enough (sym swept.place ∙ lack_ok r.place e) in (
+        rw none refl,
+        record {
+          joins =
+              all_kept R n _ w.few enough none (least_upper R n) (λ i h. least_above R n o i i h h (o.reflexive i h)) t.join t'.join u
+              swept.joins;
+          meets =
+              all_kept R n _ w.few enough none (greatest_lower R n)
+              (λ i h. least_above (converse R) n (dual R n o) i i h h (o.reflexive i h)) t.meet t'.meet v swept.meets;
+        },
+      )

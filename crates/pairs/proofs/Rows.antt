@@ -4,17 +4,19 @@ use mathlib.Core.Bool.{true, false, ◌&&◌, true≢false}
 use mathlib.Core.List.{List}
 use Prim.Native.Nat.{ℕ, ◌≤◌, ◌<◌}
 use native.Mathlib.Nat.{lt_of_le_of_lt}
-use native.Mathlib.Omega.{arith}
 use lib.ListN.{get_or}
 use lib.Bits.{bit_and, and_le_l}
-use Rattle.prelude.specs.Search.{first, lesser}
+use Rattle.std.proofs.Common.{Some, None}
+use Rattle.prelude.specs.Search.{first}
 use Rattle.prelude.specs.Sets.{has}
 use Rattle.prelude.proofs.Bools.{fails, and_intro, and_left, and_right, same_truth}
-use Rattle.prelude.proofs.Searches.{NoneBelow, past, first_is, first_none, first_passed, lesser_left, lesser_right}
+use Rattle.prelude.proofs.Searches.{NoneBelow, past, first_passed}
+use Rattle.prelude.proofs.Found.{found_at, found_none}
 use Rattle.prelude.proofs.Sets.{has_both, same_set}
 use Rattle.order.specs.Order.{is_least_upper, least_upper}
 use Rattle.book.specs.LevelBook.{most_levels, at_or_below}
 use Rattle.order.specs.Rows.{InOrder}
+use Rattle.pairs.specs.Promises.{found_upper}
 use Rattle.pairs.proofs.Orders.{IsLeastUpper, test_sound, test_complete}
 
 module _ (rs : List ℕ) (n i j : ℕ) where
@@ -61,10 +63,10 @@ module _ (rs : List ℕ) (n i j : ℕ) where
 
   -- where a search that starts there has ended: at the least common upper level, or past all levels
   module _ (w : InOrder rs n) (hi : i < n) (hj : j < n) (k : ℕ) (none : NoneBelow (is_least_upper (at_or_below rs) n i j) k) where
-    pub found : k < n → get_or rs k 0 ≡ uppers → lesser k n ≡ least_upper (at_or_below rs) n i j
+    pub found_here : k < n → get_or rs k 0 ≡ uppers → found_upper (at_or_below rs) n i j ≡ Some k
     unfolding least_upper
-    found l e = lesser_left k n (omega arith) ∙ sym (first_is _ n k l (is_least w hi hj k l e) none)
+    found_here l e = found_at _ n k l (is_least w hi hj k l e) none
 
-    pub none_found : n ≤ k → lesser k n ≡ least_upper (at_or_below rs) n i j
+    pub found_nowhere : n ≤ k → found_upper (at_or_below rs) n i j ≡ None
     unfolding least_upper
-    none_found l = lesser_right k n l ∙ sym (first_none _ n (past l none))
+    found_nowhere l = found_none _ n (past l none)

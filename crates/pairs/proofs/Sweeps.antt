@@ -1,7 +1,8 @@
 -- The sweep over the pairs: what holds when the first m pairs are taken up, and what it comes to in the end.
 use mathlib.Core.Path.{◌≡◌, sym, ap, ◌∙◌, subst}
 use mathlib.Core.Bool.{true, false, not, ◌||◌, true≢false}
-use mathlib.Core.List.{List}
+use Rattle.std.proofs.Common.{Option, Some, None, MatchOption, rules}
+use Rattle.std.specs.Option.{is_some}
 use mathlib.Core.Logic.{◌⊎◌, ⊎_elim}
 use Prim.Native.Nat.{ℕ, ◌+◌, ◌*◌, ◌/◌, ◌%◌, ◌≤◌, ◌<◌}
 use native.Mathlib.Nat.{le_refl}
@@ -13,72 +14,66 @@ use Rattle.prelude.proofs.Bools.{fails, and_intro, and_left, and_right, same_tru
 use Rattle.prelude.proofs.Searches.{first_is, lesser_left, lesser_right}
 use Rattle.order.specs.Order.{Relation, converse, least_upper, greatest_lower}
 use Rattle.book.specs.LevelBook.{most_levels}
+use Rattle.pairs.specs.declared.Swept.{Swept}
+use Rattle.pairs.specs.declared.table.Tables.{Tables}
 use Rattle.pairs.specs.Refusals.{lacks_upper, first_lacking}
-use Rattle.pairs.specs.Table.{Square, stored}
+use Rattle.pairs.specs.Table.{Stores}
+use Rattle.pairs.specs.Promises.{BothLevels, is_taken, Upto, SweptLevel}
 use Rattle.pairs.specs.Sweeping.{level_pairs, pair_number, lacks_one, refused_number, is_refused, taken_up, place_within, is_found, Sweeps}
 use Rattle.pairs.proofs.Orders.{least_swap}
 use Rattle.pairs.proofs.Lacks.{quotient, remainder, Lacking, lacking_pair, refused_pair, lacks_at}
 use Rattle.pairs.proofs.Numbers.{earlier_row, earlier_here, number_within, one_number}
-use Rattle.pairs.proofs.Bounds.{Bounds}
-use Rattle.pairs.proofs.Fills.{is_taken, taken_order, taken_within, taken_number, is_taken_lem, none_taken, Filled, filled_none, filled_next}
+use Rattle.pairs.proofs.Fills.{taken_order, taken_within, taken_number, is_taken_lem, none_taken, filled_none, filled_next}
 
--- what holds when the first m pairs are taken up: none of them lacks a level, and both tables have theirs
-pub record Upto (R : Relation) (n m : ℕ) (join meet join' meet' : List (List ℕ)) : Type 0 where
-  pub complete : (a b : ℕ) → is_taken n m a b ≡ true → lacks_one R n a b ≡ false
-  pub joins : Filled n m (least_upper R n) join join'
-  pub meets : Filled n m (greatest_lower R n) meet meet'
-
-pub start : (R : Relation) (n : ℕ) (join meet : List (List ℕ)) → Square most_levels join → Square most_levels meet → Upto R n 0 join meet join meet
-start R n join meet u v =
+pub start : (R : Relation) (n : ℕ) (t : Tables) → Upto R n 0 t t
+start R n t =
     record {
-      complete = λ a b t. absurd (true≢false (sym t ∙ none_taken n a b));
-      joins = filled_none n _ join u;
-      meets = filled_none n _ meet v;
+      complete = λ a b taken. absurd (true≢false (sym taken ∙ none_taken n a b));
+      joins = filled_none n _ t.join;
+      meets = filled_none n _ t.meet;
     }
 
 module _ (R : Relation) (n : ℕ) (few : n ≤ most_levels) where
-  has_levels : (i j u l : ℕ) → Bounds R n i j u l → lacks_one R n i j ≡ false
+  has_levels : (i j u l : ℕ) → BothLevels R n i j u l → lacks_one R n i j ≡ false
   has_levels i j u l found =
       rw (
         ne_eqb (least_upper R n i j) n (λ e. omega (arith, found.upper, found.upper_within)),
         ne_eqb (greatest_lower R n i j) n (λ e. omega (arith, found.lower, found.lower_within)),
       )
 
-  module _ (m : ℕ) (join meet join' meet' : List (List ℕ)) (w : Upto R n m join meet join' meet') where
+  module _ (m : ℕ) (t t' : Tables) (w : Upto R n m t t') where
     -- one more pair, which has both levels
     pub next :
-        (i j u l : ℕ) → i < j → j < n → m ≡ pair_number n i j → Bounds R n i j u l →
-        (join'' meet'' : List (List ℕ)) → join'' ≡ stored join' i j u → meet'' ≡ stored meet' i j l → Upto R n (m + 1) join meet join'' meet''
-    next i j u l h k e found join'' meet'' ej em =
+        (i j u l : ℕ) → i < j → j < n → m ≡ pair_number n i j → BothLevels R n i j u l →
+        (t'' : Tables) → Stores t'.join i j u t''.join → Stores t'.meet i j l t''.meet → Upto R n (m + 1) t t''
+    next i j u l h k e found t'' sj sm =
         record {
           complete =
-              λ a b t.
+              λ a b q.
               elim (ℕ_discrete (pair_number n a b) m) [
                 | yes x ↦
-                    let p = one_number n a b i j (taken_order n (m + 1) a b t) (taken_within n (m + 1) a b t) h k (x ∙ e) in
+                    let p = one_number n a b i j (taken_order n (m + 1) a b q) (taken_within n (m + 1) a b q) h k (x ∙ e) in
                     rw (p.0, p.1) (has_levels i j u l found)
                 | no x ↦
                     w.complete a b
-                    (is_taken_lem n m a b (taken_order n (m + 1) a b t) (taken_within n (m + 1) a b t) (omega (arith, taken_number n (m + 1) a b t)))
+                    (is_taken_lem n m a b (taken_order n (m + 1) a b q) (taken_within n (m + 1) a b q) (omega (arith, taken_number n (m + 1) a b q)))
               ];
-          joins =
-              subst (Filled n (m + 1) (least_upper R n) join) (sym ej)
-              (filled_next n m i j h k e few (least_upper R n) (least_swap R n j i) join join' w.joins u found.upper);
+          joins = filled_next n m i j h k e (least_upper R n) (least_swap R n j i) t.join t'.join t''.join u found.upper sj w.joins;
           meets =
-              subst (Filled n (m + 1) (greatest_lower R n) meet) (sym em)
-              (filled_next n m i j h k e few (greatest_lower R n) (least_swap (converse R) n j i) meet meet' w.meets l found.lower);
+              filled_next n m i j h k e (greatest_lower R n) (least_swap (converse R) n j i) t.meet t'.meet t''.meet l found.lower sm
+              w.meets;
         }
 
     -- what the sweep leaves, of the number that it takes up: those of its pairs that have both levels are the first m
     left_by_lem :
-        (k taken place : ℕ) → taken ≡ taken_up R n k → place ≡ place_within R n k →
-        ((a b : ℕ) → is_found R n k a b ≡ is_taken n m a b) → Sweeps R n k join meet join' meet' (record { taken = taken; place = place })
-    left_by_lem k taken place et ep same =
+        (k : ℕ) (r : Swept) → r.taken ≡ taken_up R n k → r.place ≡ place_within R n k →
+        ((a b : ℕ) → is_found R n k a b ≡ is_taken n m a b) → Sweeps R n k t t' r
+    left_by_lem k r et ep same =
         record {
           taken = et;
           place = ep;
-          joins = λ a b. w.joins.entries a b ∙ sym (rw (same a b, same b a));
-          meets = λ a b. w.meets.entries a b ∙ sym (rw (same a b, same b a));
+          joins = λ a b. w.joins a b ∙ sym (rw (same a b, same b a));
+          meets = λ a b. w.meets a b ∙ sym (rw (same a b, same b a));
         }
 
     -- a pair that lacks a level is not among the first m
@@ -134,11 +129,11 @@ module _ (R : Relation) (n : ℕ) (few : n ≤ most_levels) where
             (λ x. lesser_right k (level_pairs n) (omega arith) ∙ omega arith)
             done)
 
-        no_refusal : place_within R n k ≡ most_levels * most_levels
+        no_refusal : place_within R n k ≡ None
         no_refusal = rw not_refused_lem
 
-        pub ends : (place : ℕ) → place ≡ most_levels * most_levels → Sweeps R n k join meet join' meet' (record { taken = m; place = place })
-        ends place e = left_by_lem k m place (sym all_or_k) (e ∙ sym no_refusal) (found_is k m all_or_k (le_refl m) (λ a b h l x y. x))
+        pub ends : (r : Swept) → r.taken ≡ m → r.place ≡ None → Sweeps R n k t t' r
+        ends r p e = left_by_lem k r (p ∙ sym all_or_k) (e ∙ sym no_refusal) (found_is k m all_or_k (le_refl m) (λ a b h l x y. x))
 
       -- the sweep has taken up one pair more, and this one lacks a level
       module _ (i j : ℕ) (h : i < j) (l : j < n) (e : m ≡ pair_number n i j) (more : m < k) (lacks : lacks_one R n i j ≡ true) where
@@ -171,14 +166,23 @@ module _ (R : Relation) (n : ℕ) (few : n ≤ most_levels) where
         one_more : taken_up R n k ≡ m + 1
         one_more = rw is_refused_lem (omega (arith, this_number))
 
-        refused : place_within R n k ≡ most_levels * i + j
-        refused = rw is_refused_lem this_place
+        refused : place_within R n k ≡ Some (most_levels * i + j)
+        refused = rw is_refused_lem (ap Some this_place)
 
-        pub stops : Sweeps R n k join meet join' meet' (record { taken = m + 1; place = most_levels * i + j })
+        pub stops : Sweeps R n k t t' (record { taken = m + 1; place = Some (most_levels * i + j) })
         stops =
-            left_by_lem k (m + 1) (most_levels * i + j) (sym one_more) (sym refused)
+            left_by_lem k (record { taken = m + 1; place = Some (most_levels * i + j) }) (sym one_more) (sym refused)
             (found_is k (m + 1) one_more (omega arith) (λ a b u v x y.
             elim (ℕ_discrete (pair_number n a b) m) [
-              | yes z ↦ let p = one_number n a b i j u v h l (z ∙ e) in absurd (true≢false (sym lacks ∙ rw (p.0, p.1) at y))
+              | yes z ↦ let o = one_number n a b i j u v h l (z ∙ e) in absurd (true≢false (sym lacks ∙ rw (o.0, o.1) at y))
               | no z ↦ omega arith
             ]))
+
+-- where the pairs of a level ended at one that lacks a level
+pub stopped :
+    {R : Relation} {n k : ℕ} (i : ℕ) {t t' : Tables} (r : Swept) → is_some r.place ≡ true → SweptLevel R n k i t t' r → Sweeps R n k t t' r
+stopped i r = go _ r.place
+  where
+    go : {A : Type 0} (B : Type 0) (place : Option ℕ) → is_some place ≡ true → MatchOption place B (λ _. A) → A
+    go B (Some p) e w = w
+    go B None e w = search rules

@@ -2,3 +2,4 @@
 pub mod Refusals
 pub mod Sweeping
 pub mod Table
+pub mod Promises

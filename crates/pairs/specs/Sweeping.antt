@@ -1,10 +1,11 @@
 -- 02 (d): "find the common upper and lower level of each pair in one sweep over the pairs i < j". What the sweep leaves, held to
 -- the first k pairs, for every k, every order of n levels and all tables handed in.
-use Rattle.std.specs.Prelude.{◌≡◌, Bool, cond, not, ◌&&◌, ◌||◌, List, ℕ, suc, ◌+◌, ◌*◌, ◌-◌, ◌/◌, ◌%◌, eqb, ltb}
+use Rattle.std.specs.Prelude.{◌≡◌, Bool, cond, not, ◌&&◌, ◌||◌, List, ℕ, suc, ◌+◌, ◌*◌, ◌-◌, ◌/◌, ◌%◌, eqb, ltb, Option, Some, None}
 use Rattle.prelude.specs.Search.{total, lesser}
 use Rattle.order.specs.Order.{Relation, least_upper, greatest_lower}
 use Rattle.book.specs.LevelBook.{most_levels}
 use Rattle.pairs.specs.declared.Swept.{Swept}
+use Rattle.pairs.specs.declared.table.Tables.{Tables}
 use Rattle.pairs.specs.Refusals.{first_lacking}
 use Rattle.pairs.specs.Table.{kept}
 
@@ -33,9 +34,9 @@ is_refused R n k = ltb (first_lacking R n) (most_levels * most_levels) && ltb (r
 abbrev pub taken_up : Relation → ℕ → ℕ → ℕ
 taken_up R n k = cond (is_refused R n k) (refused_number R n + 1) (lesser k (level_pairs n))
 
--- the place of refusal 3, or 256
-abbrev pub place_within : Relation → ℕ → ℕ → ℕ
-place_within R n k = cond (is_refused R n k) (first_lacking R n) (most_levels * most_levels)
+-- the place of refusal 3, if it is that of one of the first k
+abbrev pub place_within : Relation → ℕ → ℕ → Option ℕ
+place_within R n k = cond (is_refused R n k) (Some (first_lacking R n)) None
 
 -- "finds both levels of each it takes up that has them": i < j are such a pair
 abbrev pub is_found : Relation → ℕ → ℕ → ℕ → ℕ → Bool
@@ -47,8 +48,8 @@ abbrev pub kept_after : Relation → ℕ → ℕ → (ℕ → ℕ → ℕ) → L
 kept_after R n k level t i j = cond (is_found R n k i j || is_found R n k j i) (level i j) (kept t i j)
 
 -- The sweep, with the tables as handed in and as left: an equation for the number, the place and each entry.
-pub record Sweeps (R : Relation) (n k : ℕ) (join meet join' meet' : List (List ℕ)) (r : Swept) : Type 0 where
+pub record Sweeps (R : Relation) (n k : ℕ) (t t' : Tables) (r : Swept) : Type 0 where
   pub taken : r.taken ≡ taken_up R n k
   pub place : r.place ≡ place_within R n k
-  pub joins : (i j : ℕ) → kept join' i j ≡ kept_after R n k (least_upper R n) join i j
-  pub meets : (i j : ℕ) → kept meet' i j ≡ kept_after R n k (greatest_lower R n) meet i j
+  pub joins : (i j : ℕ) → kept t'.join i j ≡ kept_after R n k (least_upper R n) t.join i j
+  pub meets : (i j : ℕ) → kept t'.meet i j ≡ kept_after R n k (greatest_lower R n) t.meet i j

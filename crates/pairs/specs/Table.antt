@@ -1,5 +1,5 @@
 -- 01, 'Level book': "Both are found once and kept for every pair of levels."
-use Rattle.std.specs.Prelude.{◌≡◌, cond, List, [], ℕ, ◌<◌, eqb, get_or, set, length}
+use Rattle.std.specs.Prelude.{◌≡◌, Bool, cond, ◌&&◌, ◌||◌, List, [], ℕ, ◌<◌, eqb, get_or, set, length}
 
 -- what a table keeps for the pair of i and j
 abbrev pub kept : List (List ℕ) → ℕ → ℕ → ℕ
@@ -21,6 +21,14 @@ put t i j v = set t i (set (get_or t i []) j v)
 -- a level kept at both entries of a pair
 abbrev pub stored : List (List ℕ) → ℕ → ℕ → ℕ → List (List ℕ)
 stored t i j level = put (put t i j level) j i level
+
+-- the entry of a and b is that of i and j
+abbrev pub is_pair : ℕ → ℕ → ℕ → ℕ → Bool
+is_pair i j a b = eqb a i && eqb b j
+
+-- t' is the table t with a level kept at both entries of the pair of i and j
+abbrev pub Stores : List (List ℕ) → ℕ → ℕ → ℕ → List (List ℕ) → Type 0
+Stores t i j level t' = (a b : ℕ) → kept t' a b ≡ cond (is_pair i j a b || is_pair j i a b) level (kept t a b)
 
 -- a new table: each level for itself, and 0 for every pair of two
 abbrev pub new_level : ℕ → ℕ → ℕ

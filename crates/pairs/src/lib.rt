@@ -2,100 +2,86 @@
 #![tactic(auto)]
 
 pub mod table; // table.rt: a level for each pair of levels
+mod sides; // sides.rt: both levels of a pair
 
-ghost use Rattle.std.specs.Prelude.{◌≡◌, ◌<◌};
-ghost use Rattle.prelude.specs.Search.{lesser};
-ghost use Rattle.book.specs.LevelBook.{most_levels, at_or_below};
-ghost use Rattle.order.specs.Order.{least_upper};
-ghost use Rattle.order.specs.Rows.{InOrder};
-ghost use Rattle.pairs.specs.Table.{Square};
-ghost use Rattle.pairs.specs.Refusals.{lack_refusal};
+ghost use Rattle.std.specs.Prelude.{◌≡◌, ◌+◌, ◌<◌};
+ghost use Rattle.prelude.specs.Promises.{Answers};
+ghost use Rattle.order.specs.Rows.{order_of};
+ghost use Rattle.pairs.specs.Promises.{taken_before, lack_outcome, SweepsLevel, KeepsAll, pair_refusal};
 ghost use Rattle.pairs.specs.Sweeping.{Sweeps};
 
-use crate::table::PairTable;
-use book::{Book, sets};
-use order::converse;
+use crate::sides::Sides;
+use crate::table::Tables;
+use book::Book;
+use order::OrderedBook;
 use prelude::Refusal;
 
-// What a sweep gives: how many pairs it took up, and the place of the last of them if that lacks a level, else PLACES.
+// What a sweep gives: how many pairs it took up, and the place of the last of them if that lacks a level.
 #[derive(Clone, Copy)]
 pub struct Swept {
     pub taken: usize,
-    pub place: usize,
-}
-
-// The least common upper level of i and j; n or more if they have none. In an order it is the level whose row is what the
-// rows of the two share, and no level below the lowest of these can be it. In the order upside down it is the greatest common
-// lower level, so that one search serves both.
-fn least_upper(rows: &[u16; Book::MAX_LEVELS], n: usize, i: usize, j: usize) -> usize
-    requires { InOrder rows.now n × ((i < n) × (j < n)) }
-    ensures { lesser result n ≡ least_upper (at_or_below rows.now) n i j }
-{
-    let uppers = rows[i] & rows[j];
-    let mut k = sets::lowest(uppers);
-    while k < n {
-        if rows[k] == uppers {
-            break;
-        }
-        k += 1;
-    }
-    k
-}
-
-// Takes up the first `most` pairs i < j of a book in order, by i, then by j, up to the first that lacks its upper or its lower
-// level. Each of the others gets both, in `join` and in `meet`, at both of its entries; no other entry changes. Of two levels in
-// order the upper one is the join and the lower one the meet; only for two that stand side by side is there a search.
-pub fn sweep(b: Book, most: usize, join: &mut PairTable, meet: &mut PairTable) -> Swept
-    requires { InOrder b.rows b.count × (Square most_levels join.old × Square most_levels meet.old) }
-    ensures { Sweeps (at_or_below b.rows) b.count most join.old meet.old join.new meet.new result }
-{
-    let n = b.count;
-    let rows = b.rows;
-    let below = converse::converse_rows(&rows, n);
-    let mut taken: usize = 0;
-    let mut place = Book::PLACES;
-    let mut i: usize = 0;
-    'pairs: while i < n {
-        let mut j = i + 1;
-        'others: while j < n {
-            if most <= taken {
-                break 'pairs;
-            }
-            taken += 1;
-            let mut upper = j;
-            let mut lower = i;
-            if sets::has(rows[j], i) {
-                upper = i;
-                lower = j;
-            } else if !sets::has(rows[i], j) {
-                upper = least_upper(&rows, n, i, j);
-                lower = least_upper(&below, n, i, j);
-                if n <= upper || n <= lower {
-                    place = Book::MAX_LEVELS * i + j;
-                    break 'pairs;
-                }
-            }
-            table::store(join, i, j, upper);
-            table::store(meet, i, j, lower);
-            j += 1;
-        }
-        i += 1;
-    }
-    Swept { taken, place }
+    pub place: Option<u32>,
 }
 
 // Refusal 3, of the place of the first pair that lacks a level.
-pub fn lack_refusal(place: usize) -> Refusal
-    ensures { result ≡ lack_refusal place }
+pub fn lack_refusal(place: Option<u32>) -> Result<(), Refusal>
+    ensures { result ≡ lack_outcome place }
 {
-    if place < Book::PLACES {
-        return Refusal {
-            number: 3,
-            place: place as u32,
+    if let Some(place) = place {
+        return Err(Refusal { number: 3, place });
+    }
+    Ok(())
+}
+
+// Takes up the pairs of level i with the levels behind it, when `taken` of the first `most` pairs are taken up.
+fn sweep_level(both: &Sides, i: usize, most: usize, mut taken: usize, tables: &mut Tables) -> Swept
+    requires { (i < both.now.up.book.count) × (taken ≡ taken_before both.now.up.book.count most i (i + 1)) }
+    ensures { SweepsLevel both.now.up.book most i taken tables.old tables.new result }
+{
+    for j in i + 1..both.up.book.count {
+        if most <= taken {
+            break;
+        }
+        taken += 1;
+        let Some(bounds) = both.bounds(i, j) else {
+            let place = Book::MAX_LEVELS * i + j;
+            return Swept {
+                taken,
+                place: Some(place as u32),
+            };
         };
+        tables.join.store(i, j, bounds.upper);
+        tables.meet.store(i, j, bounds.lower);
     }
-    Refusal {
-        number: 0,
-        place: 0,
+    Swept { taken, place: None }
+}
+
+// Takes up the first `most` pairs i < j of a book in order, by i, then by j, up to the first that lacks its upper or its lower
+// level. Each of the others gets both at both of its entries; no other entry changes.
+pub fn sweep(levels: &OrderedBook, most: usize, tables: &mut Tables) -> Swept
+    ensures { Sweeps (order_of levels.now.book) levels.now.book.count most tables.old tables.new result }
+{
+    let both = Sides::of(*levels);
+    let mut swept = Swept {
+        taken: 0,
+        place: None,
+    };
+    for i in 0..levels.book.count {
+        swept = sweep_level(&both, i, most, swept.taken, tables);
+        if swept.place.is_some() {
+            break;
+        }
     }
+    swept
+}
+
+// Both levels of every pair of a book in order, or refusal 3.
+pub fn find_tables(levels: &OrderedBook) -> Result<Tables, Refusal>
+    ensures { Answers (pair_refusal levels.now.book) (KeepsAll levels.now.book) result }
+{
+    let mut tables = Tables::new();
+    // All pairs: there are no more of them than places.
+    let swept = sweep(levels, Book::PLACES, &mut tables);
+    lack_refusal(swept.place)?;
+    Ok(tables)
 }

@@ -5,7 +5,7 @@ use Prim.Native.Nat.{ℕ, ◌<◌}
 use lib.Dec.{ltb}
 use borrow.Author.Tests.{lt-ltb, le-ltb, ltb-true, ltb-false}
 use native.Mathlib.Omega.{arith}
-use Rattle.std.proofs.Common.{Option, Some, None, rules}
+use Rattle.std.proofs.Common.{Option, Some, None, unwrap_or, rules}
 use Rattle.prelude.proofs.Searches.{NoneBelow, first_is, first_none, first_within, first_at_end}
 use Rattle.prelude.specs.Search.{first}
 use Rattle.prelude.specs.Promises.{found}
@@ -30,6 +30,14 @@ module _ (f : ℕ → Bool) (n : ℕ) where
       go : (b : Bool) → ltb (first f n) n ≡ b → ◌≡◌ {A = Option ℕ} (cond b (Some (first f n)) None) None → NoneBelow f n
       go true h e = search rules
       go false h e = first_at_end f n (omega (arith, ltb-false (first f n) n h, first_within f n))
+
+  -- the number that was found, or n
+  pub found_or_end : unwrap_or (found f n) n ≡ first f n
+  found_or_end = go (ltb (first f n) n) refl
+    where
+      go : (b : Bool) → ltb (first f n) n ≡ b → unwrap_or (cond b (Some (first f n)) None) n ≡ first f n
+      go true h = refl
+      go false h = omega (arith, ltb-false (first f n) n h, first_within f n)
 
   module _ {X : Type 0} (given : ℕ → X) (rest : X) where
     -- what is given of the number that was found, or the rest where there is none

@@ -50,3 +50,7 @@ pub table_of {ℓ} : {A : Type ℓ} (d : A) (l : List A) (n : ℕ) → length l 
 table_of d l n e =
     ext_get_or d (table (λ i. get_or l i d) n) l (length_table (λ i. get_or l i d) n ∙ sym e)
     (λ i h. table_at (λ i. get_or l i d) n i d (omega (arith, h, length_table (λ i. get_or l i d) n)))
+
+-- a list of n elements, each the function's value, is the function's table
+pub is_table {ℓ} : {A : Type ℓ} (d : A) (l : List A) (f : ℕ → A) (n : ℕ) → length l ≡ n → ((i : ℕ) → i < n → get_or l i d ≡ f i) → l ≡ table f n
+is_table d l f n e same = sym (table_of d l n e) ∙ table_same (λ i. get_or l i d) f n same

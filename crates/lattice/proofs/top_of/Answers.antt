@@ -1,7 +1,8 @@
 -- `top_of`: the smallest of the levels that every level is at or below.
 use mathlib.Core.Path.{◌≡◌, sym, ap, ◌∙◌}
-use Prim.Native.Nat.{ℕ, ◌≤◌}
+use Prim.Native.Nat.{ℕ, ◌≤◌, min}
 use mathlib.Core.List.{List}
+use Rattle.std.proofs.Common.{rules}
 use Rattle.prelude.specs.Search.{first, all, lesser}
 use Rattle.prelude.specs.Sets.{has, IsSet}
 use Rattle.prelude.proofs.Searches.{first_same, first_sooner}
@@ -18,6 +19,7 @@ top_is rows n set few w =
 
 pub returns : goal.returns
 returns c =
-    c.lesser.ensures
-    ∙ ap (λ k. lesser k c.args.b.count) c.lowest.ensures
+    c.min.ensures
+    ∙ ap (λ k. min k c.args.b.count) c.lowest.ensures
+    ∙ search rules
     ∙ top_is c.args.b.rows c.args.b.count _ c.requires c.common.ensures

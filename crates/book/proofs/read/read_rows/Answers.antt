@@ -1,25 +1,10 @@
--- `read_rows`: the rows below i are those of the book.
-use borrow.Author.Rules.{rules}
-use mathlib.Core.Path.{refl}
-use lib.ListN.{length-set}
-use Rattle.prelude.proofs.Tables.{fill_none, fill_more, fill_all}
+-- `read_rows`: each row is that of the bytes.
+use Rattle.std.proofs.Common.{rules}
+use Rattle.prelude.proofs.Tables.{is_table}
+use Rattle.book.specs.LevelBook.{most_levels, row}
 use Rattle.book.proofs.read.read_rows.Goals as goal
-
-pub loop-i-init : goal.loop-i-init
-loop-i-init c = (search rules, (refl, fill_none _))
-
-pub loop-i-preserved : goal.loop-i-preserved
-loop-i-preserved c = (
-  search rules,
-  (
-    simp length-set (search rules),
-    fill_more _ _ _ _ (search rules) c.loop-i.invariant.1.1 c.row_at.ensures,
-  ),
-)
 
 pub returns : goal.returns
 returns c =
-    fill_all _ _ _ _ c.loop-i.invariant.1.0
-    c.loop-i.invariant.0
-    c.loop-i-test.false
-    c.loop-i.invariant.1.1
+    is_table 0 c.from_fn.result (row c.args.s.now) most_levels c.from_fn.ensures.items.long (λ i h.
+    let called = c.from_fn.ensures.items.at i 0 h in search rules)

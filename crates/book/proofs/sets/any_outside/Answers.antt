@@ -3,7 +3,7 @@ use mathlib.Core.Path.{◌≡◌, ◌∙◌}
 use Prim.Native.Nat.{ℕ, ◌*◌, ◌%◌, ◌^◌, ◌≤◌}
 use native.Mathlib.Nat.{one-mul, le_refl}
 use native.Mathlib.Omega.{arith}
-use lib.Pow.{pow_pos, shl_exact}
+use lib.Pow.{shl_exact}
 use Rattle.prelude.proofs.Sets.{some_outside}
 use Rattle.book.specs.LevelBook.{most_levels}
 use Rattle.book.proofs.sets.any_outside.Goals as goal
@@ -12,11 +12,6 @@ use Rattle.book.proofs.sets.any_outside.Goals as goal
 end_is : (n : ℕ) → n ≤ most_levels → 1 * 2 ^ n % 2 ^ 32 ≡ 2 ^ n
 end_is n h = shl_exact 1 n 32 (le_refl 2) (omega arith) ∙ one-mul _
 
-pub nonzero_rem-result : goal.nonzero_rem-result
-nonzero_rem-result c = rw (end_is c.args.n c.requires) (pow_pos c.args.n)
-
-pub nonzero_rem-result-2 : goal.nonzero_rem-result-2
-nonzero_rem-result-2 c = rw (end_is c.args.n c.requires) (pow_pos c.args.n)
-
 pub returns : goal.returns
-returns c = rw (end_is c.args.n c.requires) (some_outside c.args.set c.args.other c.args.n)
+returns c =
+    rw (end_is c.args.n c.requires, c.from-all.ensures, c.from.ensures) (some_outside c.args.set c.args.other c.args.n)
