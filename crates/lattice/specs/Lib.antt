@@ -1,5 +1,4 @@
 -- The lattice that a level book gives.
 pub mod Refusals
 pub mod Lattice
-pub mod Promises
 pub mod Examples

@@ -6,9 +6,11 @@ ghost use Rattle.std.specs.Prelude.{◌≡◌, ◌≤◌};
 ghost use Rattle.prelude.specs.Search.{all};
 ghost use Rattle.prelude.specs.Sets.{IsSet};
 ghost use Rattle.order.specs.Order.{top, bottom};
+ghost use Rattle.order.specs.Rows.{InOrder};
+ghost use Rattle.book.specs.Load.{book_of};
+ghost use Rattle.pairs.specs.Promises.{KeepsAll};
 ghost use Rattle.prelude.specs.Promises.{Answers};
 ghost use Rattle.book.specs.LevelBook.{most_levels, at_or_below};
-ghost use Rattle.lattice.specs.Promises.{IsChecked};
 ghost use Rattle.lattice.specs.Refusals.{refusal};
 
 use book::{Book, sets};
@@ -50,12 +52,14 @@ pub fn bottom_of(b: Book) -> usize
 pub struct CheckedBook {
     pub book: Book,
     pub tables: Tables,
+    ghost in_order: { InOrder book.rows book.count },
+    ghost keeps_all: { KeepsAll book tables },
 }
 
 // Refusals 1 to 3, of any bytes.
 #[tactic(auto, unfolding(crate::specs::Refusals::refusal))]
 pub fn load(s: &[u8]) -> Result<CheckedBook, Refusal>
-    ensures { Answers (refusal s.now) (IsChecked s.now) result }
+    ensures { Answers (refusal s.now) (λ c. c.book ≡ book_of s.now) result }
 {
     let book = order::load(s)?;
     let tables = pairs::find_tables(&OrderedBook { book })?;
