@@ -1,14 +1,14 @@
 -- How many nodes of a checked file's processes have a kind with a test: a node's own and those of its children. No process
 -- has more of them than there are up to its node's place, and the script has all of them, since each part is used once.
 use mathlib.Core.Path.{◌≡◌, refl, sym, ap, ap₂, ◌∙◌, subst}
-use mathlib.Core.Bool.{Bool, true, false, cond}
+use mathlib.Core.Bool.{Bool, true, false, cond, true≢false}
 use mathlib.Core.List.{List}
 use Prim.Native.Nat.{ℕ, zero, suc, ◌+◌, ◌-◌, ◌*◌, ◌≤◌, ◌<◌}
 use native.Mathlib.Nat.{zero-mul, one-mul, add-zero, le_trans, le_of_eq, mul-le-mul_right}
 use native.Mathlib.Decide.{dec_lt}
 use native.Mathlib.Omega.{arith}
 use lib.Dec.{eqb, ltb}
-use borrow.Author.Tests.{lt-ltb, le-ltb, ne_eqb, eqb-true, ltb-true, ltb-false}
+use borrow.Author.Tests.{lt-ltb, le-ltb, ne_eqb, ltb-true, ltb-false}
 use Rattle.prelude.specs.Search.{count, total}
 use Rattle.prelude.proofs.Bools.{and_left, by_cases}
 use Rattle.prelude.proofs.Totals.{total_none, total_more, total_nothing, total_same, total_below, total_both, total_longer, total_exchanged, total_by_value}
@@ -16,12 +16,14 @@ use Rattle.prelude.proofs.Counts.{count_none, count_more}
 use Rattle.layout.specs.Layout.{most_parts, layout_of, expression_count, node_count, part_count}
 use Rattle.layout.specs.Entries.{part_of, node, nodes_with}
 use Rattle.layout.proofs.Layouts.{few_bounds, few_parts}
-use Rattle.fields.specs.Roles.{node_rows, role_in, expression, child}
+use Rattle.fields.specs.declared.roles.Role.TheVariants.{Expression, Child}
+use Rattle.fields.specs.Roles.{node_rows, role_in, is_child}
+use Rattle.fields.proofs.RoleTests.{child_lem}
 use Rattle.fields.specs.Fields.{field_count, field_of, value_of}
 use Rattle.entries.specs.Faults.{field_is_right}
 use Rattle.entries.proofs.Holding.{holds_expression, holds_child_lem, right_field}
 use Rattle.uses.specs.Uses.{used_by, used, times_in, times_used}
-use Rattle.uses.proofs.Used.{used_of, used_child}
+use Rattle.uses.proofs.Used.{used_of, used_child, used_by_role}
 use Rattle.script.specs.Checked.{Checked}
 use Rattle.scope.proofs.Joining.{field_uses}
 use Rattle.language.specs.NodeCounts.{counted}
@@ -41,14 +43,14 @@ module _ (s : List ℕ) (ok : Checked s) (test : ℕ → Bool) where
   node_counted k = counted (process_of s k) test
 
   abbrev pub added_by : ℕ → ℕ → ℕ
-  added_by q f = cond (eqb (field_of s q f).role child) (node_counted (field_of s q f).value) 0
+  added_by q f = cond (is_child (field_of s q f).role) (node_counted (field_of s q f).value) 0
 
   module _ (k : ℕ) (h : k < node_count s) where
     abbrev row : ℕ → ℕ → ℕ
-    row n f = cond (eqb (role_in node_rows n f) child) (node_counted (value_of s (node s k) f)) 0
+    row n f = cond (is_child (role_in node_rows n f)) (node_counted (value_of s (node s k) f)) 0
 
     rows : (n : ℕ) → (part_of s (node s k)).kind ≡ n → (f : ℕ) → added_by (node s k) f ≡ row n f
-    rows n e f = ap (λ r. cond (eqb r child) (node_counted (value_of s (node s k) f)) 0) (role s ok k h n e f)
+    rows n e f = ap (λ r. cond (is_child r) (node_counted (value_of s (node s k) f)) 0) (role s ok k h n e f)
 
     by_row : (n : ℕ) → (part_of s (node s k)).kind ≡ n → 0 + row n 0 + row n 1 + row n 2 ≡ total (added_by (node s k)) field_count
     unfolding total
@@ -103,34 +105,31 @@ module _ (s : List ℕ) (ok : Checked s) (test : ℕ → Bool) where
     right : field_is_right s q (field_of s q f) ≡ true
     right = right_field s ok.joined.sound q f h l
 
-    pub child_below : (field_of s q f).role ≡ child → node s (field_of s q f).value < q
+    pub child_below : (field_of s q f).role ≡ Child → node s (field_of s q f).value < q
     child_below e = ltb-true _ _ (sym (holds_child_lem s q (field_of s q f) e) ∙ right)
 
     added_used : (n : ℕ) → q < n → n ≤ part_count s → added_by q f ≡ weight n (used s q f)
     added_used n a b =
         subst (λ u. added_by q f ≡ weight n u) (sym (used_of s q f))
-        (by_cases (λ v. v ≡ weight n (used_by E (field_of s q f))) (eqb (field_of s q f).role child)
+        (by_cases (λ v. v ≡ weight n (used_by E (field_of s q f))) (is_child (field_of s q f).role)
         (λ t.
-        let e = eqb-true (field_of s q f).role child t in
+        let e = child_lem (field_of s q f).role t in
         let v : ℕ = node s (field_of s q f).value in
         sym (counted_at (field_of s q f).value)
         ∙ sym (ap (λ b. cond b (part_counted v) 0) (lt-ltb v n (omega (arith, child_below e))))
         ∙ ap (weight n) (sym (used_child E (field_of s q f) e)))
-        (λ t. sym (by_cases (λ u. weight n u ≡ 0) (eqb (field_of s q f).role expression) (operand t) (none t))))
+        (λ t. sym (used_by_role (λ u. weight n u ≡ 0) E (field_of s q f) operand (λ e. absurd (no_child t e)) none)))
       where
-        none :
-            eqb (field_of s q f).role child ≡ false → eqb (field_of s q f).role expression ≡ false →
-            weight n (cond (eqb (field_of s q f).role child) (E + (field_of s q f).value) most_parts) ≡ 0
-        none t u =
-            rw t
-            (ap (λ b. cond b (part_counted most_parts) 0) (le-ltb most_parts n (omega (arith, b, few_parts ok.laid))))
+        none : weight n most_parts ≡ 0
+        none = ap (λ b. cond b (part_counted most_parts) 0) (le-ltb most_parts n (omega (arith, b, few_parts ok.laid)))
 
-        operand :
-            eqb (field_of s q f).role child ≡ false → eqb (field_of s q f).role expression ≡ true →
-            weight n (field_of s q f).value ≡ 0
-        operand t u =
+        no_child : is_child (field_of s q f).role ≡ false → (field_of s q f).role ≡ Child → ⊥
+        no_child t e = true≢false (ap is_child (sym e) ∙ t)
+
+        operand : (field_of s q f).role ≡ Expression → weight n (field_of s q f).value ≡ 0
+        operand u =
             let v : ℕ = (field_of s q f).value in
-            let g = sym (holds_expression s q (field_of s q f) (eqb-true _ _ u)) ∙ right in
+            let g = sym (holds_expression s q (field_of s q f) u) ∙ right in
             by_cases (λ m. m ≡ 0) (ltb v n) (λ _. expression_counted v (ltb-true v E (and_left (ltb v E) (ltb v q) g)))
             (λ _. refl)
 
@@ -144,8 +143,8 @@ module _ (s : List ℕ) (ok : Checked s) (test : ℕ → Bool) where
             (ap₂ (λ b n. cond b 0 (own (q - E)) + n) (lt-ltb q E l)
             (total_nothing (added_by q) field_count
             (λ f u.
-            by_cases (λ n. n ≡ 0) (eqb (field_of s q f).role child)
-            (λ t. absurd (omega (arith, child_below q f u h (eqb-true (field_of s q f).role child t)))) (λ _. refl))))
+            by_cases (λ n. n ≡ 0) (is_child (field_of s q f).role)
+            (λ t. absurd (omega (arith, child_below q f u h (child_lem (field_of s q f).role t)))) (λ _. refl))))
         | no l ↦
             let e : node s (q - E) ≡ q = omega arith in
             let t = le-ltb q E (omega arith) in

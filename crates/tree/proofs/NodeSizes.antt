@@ -1,43 +1,53 @@
--- The sizes of a checked file's processes: of every kind, each is one more than those of the node's children, none is
--- above the node's own place, and the script has all nodes.
-use mathlib.Core.Path.{◌≡◌, refl, sym, ap, ◌∙◌}
-use mathlib.Core.Bool.{Bool, true, false, cond}
-use mathlib.Core.List.{List}
-use Prim.Native.Nat.{ℕ, suc, ◌+◌, ◌≤◌, ◌<◌, suc-le-suc}
-use native.Mathlib.Nat.{le_trans, le_of_eq}
-use native.Mathlib.Decide.{ℕ_discrete}
+-- The sizes of a checked file's processes: each is one more than those of the node's children, none is above the node's
+-- own place, and the script has all nodes.
+use mathlib.Core.Path.{◌≡◌, refl, ap, ◌∙◌}
+use mathlib.Core.Bool.{Bool, true}
+use mathlib.Core.List.{List, [], ◌∷◌}
+use Prim.Native.Nat.{ℕ, suc, ◌+◌, ◌≤◌, ◌<◌}
+use native.Mathlib.Nat.{le_trans}
 use native.Mathlib.Omega.{arith}
-use lib.Dec.{eqb}
-use lib.ListN.{length, set}
-use lib.Seq.{get_or-set_same, get_or-set_other}
-use borrow.Author.Tests.{eqb-true}
-use Rattle.prelude.specs.Search.{total}
-use Rattle.prelude.proofs.Totals.{total_longer}
 use Rattle.prelude.proofs.Counts.{count_within, count_every}
+use Rattle.layout.specs.declared.parts.Part.{Part}
 use Rattle.layout.specs.Layout.{node_count}
-use Rattle.layout.specs.Entries.{node}
-use Rattle.fields.specs.declared.Field.{Field}
-use Rattle.fields.specs.Roles.{child}
-use Rattle.fields.specs.Fields.{field_count, field_of}
+use Rattle.layout.specs.Entries.{part_of, node}
+use Rattle.fields.specs.declared.children.Children as fields
+use Rattle.fields.specs.declared.children.Children.TheVariants.{None, One, Two}
+use Rattle.fields.specs.Children.{child_count, first_child, second_child, AreChildren}
 use Rattle.script.specs.Checked.{Checked}
-use Rattle.language.specs.NodeCounts.{size}
+use Rattle.language.specs.Syntax.{Proc, nil, assign, let_in, if_then_else, while, sequence, emit, local, watching, when, parallel}
+use Rattle.language.specs.KindGroups.{children_of}
+use Rattle.language.specs.NodeCounts.{size, counted}
 use Rattle.tree.specs.Tree.{process_of, tree}
-use Rattle.tree.specs.Promises.{child_size, KeepsSizes}
+use Rattle.tree.specs.Promises.{SizeFrom}
 use Rattle.tree.proofs.NodeCounts as counts
+use Rattle.tree.proofs.Shapes.{Children, none, one, two, children}
 
 -- every kind counts
 abbrev every : ℕ → Bool
 every kind = true
 
+-- the sizes of some processes together
+abbrev sizes_of : List (Proc ℕ) → ℕ
+sizes_of [] = 0
+sizes_of (p ∷ ps) = size p + sizes_of ps
+
+size_by_children : (p : Proc ℕ) → size p ≡ suc (sizes_of (children_of p))
+unfolding counted children_of
+size_by_children nil = refl
+size_by_children (assign x e) = refl
+size_by_children (let_in x δ e p) = omega arith
+size_by_children (if_then_else e p q) = omega arith
+size_by_children (while e p) = omega arith
+size_by_children (sequence p q) = omega arith
+size_by_children (emit a) = refl
+size_by_children (local a δ p) = omega arith
+size_by_children (watching a p) = omega arith
+size_by_children (when a p) = omega arith
+size_by_children (parallel p q) = omega arith
+
 module _ (s : List ℕ) (ok : Checked s) where
-  abbrev node_size : ℕ → ℕ
+  abbrev pub node_size : ℕ → ℕ
   node_size k = size (process_of s k)
-
-  abbrev pub added_by : ℕ → ℕ → ℕ
-  added_by q f = child_size s (field_of s q f)
-
-  pub size_of : (k : ℕ) → k < node_count s → node_size k ≡ suc (total (added_by (node s k)) field_count)
-  size_of k h = omega (arith, counts.counted_of s ok every k h)
 
   pub size_within : (k : ℕ) → k < node_count s → node_size k ≤ suc k
   size_within k h = le_trans (counts.counted_within s ok every k h) (count_within _ (suc k))
@@ -45,30 +55,39 @@ module _ (s : List ℕ) (ok : Checked s) where
   pub whole_size : size (tree s) ≡ node_count s
   whole_size = counts.whole_counted s ok every ∙ count_every _ (node_count s) (λ k. refl)
 
-  -- a child field of node k, as the code reads it
-  module _ (k f : ℕ) (h : k < node_count s) (l : f < field_count) (x : Field) (same : x ≡ field_of s (node s k) f) where
-    pub child_before : eqb x.role child ≡ true → x.value < k
-    child_before t =
-        let e : (field_of s (node s k) f).role ≡ child = sym (ap (λ y. y.role) same) ∙ eqb-true x.role child t in
-        omega (arith, ap (λ y. y.value) same, counts.child_below s ok every (node s k) f l (omega arith) e)
+  -- the size of node k, from those of its children, which come before it
+  module _ (k : ℕ) (h : k < node_count s) where
+    abbrev part : Part
+    part = part_of s (node s k)
 
-    pub no_child_size : eqb x.role child ≡ false → 0 ≡ added_by (node s k) f
-    no_child_size t = sym (ap (λ b. cond b (node_size x.value) 0) t) ∙ ap (child_size s) same
+    by_children : (ps : List (Proc ℕ)) → children_of (process_of s k) ≡ ps → node_size k ≡ suc (sizes_of ps)
+    by_children ps e = size_by_children (process_of s k) ∙ ap (λ ps. suc (sizes_of ps)) e
 
-    pub child_size_is : (n : ℕ) → eqb x.role child ≡ true → n ≡ node_size x.value → n ≡ added_by (node s k) f
-    child_size_is n t e =
-        e ∙ sym (ap (λ b. cond b (node_size x.value) 0) t) ∙ ap (child_size s) same
+    size_none : child_count part.kind ≡ 0 → SizeFrom s k None
+    size_none e = go (children s ok k h)
+      where
+        go : Children s k → SizeFrom s k None
+        go (none n q) = by_children [] q
+        go (one n q u) = absurd (omega arith)
+        go (two n q u v) = absurd (omega arith)
 
-  -- the total of a node's fields so far is within its size
-  pub total_within : (k f : ℕ) → k < node_count s → f ≤ field_count → suc (total (added_by (node s k)) f) ≤ node_size k
-  total_within k f h l =
-      le_trans (suc-le-suc (total_longer (added_by (node s k)) f field_count l)) (le_of_eq (sym (size_of k h)))
+    size_one : child_count part.kind ≡ 1 → SizeFrom s k (One (first_child part))
+    size_one e = go (children s ok k h)
+      where
+        go : Children s k → SizeFrom s k (One (first_child part))
+        go (none n q) = absurd (omega arith)
+        go (one n q u) = (omega (arith, u.before), omega (arith, by_children _ q))
+        go (two n q u v) = absurd (omega arith)
 
--- a loop that fills the table of sizes: one more
-pub keeps_more :
-    (s t : List ℕ) (k v : ℕ) → k < length t → v ≡ size (process_of s k) → KeepsSizes s k t → KeepsSizes s (k + 1) (set t k v)
-keeps_more s t k v h e keeps j l =
-    elim (ℕ_discrete j k) [
-      | yes same ↦ rw same (get_or-set_same t k v 0 h ∙ e)
-      | no other ↦ get_or-set_other t k j v 0 other ∙ keeps j (omega arith)
-    ]
+    size_two : child_count part.kind ≡ 2 → SizeFrom s k (Two (first_child part) (second_child part))
+    size_two e = go (children s ok k h)
+      where
+        go : Children s k → SizeFrom s k (Two (first_child part) (second_child part))
+        go (none n q) = absurd (omega arith)
+        go (one n q u) = absurd (omega arith)
+        go (two n q u v) = (omega (arith, u.before), (omega (arith, v.before), omega (arith, by_children _ q)))
+
+    pub size_from : (r : fields.Children) → AreChildren part r → SizeFrom s k r
+    size_from None a = size_none a
+    size_from (One i) a = rw a.1 (size_one a.0)
+    size_from (Two i j) a = rw (a.1.0, a.1.1) (size_two a.0)

@@ -15,8 +15,10 @@ use Rattle.prelude.proofs.Courses.{earlier}
 use Rattle.language.specs.Syntax.{Exp, Operator, add, subtract, multiply, divide, less, equal, constant, register, binary, negated, Proc, nil, assign, let_in, if_then_else, while, sequence, emit, local, watching, when, parallel}
 use Rattle.layout.specs.Layout.{name_count, expression_count, node_count, part_count}
 use Rattle.layout.specs.Entries.{name_of, part_of, node}
+use Rattle.fields.specs.declared.roles.Role.{Role}
+use Rattle.fields.specs.declared.roles.Role.TheVariants.{Register, Signal, NewRegister, NewSignal, Expression, Child}
 use Rattle.fields.specs.Roles as roles
-use Rattle.fields.specs.Roles.{expression_rows, node_rows, role_in, is_use, is_new}
+use Rattle.fields.specs.Roles.{expression_rows, node_rows, role_in, is_use, is_new, is_child}
 use Rattle.fields.specs.Fields.{field_count, field_of}
 use Rattle.entries.specs.Faults.{kind_for}
 use Rattle.entries.proofs.Holding.{holds_expression, holds_child_lem, right_field, right_kind}
@@ -137,7 +139,7 @@ module _ (s : List ℕ) where
 module _ (s : List ℕ) (ok : Checked s) where
   module _ (q : ℕ) (h : q < part_count s) (f : ℕ) (l : f < field_count) where
     uses_name :
-        (r : ℕ) → (field_of s q f).role ≡ r → is_use r ≡ true → UsesName s q (field_of s q f).value (kind_for r)
+        (r : Role) → (field_of s q f).role ≡ r → is_use r ≡ true → UsesName s q (field_of s q f).value (kind_for r)
     unfolding is_out_of_reach
     uses_name r e u =
         let uses : is_use (field_of s q f).role ≡ true = ap is_use e ∙ u in
@@ -152,18 +154,18 @@ module _ (s : List ℕ) (ok : Checked s) where
         }
 
     new_name :
-        (r : ℕ) → (field_of s q f).role ≡ r → is_new r ≡ true → NewName s q (field_of s q f).value (kind_for r)
+        (r : Role) → (field_of s q f).role ≡ r → is_new r ≡ true → NewName s q (field_of s q f).value (kind_for r)
     new_name r e u =
         let new : is_new (field_of s q f).role ≡ true = ap is_new e ∙ u in
         let n = named_new s ok.joined.sound q f h l new in
         record { known = n.known; kinded = n.kinded ∙ ap kind_for e; own = n.own new }
 
     -- the names that come into reach in what field f uses
-    abbrev brings : ℕ → ℕ → ℕ → Bool
-    brings r r₀ x = eqb r roles.child && (is_new r₀ && eqb (field_of s q 0).value x)
+    abbrev brings : Role → Role → ℕ → Bool
+    brings r r₀ x = is_child r && (is_new r₀ && eqb (field_of s q 0).value x)
 
     uses_part :
-        (p r r₀ : ℕ) → FieldUses s q f p → (field_of s q f).role ≡ r → (field_of s q 0).role ≡ r₀ → UsesPart s q p (brings r r₀)
+        (p : ℕ) (r r₀ : Role) → FieldUses s q f p → (field_of s q f).role ≡ r → (field_of s q 0).role ≡ r₀ → UsesPart s q p (brings r r₀)
     uses_part p r r₀ w e e₀ =
         record {
           before = w.before;
@@ -172,14 +174,14 @@ module _ (s : List ℕ) (ok : Checked s) where
               reach_used s ok.joined w x known ∙ ap₂ (λ r r₀. brings r r₀ x || in_reach s x q) e e₀;
         }
 
-    uses_expression : (field_of s q f).role ≡ roles.expression → UsesExpression s q (field_of s q f).value
+    uses_expression : (field_of s q f).role ≡ Expression → UsesExpression s q (field_of s q f).value
     uses_expression e =
         let v : ℕ = (field_of s q f).value in
         let t = sym (holds_expression s q (field_of s q f) e) ∙ right_field s ok.joined.sound q f h l in
         record {
           known = ltb-true _ _ (and_left (ltb v (expression_count s)) _ t);
           part =
-              uses_part v roles.expression _
+              uses_part v Expression _
               (record {
                 known = h;
                 inside = l;
@@ -194,7 +196,7 @@ module _ (s : List ℕ) (ok : Checked s) where
     q = node s k
 
     uses_node :
-        (f r₀ : ℕ) → f < field_count → (field_of s q f).role ≡ roles.child → (field_of s q 0).role ≡ r₀ →
+        (f : ℕ) (r₀ : Role) → f < field_count → (field_of s q f).role ≡ Child → (field_of s q 0).role ≡ r₀ →
         UsesNode s k f (field_of s q f).value (λ x. is_new r₀ && eqb (field_of s q 0).value x)
     uses_node f r₀ l e e₀ =
         let v : ℕ = (field_of s q f).value in
@@ -202,19 +204,19 @@ module _ (s : List ℕ) (ok : Checked s) where
         ltb-true _ _ (sym (holds_child_lem s q (field_of s q f) e) ∙ right_field s ok.joined.sound q f (omega arith) l) in
         let w : FieldUses s q f (node s v) =
         record { known = omega arith; inside = l; same = used_of s q f ∙ used_child _ (field_of s q f) e; before = t } in
-        record { before = omega arith; field = w; part = uses_part q (omega arith) f l (node s v) roles.child r₀ w e e₀ }
+        record { before = omega arith; field = w; part = uses_part q (omega arith) f l (node s v) Child r₀ w e e₀ }
 
     inside : q < part_count s
     inside = omega arith
 
-    a_register_lem : (field_of s q 0).role ≡ roles.register → UsesName s q (field_of s q 0).value 0
-    a_register_lem e = uses_name q inside 0 (omega arith) roles.register e refl
+    a_register_lem : (field_of s q 0).role ≡ Register → UsesName s q (field_of s q 0).value 0
+    a_register_lem e = uses_name q inside 0 (omega arith) Register e refl
 
-    a_signal : (field_of s q 0).role ≡ roles.signal → UsesName s q (field_of s q 0).value 1
-    a_signal e = uses_name q inside 0 (omega arith) roles.signal e refl
+    a_signal : (field_of s q 0).role ≡ Signal → UsesName s q (field_of s q 0).value 1
+    a_signal e = uses_name q inside 0 (omega arith) Signal e refl
 
     an_expression :
-        (f : ℕ) → f < field_count → (field_of s q f).role ≡ roles.expression → UsesExpression s q (field_of s q f).value
+        (f : ℕ) → f < field_count → (field_of s q f).role ≡ Expression → UsesExpression s q (field_of s q f).value
     an_expression f l = uses_expression q inside f l
 
     -- the roles of the fields of a node of kind n
@@ -236,16 +238,16 @@ module _ (s : List ℕ) (ok : Checked s) where
 
     let_view : (part_of s q).kind ≡ 2 → NodeView s k
     let_view e =
-        let body = uses_node 2 roles.new_register (omega arith) (role 2 e 2) (role 2 e 0) in
+        let body = uses_node 2 NewRegister (omega arith) (role 2 e 2) (role 2 e 0) in
         a_let e (process 2 e ∙ ap (let_in (a s k) (level s (a s k)) (expression_of s (b s k))) (part_of_lem body))
-        (new_name q inside 0 (omega arith) roles.new_register (role 2 e 0) refl)
+        (new_name q inside 0 (omega arith) NewRegister (role 2 e 0) refl)
         (an_expression 1 (omega arith) (role 2 e 1))
         body
 
     if_view : (part_of s q).kind ≡ 3 → NodeView s k
     if_view e =
-        let left = uses_node 1 roles.expression (omega arith) (role 3 e 1) (role 3 e 0) in
-        let right = uses_node 2 roles.expression (omega arith) (role 3 e 2) (role 3 e 0) in
+        let left = uses_node 1 Expression (omega arith) (role 3 e 1) (role 3 e 0) in
+        let right = uses_node 2 Expression (omega arith) (role 3 e 2) (role 3 e 0) in
         an_if e (process 3 e ∙ ap₂ (if_then_else (expression_of s (a s k))) (part_of_lem left) (part_of_lem right))
         (an_expression 0 (omega arith) (role 3 e 0))
         left
@@ -253,38 +255,38 @@ module _ (s : List ℕ) (ok : Checked s) where
 
     while_view : (part_of s q).kind ≡ 4 → NodeView s k
     while_view e =
-        let body = uses_node 1 roles.expression (omega arith) (role 4 e 1) (role 4 e 0) in
+        let body = uses_node 1 Expression (omega arith) (role 4 e 1) (role 4 e 0) in
         a_while e (process 4 e ∙ ap (while (expression_of s (a s k))) (part_of_lem body))
         (an_expression 0 (omega arith) (role 4 e 0))
         body
 
     sequence_view : (part_of s q).kind ≡ 5 → NodeView s k
     sequence_view e =
-        let left = uses_node 0 roles.child (omega arith) (role 5 e 0) (role 5 e 0) in
-        let right = uses_node 1 roles.child (omega arith) (role 5 e 1) (role 5 e 0) in
+        let left = uses_node 0 Child (omega arith) (role 5 e 0) (role 5 e 0) in
+        let right = uses_node 1 Child (omega arith) (role 5 e 1) (role 5 e 0) in
         a_sequence e (process 5 e ∙ ap₂ sequence (part_of_lem left) (part_of_lem right)) left right
 
     local_view : (part_of s q).kind ≡ 7 → NodeView s k
     local_view e =
-        let body = uses_node 1 roles.new_signal (omega arith) (role 7 e 1) (role 7 e 0) in
+        let body = uses_node 1 NewSignal (omega arith) (role 7 e 1) (role 7 e 0) in
         a_local e (process 7 e ∙ ap (local (a s k) (level s (a s k))) (part_of_lem body))
-        (new_name q inside 0 (omega arith) roles.new_signal (role 7 e 0) refl)
+        (new_name q inside 0 (omega arith) NewSignal (role 7 e 0) refl)
         body
 
     watching_view : (part_of s q).kind ≡ 8 → NodeView s k
     watching_view e =
-        let body = uses_node 1 roles.signal (omega arith) (role 8 e 1) (role 8 e 0) in
+        let body = uses_node 1 Signal (omega arith) (role 8 e 1) (role 8 e 0) in
         a_watching e (process 8 e ∙ ap (watching (a s k)) (part_of_lem body)) (a_signal (role 8 e 0)) body
 
     when_view : (part_of s q).kind ≡ 9 → NodeView s k
     when_view e =
-        let body = uses_node 1 roles.signal (omega arith) (role 9 e 1) (role 9 e 0) in
+        let body = uses_node 1 Signal (omega arith) (role 9 e 1) (role 9 e 0) in
         a_when e (process 9 e ∙ ap (when (a s k)) (part_of_lem body)) (a_signal (role 9 e 0)) body
 
     parallel_view : (part_of s q).kind ≡ 10 → NodeView s k
     parallel_view e =
-        let left = uses_node 0 roles.child (omega arith) (role 10 e 0) (role 10 e 0) in
-        let right = uses_node 1 roles.child (omega arith) (role 10 e 1) (role 10 e 0) in
+        let left = uses_node 0 Child (omega arith) (role 10 e 0) (role 10 e 0) in
+        let right = uses_node 1 Child (omega arith) (role 10 e 1) (role 10 e 0) in
         a_parallel e (process 10 e ∙ ap₂ parallel (part_of_lem left) (part_of_lem right)) left right
 
     pub kind_below : (part_of s q).kind < roles.node_kinds
@@ -336,7 +338,7 @@ module _ (s : List ℕ) (ok : Checked s) where
     -- a binary operator, by the roles of its row and its place in the list
     binary_view :
         (o : Operator) →
-        role_in expression_rows (code o) 0 ≡ roles.expression → role_in expression_rows (code o) 1 ≡ roles.expression →
+        role_in expression_rows (code o) 0 ≡ Expression → role_in expression_rows (code o) 1 ≡ Expression →
         ((operands : ℕ → Exp) →
         get_or (expressions_from (part_of s e) operands) (code o) no_expression
         ≡ binary o (operands (part_of s e).a) (operands (part_of s e).b)) →
@@ -354,7 +356,7 @@ module _ (s : List ℕ) (ok : Checked s) where
         row_of_lem {P = λ n. (part_of s e).kind ≡ n → ExpressionView s e}
         ((λ q. a_constant q (expression 0 q))
         then (λ q.
-        a_register q (expression 1 q) (uses_name e within_parts 0 (omega arith) roles.register (role_in_lem 1 q 0) refl))
+        a_register q (expression 1 q) (uses_name e within_parts 0 (omega arith) Register (role_in_lem 1 q 0) refl))
         then binary_view add refl refl (λ _. refl)
         then binary_view subtract refl refl (λ _. refl)
         then binary_view multiply refl refl (λ _. refl)

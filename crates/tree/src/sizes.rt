@@ -1,55 +1,42 @@
 // The sizes of a checked script's processes: how many nodes each has.
-ghost use Rattle.std.specs.Prelude.{◌≡◌, ◌+◌, ◌<◌};
-ghost use Rattle.layout.specs.Promises.{Laid};
-ghost use Rattle.layout.specs.Entries.{node};
-ghost use Rattle.fields.specs.Fields.{field_count, field_of};
-ghost use Rattle.script.specs.Checked.{Checked};
+ghost use Rattle.std.specs.Prelude.{◌≡◌, suc, ◌<◌, ◌≤◌};
 ghost use Rattle.language.specs.NodeCounts.{size};
 ghost use Rattle.tree.specs.Tree.{process_of};
-ghost use Rattle.tree.specs.Promises.{child_size, KeepsSizes};
+ghost use Rattle.tree.specs.Promises.{SizeFrom, KeepsSizes};
 
-use fields::{field_at, roles};
+use fields::children::{Children, children_of};
 use layout::Script;
-use layout::parts::Part;
+use script::CheckedFile;
 
-// The size of the child that field f of node k uses, or 0.
-fn child_size(s: &[u8], c: Script, sizes: &[u16; Script::MAX_NODES], k: usize, f: usize) -> u16
-    requires { Laid s.now c × (Checked s.now × (KeepsSizes s.now k sizes.now × ((k < c.nodes) × (f < field_count)))) }
-    ensures { result ≡ child_size s.now (field_of s.now (node s.now k) f) }
+// The children of node k, whose sizes and the node itself make the size of its process.
+fn children_at(checked: &CheckedFile<'_>, k: usize) -> Children
+    requires { k < checked.now.file.layout.nodes }
+    ensures sizes { SizeFrom checked.now.file.bytes.now k result }
+    ensures small { size (process_of checked.now.file.bytes.now k) ≤ suc k }
 {
-    let field = field_at(s, c, c.expressions + k, f);
-    if field.role != roles::CHILD {
-        return 0;
-    }
-    let child = field.value;
-    sizes[child]
+    let file = &checked.file;
+    children_of(file.part(file.layout.expressions + k))
 }
 
 // The size of the process of node k, from those of the nodes before.
-fn size_at(s: &[u8], c: Script, sizes: &[u16; Script::MAX_NODES], k: usize) -> u16
-    requires { Laid s.now c × (Checked s.now × (KeepsSizes s.now k sizes.now × (k < c.nodes))) }
-    ensures { result ≡ size (process_of s.now k) }
+fn size_at(checked: &CheckedFile<'_>, sizes: &[u16; Script::MAX_NODES], k: usize) -> u16
+    requires { KeepsSizes checked.now.file.bytes.now k sizes.now × (k < checked.now.file.layout.nodes) }
+    ensures { result ≡ size (process_of checked.now.file.bytes.now k) }
 {
-    let mut total: u16 = 1;
-    let mut f: usize = 0;
-    while f < Part::FIELDS {
-        total += child_size(s, c, sizes, k, f);
-        f += 1;
+    match children_at(checked, k) {
+        Children::None => 1,
+        Children::One(i) => 1 + sizes[i],
+        Children::Two(i, j) => 1 + sizes[i] + sizes[j],
     }
-    total
 }
 
 // The size of the process of each node. What stands past the nodes is left free.
-pub fn find_sizes(s: &[u8], c: Script) -> [u16; Script::MAX_NODES]
-    requires { Laid s.now c × Checked s.now }
-    ensures { KeepsSizes s.now c.nodes result }
+pub fn find_sizes(checked: &CheckedFile<'_>) -> [u16; Script::MAX_NODES]
+    ensures { KeepsSizes checked.now.file.bytes.now checked.now.file.layout.nodes result }
 {
-    let mut sizes = [0u16; Script::MAX_NODES];
-    let n = c.nodes;
-    let mut k: usize = 0;
-    while k < n {
-        sizes[k] = size_at(s, c, &sizes, k);
-        k += 1;
+    let mut sizes = [0; Script::MAX_NODES];
+    for k in 0..checked.file.layout.nodes {
+        sizes[k] = size_at(checked, &sizes, k);
     }
     sizes
 }
