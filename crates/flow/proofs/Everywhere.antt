@@ -25,7 +25,7 @@ use Rattle.language.specs.KindGroups.{children_of}
 use Rattle.flow.specs.Flow.{Smallest, FailsIn}
 use Rattle.flow.specs.Needs.{need_at, first_failing}
 use Rattle.flow.proofs.ByKind.{needs_of, needs_by_kind}
-use Rattle.flow.proofs.Shapes.{Children, none, one, two, children}
+use Rattle.tree.proofs.Shapes.{Children, none, one, two, children}
 use Rattle.flow.proofs.FailingNodes.{node_cases}
 
 module _ (𝓛 : Lattice ℕ) (s : List ℕ) (ok : Checked s) where

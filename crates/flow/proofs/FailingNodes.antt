@@ -14,7 +14,7 @@ use Rattle.layout.specs.Layout.{expression_count, node_count}
 use Rattle.layout.specs.Entries.{part_of, node}
 use Rattle.layout.proofs.Layouts.{few_parts}
 use Rattle.fields.specs.declared.Field.{Field}
-use Rattle.fields.specs.Roles.{child}
+use Rattle.fields.specs.declared.roles.Role.TheVariants.{Child}
 use Rattle.fields.specs.Fields.{field_of}
 use Rattle.fields.specs.Children.{first_child, second_child, child_count}
 use Rattle.entries.proofs.Holding.{holds_expression, right_field}
@@ -27,7 +27,7 @@ use Rattle.lattice.specs.Lattice.{Lattice}
 use Rattle.flow.specs.Flow.{Smallest, FailsIn}
 use Rattle.flow.specs.Needs.{need_at}
 use Rattle.flow.proofs.Least.{smallest_same, smallest_either}
-use Rattle.flow.proofs.Shapes.{Children, none, one, two, children, child_field}
+use Rattle.tree.proofs.Shapes.{Children, none, one, two, children, child_field}
 
 module _ (s : List ℕ) (k : ℕ) where
   abbrev part : Part
@@ -60,11 +60,11 @@ module _ (s : List ℕ) (ok : Checked s) (k : ℕ) (h : k < node_count s) where
   -- a field that uses a node holds a child
   is_child_lem :
       {f u : ℕ} → FieldUses s (node s k) f u → expression_count s ≤ u →
-      ((field_of s (node s k) f).role ≡ child) × (u ≡ node s (field_of s (node s k) f).value)
+      ((field_of s (node s k) f).role ≡ Child) × (u ≡ node s (field_of s (node s k) f).value)
   is_child_lem {f} {u} w l =
       let x : Field = field_of s (node s k) f in
       let right = right_field s ok.joined.sound (node s k) f w.known w.inside in
-      used_by_role (λ v. v ≡ u → (x.role ≡ child) × (u ≡ node s x.value)) (expression_count s) x
+      used_by_role (λ v. v ≡ u → (x.role ≡ Child) × (u ≡ node s x.value)) (expression_count s) x
       (λ e v.
       absurd
       (omega (

@@ -3,7 +3,6 @@ pub mod BookLevels
 pub mod ExpressionLevels
 pub mod OwnViews
 pub mod Least
-pub mod Shapes
 pub mod FailingNodes
 pub mod NodeFlows
 pub mod NodeReads

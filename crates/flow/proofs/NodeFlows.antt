@@ -25,7 +25,7 @@ use Rattle.lattice.specs.Lattice.{Lattice}
 use Rattle.flow.specs.Flow.{Smallest, FailsIn, lattice_by, FlowAt}
 use Rattle.flow.specs.Needs.{need_at}
 use Rattle.flow.proofs.ByKind.{together, pair_holds, write_by_kind, test_by_kind, need_by_kind}
-use Rattle.flow.proofs.Shapes.{Children, none, one, two, kind_is}
+use Rattle.tree.proofs.Shapes.{Children, none, one, two, kind_is}
 use Rattle.flow.proofs.FailingNodes.{FailsBelow, passes, fails}
 use Rattle.flow.proofs.Least.{smallest_none, smallest_same, smallest_either}
 

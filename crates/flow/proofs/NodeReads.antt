@@ -5,84 +5,92 @@ use mathlib.Core.List.{List}
 use Prim.Native.Nat.{ℕ, ◌<◌}
 use native.Mathlib.Omega.{arith}
 use Rattle.book.specs.declared.Book.{Book}
-use Rattle.layout.specs.declared.Script.{Script}
 use Rattle.layout.specs.declared.parts.Part.{Part}
 use Rattle.layout.specs.Entries.{part_of, node}
 use Rattle.layout.proofs.Layouts.{nodes_are}
-use Rattle.fields.specs.Children.{first_child, second_child, child_count}
+use Rattle.fields.specs.Children.{AreChildren, first_child, second_child, child_count}
+use Rattle.fields.specs.declared.children.Children.TheVariants.{None, One, Two}
 use Rattle.language.specs.declared.process_kinds.ProcessKind.{ProcessKind}
 use Rattle.language.specs.KindNumbers.{process_number}
+use Rattle.script.specs.declared.CheckedFile.{CheckedFile}
+use Rattle.tree.proofs.Shapes.{Children, children, first_below, second_below}
 use Rattle.flow.specs.declared.nodes.Flow.{Flow}
 use Rattle.flow.specs.declared.nodes.Own.{Own}
-use Rattle.flow.specs.Nodes.{pair_need, both_from, flow_from, FlowWithin}
-use Rattle.flow.specs.Flow.{lattice_by, Readable, IsNodeAt, OwnOf, FlowAt}
-use Rattle.flow.proofs.Shapes.{Children, children, first_below, second_below}
+use Rattle.flow.specs.Nodes.{pair_need, both_from, flow_from, pair_from, FlowWithin}
+use Rattle.flow.specs.Flow.{lattice_by, IsNodeAt, OwnOf, FlowAt}
 use Rattle.flow.proofs.NodeFlows.{PartsAt, parts_none, parts_one, parts_two, flow_at_lem}
 
 -- what is known where node k has been read: its part and its kind
-module _
-    {s : List ℕ} {c : Script} {b : Book} {k : ℕ} {kind : ProcessKind} {p : Part} (r : Readable s c b)
-    (at : IsNodeAt s kind p k) where
+module _ (f : CheckedFile) (b : Book) {k : ℕ} {kind : ProcessKind} {p : Part} (at : IsNodeAt f.file.bytes.now kind p k) where
+  abbrev s : List ℕ
+  s = f.file.bytes.now
+
   shape : Children s k
-  shape = children s r.checked k at.known
+  shape = children s f.checked k at.known
 
   count_is : child_count (part_of s (node s k)).kind ≡ child_count p.kind
   count_is = sym (ap (λ p. child_count p.kind) at.same)
 
-  -- the number of its kind
-  kind_is : process_number kind ≡ (part_of s (node s k)).kind
-  kind_is = at.kinded ∙ ap (λ p. p.kind) at.same
+  -- a node before k
+  abbrev Before : ℕ → Type 0
+  Before j = (j < k) × (j < f.file.layout.nodes)
 
-  -- what the walk asks of a node below k
-  abbrev Asks : ℕ → Type 0
-  Asks j = (j < k) × (Readable s c b × (j < c.nodes))
+  before : (j : ℕ) → j < k → Before j
+  before j h = (h, omega (arith, h, at.known, nodes_are f.file.laid))
 
-  asks : (j : ℕ) → j < k → Asks j
-  asks j h = (h, (r, omega (arith, h, at.known, nodes_are r.laid)))
+  first_same : {i : ℕ} → i ≡ first_child p → i ≡ first_child (part_of s (node s k))
+  first_same e = e ∙ ap first_child at.same
 
-  pub none_parts :
-      child_count p.kind ≡ 0 → {w t n : ℕ} → w ≡ (lattice_by b).top → t ≡ (lattice_by b).bottom → n ≡ c.nodes →
-      PartsAt b s k (record { write = w; test = t; failing = n }) true
-  none_parts z ew et en =
-      parts_none r.checked b k at.known shape (count_is ∙ z) ew et (en ∙ nodes_are r.laid)
+  second_same : {j : ℕ} → j ≡ second_child p → j ≡ second_child (part_of s (node s k))
+  second_same e = e ∙ ap second_child at.same
 
-  module _ {i : ℕ} (first-child : i ≡ first_child p) where
-    first_same : i ≡ first_child (part_of s (node s k))
-    first_same = first-child ∙ ap first_child at.same
+  pub one_before : {i : ℕ} → AreChildren p (One i) → Before i
+  one_before {i} a =
+      before i (omega (arith, first_same a.1, first_below s k shape (λ z. omega (arith, z, count_is, a.0))))
 
-    pub first_asks : (child_count p.kind ≡ 0 → ⊥) → Asks i
-    first_asks n = asks i (omega (arith, first_same, first_below s k shape (λ z. n (sym count_is ∙ z))))
+  pub first_before : {i j : ℕ} → AreChildren p (Two i j) → Before i
+  first_before {i} a =
+      before i (omega (arith, first_same a.1.0, first_below s k shape (λ z. omega (arith, z, count_is, a.0))))
 
-    pub one_parts : child_count p.kind ≡ 1 → {f : Flow} → FlowAt b s i f → PartsAt b s k f true
-    one_parts z {f} a =
-        parts_one r.checked b k at.known shape (count_is ∙ z) f (subst (λ j. FlowAt b s j f) first_same a)
+  pub second_before : {i j : ℕ} → AreChildren p (Two i j) → Before j
+  second_before {j = j} a =
+      before j
+      (omega (
+        arith,
+        second_same a.1.1,
+        second_below s k shape (λ z. omega (arith, z, count_is, a.0)) (λ z. omega (arith, z, count_is, a.0)),
+      ))
 
-    module _ {j : ℕ} (second-child : j ≡ second_child p) (z : child_count p.kind ≡ 2) where
-      second_same : j ≡ second_child (part_of s (node s k))
-      second_same = second-child ∙ ap second_child at.same
+  module _ {own : Own} (brings : OwnOf b s kind p own) where
+    found :
+        {parts : Flow} {pair : Bool} → PartsAt b s k parts pair → {r : Flow} →
+        r ≡ flow_from (lattice_by b) k (process_number kind) own parts pair → FlowWithin b.count r → FlowAt b s k r
+    found {parts} {pair} parts-at {r} e inside =
+        flow_at_lem f.checked b k at.known own parts pair (brings.same k at) parts-at r
+        (e ∙ ap (λ n. flow_from (lattice_by b) k n own parts pair) (at.kinded ∙ ap (λ p. p.kind) at.same))
+        inside
 
-      pub second_asks : Asks j
-      second_asks =
-          asks j
-          (omega (
-            arith,
-            second_same,
-            second_below s k shape (λ q. omega (arith, q, count_is, z)) (λ q. omega (arith, q, count_is, z)),
-          ))
+    pub found_none :
+        AreChildren p None → {w t : ℕ} → w ≡ (lattice_by b).top → t ≡ (lattice_by b).bottom → {r : Flow} →
+        r
+        ≡ flow_from (lattice_by b) k (process_number kind) own (record { write = w; test = t; failing = f.file.layout.nodes }) true →
+        FlowWithin b.count r → FlowAt b s k r
+    found_none z ew et = found (parts_none f.checked b k at.known shape (count_is ∙ z) ew et (nodes_are f.file.laid))
 
-      pub two_parts :
-          {f g : Flow} → FlowAt b s i f → FlowAt b s j g →
-          PartsAt b s k (both_from (lattice_by b) f g) (pair_need (lattice_by b) (part_of s (node s k)).kind f g)
-      two_parts {f} {g} a d =
-          parts_two r.checked b k at.known f g (subst (λ j. FlowAt b s j f) first_same a)
-          (subst (λ j. FlowAt b s j g) second_same d)
-          shape
-          (count_is ∙ z)
+    pub found_one :
+        {i : ℕ} → AreChildren p (One i) → {g : Flow} → FlowAt b s i g → {r : Flow} →
+        r ≡ flow_from (lattice_by b) k (process_number kind) own g true → FlowWithin b.count r → FlowAt b s k r
+    found_one a {g} d =
+        found
+        (parts_one f.checked b k at.known shape (count_is ∙ a.0) g (subst (λ j. FlowAt b s j g) (first_same a.1) d))
 
-  pub node_at_lem :
-      {own : Own} → OwnOf b s kind p own → {parts : Flow} {pair : Bool} → PartsAt b s k parts pair → {f : Flow} →
-      f ≡ flow_from (lattice_by b) k (process_number kind) own parts pair → FlowWithin b.count f → FlowAt b s k f
-  node_at_lem {own} brings {parts} {pair} parts-at {f} e inside =
-      flow_at_lem r.checked b k at.known own parts pair (brings.same k at) parts-at f
-      (e ∙ ap (λ n. flow_from (lattice_by b) k n own parts pair) kind_is)
-      inside
+    pub found_two :
+        {i j : ℕ} → AreChildren p (Two i j) → {g h : Flow} → FlowAt b s i g → FlowAt b s j h → {r : Flow} →
+        r ≡ pair_from (lattice_by b) k (process_number kind) own g h → FlowWithin b.count r → FlowAt b s k r
+    found_two a {g} {h} d e q =
+        found
+        (parts_two f.checked b k at.known g h (subst (λ j. FlowAt b s j g) (first_same a.1.0) d)
+        (subst (λ j. FlowAt b s j h) (second_same a.1.1) e)
+        shape
+        (count_is ∙ a.0))
+        (q ∙ ap (λ n. flow_from (lattice_by b) k (process_number kind) own (both_from (lattice_by b) g h) (pair_need (lattice_by b) n g h)) (at.kinded ∙ ap (λ p. p.kind) at.same))

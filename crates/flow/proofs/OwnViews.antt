@@ -19,7 +19,9 @@ use Rattle.language.specs.declared.process_kinds.ProcessKind.TheVariants.{Nil, A
 use Rattle.language.specs.KindNumbers.{process_number}
 use Rattle.language.proofs.KindNumbers.{process_kind_is}
 use Rattle.flow.specs.Nodes.{brings, own_of}
-use Rattle.flow.specs.Flow.{lattice_by, Readable, LevelAt, IsNodeAt, IsNode, OwnOf}
+use Rattle.script.specs.declared.CheckedFile.{CheckedFile}
+use Rattle.script.specs.Checked.{Levelled}
+use Rattle.flow.specs.Flow.{lattice_by, LevelAt, IsNodeAt, IsNode, OwnOf}
 use Rattle.flow.proofs.ExpressionLevels.{level_of}
 
 module _ (𝓛 : Lattice ℕ) (s : List ℕ) (k : ℕ) (p : Part) where
@@ -76,16 +78,22 @@ module _ (𝓛 : Lattice ℕ) (s : List ℕ) (k : ℕ) (kind : ProcessKind) (n :
 
 -- a node of this kind whose part is p
 module _
-    {s : List ℕ} {c : Script} {b : Book} {kind : ProcessKind} {p : Part} (r : Readable s c b)
-    (is_node : IsNode s kind p) where
+    (f : CheckedFile) (b : Book) {kind : ProcessKind} {p : Part} (levelled : Levelled f.file.bytes.now b.count)
+    (is_node : IsNode f.file.bytes.now kind p) where
+  abbrev s : List ℕ
+  s = f.file.bytes.now
+
+  abbrev c : Script
+  c = f.file.layout
+
   owned : (k : ℕ) → IsNodeAt s kind p k → Owned (lattice_by b) s k p kind
   owned k at =
       subst (λ p. Owned (lattice_by b) s k p kind) (sym at.same)
-      (own_view (lattice_by b) s k kind (at.kinded ∙ ap (λ p. p.kind) at.same) (node_view s r.checked k at.known))
+      (own_view (lattice_by b) s k kind (at.kinded ∙ ap (λ p. p.kind) at.same) (node_view s f.checked k at.known))
 
   -- the level of name a
   name_inside : (x : Name) → x ≡ name_of s p.a → p.a < name_count s → x.level < b.count
-  name_inside x e h = subst (λ x. x.level < b.count) (sym e) (r.levelled p.a h)
+  name_inside x e h = subst (λ x. x.level < b.count) (sym e) (levelled p.a h)
 
   module _ (v : (kind ≡ Assign) ⊎ (kind ≡ Let)) where
     value : (k : ℕ) → IsNodeAt s kind p k → Value (lattice_by b) s k p
@@ -96,7 +104,7 @@ module _
     pub value_known : (p.a < c.names) × (p.b < c.expressions)
     value_known =
         let o = value is_node.0 is_node.1 in
-        (omega (arith, o.0, names_are r.laid), omega (arith, o.1.0, expressions_are r.laid))
+        (omega (arith, o.0, names_are f.file.laid), omega (arith, o.1.0, expressions_are f.file.laid))
 
     pub value_brings : {d : ℕ} {x : Name} → LevelAt b s p.b d → x ≡ name_of s p.a → OwnOf b s kind p (brings d x.level)
     value_brings {d} {x} a e =
@@ -112,7 +120,7 @@ module _
         ⊎_elim (λ e. subst (Owned (lattice_by b) s k p) e o) (λ e. subst (Owned (lattice_by b) s k p) e o) v
 
     pub condition_known : p.a < c.expressions
-    condition_known = omega (arith, (condition is_node.0 is_node.1).0, expressions_are r.laid)
+    condition_known = omega (arith, (condition is_node.0 is_node.1).0, expressions_are f.file.laid)
 
     pub condition_brings :
         {d t : ℕ} → LevelAt b s p.a d → t ≡ (lattice_by b).bottom → t < b.count → OwnOf b s kind p (brings d t)
@@ -128,7 +136,7 @@ module _
         ⊎_elim (is Emit) (⊎_elim (is Local) (⊎_elim (is Watching) (is When))) v
 
     pub signal_known : p.a < c.names
-    signal_known = omega (arith, (signal is_node.0 is_node.1).0, names_are r.laid)
+    signal_known = omega (arith, (signal is_node.0 is_node.1).0, names_are f.file.laid)
 
     pub signal_brings : {x : Name} → x ≡ name_of s p.a → OwnOf b s kind p (brings x.level x.level)
     signal_brings {x} e =

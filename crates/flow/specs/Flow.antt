@@ -10,14 +10,11 @@ use Rattle.lattice.specs.Lattice.{Lattice, lattice_of}
 use Rattle.language.specs.Levels.{exp_level, write_level, test_level}
 use Rattle.language.specs.declared.process_kinds.ProcessKind.{ProcessKind}
 use Rattle.language.specs.KindNumbers.{process_number}
-use Rattle.layout.specs.declared.Script.{Script}
 use Rattle.layout.specs.declared.parts.Part.{Part}
 use Rattle.layout.specs.Layout.{node_count}
-use Rattle.layout.specs.Promises.{Laid}
 use Rattle.layout.specs.Entries.{part_of, node}
 use Rattle.scope.specs.Reach.{lies_in}
 use Rattle.tree.specs.Tree.{names_of, expression_of, process_of, tree}
-use Rattle.script.specs.Checked.{Checked, Levelled}
 use Rattle.flow.specs.declared.nodes.Flow.{Flow}
 use Rattle.flow.specs.declared.nodes.Own.{Own}
 use Rattle.flow.specs.Needs.{need_at, first_failing}
@@ -57,25 +54,12 @@ pub record Ordered (l : Levels) : Type 0 where
   pub few : l.book.count ≤ most_levels
   pub own : l ≡ levels_of l.book
 
--- What a walk asks: a checked script with its layout and a checked book, which has a level for each name.
-pub record Ready (s : List ℕ) (c : Script) (l : Levels) : Type 0 where
-  pub laid : Laid s c
-  pub checked : Checked s
-  pub levelled : Levelled s l.book.count
-  pub ordered : Ordered l
-
 -- the table of joins, and of meets, of a book
 abbrev pub Joins : Levels → List (List ℕ) → Type 0
 Joins l t = Keeps t l.book.count (least_upper (order_of l.book) l.book.count)
 
 abbrev pub Meets : Levels → List (List ℕ) → Type 0
 Meets l t = Keeps t l.book.count (greatest_lower (order_of l.book) l.book.count)
-
--- What the readers of a script ask: it is checked, with its layout, and each name has a level of the book.
-pub record Readable (s : List ℕ) (c : Script) (b : Book) : Type 0 where
-  pub laid : Laid s c
-  pub checked : Checked s
-  pub levelled : Levelled s b.count
 
 -- p has the bytes of node k, which is of this kind
 pub record IsNodeAt (s : List ℕ) (kind : ProcessKind) (p : Part) (k : ℕ) : Type 0 where

@@ -1,25 +1,25 @@
 // The level of an expression.
 ghost use Rattle.std.specs.Prelude.{◌<◌};
-ghost use Rattle.flow.specs.Flow.{Readable, LevelAt};
+ghost use Rattle.script.specs.Checked.{Levelled};
+ghost use Rattle.flow.specs.Flow.{LevelAt};
 
 use crate::levels::LevelTables;
 use language::expression_kinds::ExpressionKind;
-use layout::Script;
-use layout::parts::{name_at, part_at};
+use script::CheckedFile;
 
 // The join of the levels of the registers of expression e, bottom if it has none.
-pub fn level_of(s: &[u8], c: &Script, levels: &LevelTables<'_>, e: usize) -> usize
-    requires { Readable s.now c.now levels.now.book × (e < c.now.expressions) }
-    ensures { LevelAt levels.now.book s.now e result }
+pub fn level_of(checked: &CheckedFile<'_>, levels: &LevelTables<'_>, e: usize) -> usize
+    requires { Levelled checked.now.file.bytes.now levels.now.book.count × (e < checked.now.file.layout.expressions) }
+    ensures { LevelAt levels.now.book checked.now.file.bytes.now e result }
 {
-    let part = part_at(s, c.offset, e);
+    let part = checked.file.part(e);
     match ExpressionKind::from_number(part.kind) {
         ExpressionKind::Constant => levels.bottom,
-        ExpressionKind::Register => name_at(s, part.a).level,
-        ExpressionKind::Not => level_of(s, c, levels, part.a),
+        ExpressionKind::Register => checked.file.name(part.a).level,
+        ExpressionKind::Not => level_of(checked, levels, part.a),
         _ => {
-            let left = level_of(s, c, levels, part.a);
-            let right = level_of(s, c, levels, part.b);
+            let left = level_of(checked, levels, part.a);
+            let right = level_of(checked, levels, part.b);
             levels.join(left, right)
         }
     }

@@ -7,19 +7,22 @@ mod own; // own.rt: what a node brings itself
 mod walk; // walk.rt: the walk over the nodes
 pub mod nodes; // nodes.rt: what a node has, from what its children have
 
-ghost use Rattle.flow.specs.Flow.{levels_of, Ready, Joins, Meets, FlowOf};
+ghost use Rattle.script.specs.Checked.{Levelled};
+ghost use Rattle.flow.specs.Flow.{levels_of, Ordered, Joins, Meets, FlowOf};
 
 use crate::levels::LevelTables;
 use crate::nodes::Flow;
 use book::Book;
-use layout::Script;
 use pairs::table::PairTable;
+use script::CheckedFile;
 
-// The write level and the test level of a checked script, and the smallest node whose need fails, or the number of
-// nodes if none does.
-pub fn find_flow(s: &[u8], c: Script, b: Book, join: PairTable, meet: PairTable) -> Flow
-    requires { Ready s.now c (levels_of b) × (Joins (levels_of b) join × Meets (levels_of b) meet) }
-    ensures { FlowOf (levels_of b) s.now result }
+// The write level and the test level of a checked script, whose levels the book has, and the smallest node whose need
+// fails, or the number of nodes if none does.
+pub fn find_flow(checked: &CheckedFile<'_>, b: Book, join: PairTable, meet: PairTable) -> Flow
+    requires levelled { Levelled checked.now.file.bytes.now b.count }
+    requires ordered { Ordered (levels_of b) }
+    requires tables { Joins (levels_of b) join × Meets (levels_of b) meet }
+    ensures { FlowOf (levels_of b) checked.now.file.bytes.now result }
 {
     let levels = LevelTables {
         book: b,
@@ -28,5 +31,5 @@ pub fn find_flow(s: &[u8], c: Script, b: Book, join: PairTable, meet: PairTable)
         top: lattice::top_of(b),
         bottom: lattice::bottom_of(b),
     };
-    walk::flow_at(s, &c, &levels, c.nodes - 1)
+    walk::flow_at(checked, &levels, checked.file.layout.nodes - 1)
 }

@@ -99,7 +99,7 @@ fn test_of(levels: &LevelTables<'_>, kind: ProcessKind, own: Own, parts: Flow) -
 
 // Node k, of this kind: W and T, and the smallest failing node under it, where `parts` has what its children have
 // together, and `pair` says that it has what it needs of its two children.
-pub fn node_flow(
+pub(crate) fn node_flow(
     levels: &LevelTables<'_>,
     k: usize,
     kind: ProcessKind,
@@ -126,7 +126,7 @@ pub fn node_flow(
 }
 
 // The same of a node with two children.
-pub fn pair_flow(
+pub(crate) fn pair_flow(
     levels: &LevelTables<'_>,
     k: usize,
     kind: ProcessKind,

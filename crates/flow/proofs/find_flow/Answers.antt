@@ -22,6 +22,7 @@ flow-of b s f ok a =
 
 pub returns : goal.returns
 returns c =
-    let a = c.args in
-    flow-of a.b a.s.now c.flow_at.result c.requires.0.checked
-    (subst (λ k. FlowAt a.b a.s.now k c.flow_at.result) (ap (λ n. n - 1) (nodes_are c.requires.0.laid)) c.flow_at.ensures)
+    let f = c.args.checked.now in
+    let b = c.args.b in
+    flow-of b f.file.bytes.now c.flow_at.result f.checked
+    (subst (λ k. FlowAt b f.file.bytes.now k c.flow_at.result) (ap (λ n. n - 1) (nodes_are f.file.laid)) c.flow_at.ensures)

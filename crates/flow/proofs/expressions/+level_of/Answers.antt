@@ -1,64 +1,61 @@
 -- `level_of`: kind by kind.
 use mathlib.Core.Path.{◌≡◌}
-use mathlib.Core.List.{List}
 use Prim.Native.Nat.{ℕ, ◌<◌}
 use native.Mathlib.Omega.{arith}
 use Rattle.book.specs.declared.Book.{Book}
-use Rattle.layout.specs.declared.Script.{Script}
 use Rattle.layout.specs.declared.parts.Part.{Part}
 use Rattle.layout.specs.Entries.{part_of}
-use Rattle.layout.proofs.Layouts.{name_within}
-use Rattle.flow.specs.Flow.{Readable}
+use Rattle.script.specs.declared.CheckedFile.{CheckedFile}
+use Rattle.script.specs.Checked.{Levelled}
 use Rattle.flow.proofs.ExpressionLevels.{ReadExpression, at_constant, register_known, at_register, negated_known, at_negated, first_operand, second_operand, at_binary}
 use Rattle.flow.proofs.BookLevels.{bottom_inside}
 use Rattle.flow.proofs.expressions.+level_of.Goals as goal
 
 -- the part that was read is that of expression e
 read :
-    {s : List ℕ} {c : Script} {b : Book} {e : ℕ} {p : Part} → Readable s c b × (e < c.expressions) → p ≡ part_of s e →
-    ReadExpression s c b e p
-read h same = record { readable = h.0; known = h.1; same = same }
+    (f : CheckedFile) (b : Book) {e : ℕ} {p : Part} →
+    Levelled f.file.bytes.now b.count × (e < f.file.layout.expressions) → p ≡ part_of f.file.bytes.now e → ReadExpression f b e p
+read f b h same = record { levelled = h.0; known = h.1; same = same }
 
 pub returns-in-Constant : goal.returns-in-Constant
 returns-in-Constant t c =
     let l = c.args.levels.now in
-    at_constant (read c.requires c.part_at-part.ensures) (c.in-Constant.ensures) l.least (bottom_inside l)
+    at_constant (read c.args.checked.now c.args.levels.now.book c.requires c.part-part.ensures.part) (c.in-Constant.ensures) l.least (bottom_inside l)
 
-pub name_at-requires : goal.name_at-requires
-name_at-requires t c =
-    name_within c.requires.0.laid (register_known (read c.requires c.part_at-part.ensures) (c.in-Register.ensures))
+pub name-requires : goal.name-requires
+name-requires t c = register_known (read c.args.checked.now c.args.levels.now.book c.requires c.part-part.ensures.part) (c.in-Register.ensures)
 
 pub returns-in-Register : goal.returns-in-Register
 returns-in-Register t c =
-    at_register (read c.requires c.part_at-part.ensures) (c.in-Register.ensures) c.name_at.ensures
+    at_register (read c.args.checked.now c.args.levels.now.book c.requires c.part-part.ensures.part) (c.in-Register.ensures) c.name.ensures.name
 
 pub level_of-requires : goal.level_of-requires
 level_of-requires t c =
-    let k = negated_known (read c.requires c.part_at-part.ensures) (c.in-Not.ensures) in
+    let k = negated_known (read c.args.checked.now c.args.levels.now.book c.requires c.part-part.ensures.part) (c.in-Not.ensures) in
     (omega (arith, k.0), (c.requires.0, k.1))
 
 pub returns-in-Not : goal.returns-in-Not
 returns-in-Not t c =
-    at_negated (read c.requires c.part_at-part.ensures) (c.in-Not.ensures) c.level_of.ensures
+    at_negated (read c.args.checked.now c.args.levels.now.book c.requires c.part-part.ensures.part) (c.in-Not.ensures) c.level_of.ensures
 
 pub level_of-left-requires : goal.level_of-left-requires
 level_of-left-requires t c =
     let w = c.in_default in
     let k =
-    first_operand (read c.requires c.part_at-part.ensures) _ c.from_number.ensures w.not-Constant w.not-Register w.not-Not in
+    first_operand (read c.args.checked.now c.args.levels.now.book c.requires c.part-part.ensures.part) _ c.from_number.ensures w.not-Constant w.not-Register w.not-Not in
     (omega (arith, k.0), (c.requires.0, k.1))
 
 pub level_of-right-requires : goal.level_of-right-requires
 level_of-right-requires t c =
     let w = c.in_default in
     let k =
-    second_operand (read c.requires c.part_at-part.ensures) _ c.from_number.ensures w.not-Constant w.not-Register w.not-Not in
+    second_operand (read c.args.checked.now c.args.levels.now.book c.requires c.part-part.ensures.part) _ c.from_number.ensures w.not-Constant w.not-Register w.not-Not in
     (omega (arith, k.0), (c.requires.0, k.1))
 
 pub returns-in_default : goal.returns-in_default
 returns-in_default t c =
     let w = c.in_default in
-    at_binary (read c.requires c.part_at-part.ensures) _ c.from_number.ensures w.not-Constant w.not-Register w.not-Not
+    at_binary (read c.args.checked.now c.args.levels.now.book c.requires c.part-part.ensures.part) _ c.from_number.ensures w.not-Constant w.not-Register w.not-Not
     c.level_of-left.ensures
     c.level_of-right.ensures
     c.join.ensures.same
