@@ -3,9 +3,9 @@
 use Rattle.std.specs.Prelude.{◌≡◌, true, false, List, ℕ, ◌≤◌, ◌<◌}
 use Rattle.book.specs.declared.Book.{Book}
 use Rattle.order.specs.Order as orders
-use Rattle.order.specs.Order.{Relation, least_upper, greatest_lower, LevelLattice}
-use Rattle.book.specs.LevelBook.{most_levels, at_or_below}
-use Rattle.pairs.specs.Table.{Keeps}
+use Rattle.order.specs.Order.{LevelLattice}
+use Rattle.order.specs.Rows.{order_of}
+use Rattle.book.specs.LevelBook.{most_levels}
 use Rattle.lattice.specs.Lattice.{Lattice, lattice_of}
 use Rattle.language.specs.Levels.{exp_level, write_level, test_level}
 use Rattle.language.specs.declared.process_kinds.ProcessKind.{ProcessKind}
@@ -36,9 +36,6 @@ pub record Levels : Type 0 where
   pub top : ℕ
   pub bottom : ℕ
 
-abbrev pub order_of : Book → Relation
-order_of b = at_or_below b.rows
-
 abbrev pub levels_of : Book → Levels
 levels_of b = record { book = b; top = orders.top (order_of b) b.count; bottom = orders.bottom (order_of b) b.count }
 
@@ -53,13 +50,6 @@ pub record Ordered (l : Levels) : Type 0 where
   pub laws : LevelLattice (order_of l.book) l.book.count
   pub few : l.book.count ≤ most_levels
   pub own : l ≡ levels_of l.book
-
--- the table of joins, and of meets, of a book
-abbrev pub Joins : Levels → List (List ℕ) → Type 0
-Joins l t = Keeps t l.book.count (least_upper (order_of l.book) l.book.count)
-
-abbrev pub Meets : Levels → List (List ℕ) → Type 0
-Meets l t = Keeps t l.book.count (greatest_lower (order_of l.book) l.book.count)
 
 -- p has the bytes of node k, which is of this kind
 pub record IsNodeAt (s : List ℕ) (kind : ProcessKind) (p : Part) (k : ℕ) : Type 0 where

@@ -1,23 +1,22 @@
 // The levels of a book, as the walk looks them up.
 ghost use Rattle.std.specs.Prelude.{◌≡◌, ◌<◌};
-ghost use Rattle.flow.specs.Flow.{levels_of, lattice_by, Ordered, Joins, Meets};
+ghost use Rattle.pairs.specs.Promises.{KeepsAll};
+ghost use Rattle.flow.specs.Flow.{levels_of, lattice_by, Ordered};
 
-use book::{Book, at_or_below};
-use pairs::table::{PairTable, level_at};
+use book::Book;
+use pairs::table::Tables;
 
 // A checked book, the tables of its joins and its meets, its greatest and its least level.
 #[derive(Clone, Copy)]
 pub struct LevelTables<'a> {
     pub book: Book,
-    pub joins: &'a PairTable,
-    pub meets: &'a PairTable,
+    pub tables: &'a Tables,
     pub top: usize,
     pub bottom: usize,
     ghost ordered: { Ordered (levels_of book) },
-    ghost joined: { Joins (levels_of book) joins.now },
-    ghost met: { Meets (levels_of book) meets.now },
-    ghost greatest: { top ≡ (levels_of book).top },
-    ghost least: { bottom ≡ (levels_of book).bottom },
+    ghost kept: { KeepsAll book tables.now },
+    ghost greatest: { top ≡ (lattice_by book).top },
+    ghost least: { bottom ≡ (lattice_by book).bottom },
 }
 
 impl LevelTables<'_> {
@@ -26,7 +25,7 @@ impl LevelTables<'_> {
         requires { (i < self.now.book.count) × (j < self.now.book.count) }
         ensures { result ≡ (lattice_by self.now.book).leq i j }
     {
-        at_or_below(&self.book.rows, i, j)
+        self.book.at_or_below(i, j)
     }
 
     // The join of levels i and j.
@@ -35,7 +34,7 @@ impl LevelTables<'_> {
         ensures same { result ≡ (lattice_by self.now.book).join i j }
         ensures inside { result < self.now.book.count }
     {
-        level_at(self.joins, i, j)
+        self.tables.join.level_at(i, j)
     }
 
     // Their meet.
@@ -44,6 +43,6 @@ impl LevelTables<'_> {
         ensures same { result ≡ (lattice_by self.now.book).meet i j }
         ensures inside { result < self.now.book.count }
     {
-        level_at(self.meets, i, j)
+        self.tables.meet.level_at(i, j)
     }
 }

@@ -7,29 +7,28 @@ mod own; // own.rt: what a node brings itself
 mod walk; // walk.rt: the walk over the nodes
 pub mod nodes; // nodes.rt: what a node has, from what its children have
 
+ghost use Rattle.pairs.specs.Promises.{KeepsAll};
 ghost use Rattle.script.specs.Checked.{Levelled};
-ghost use Rattle.flow.specs.Flow.{levels_of, Ordered, Joins, Meets, FlowOf};
+ghost use Rattle.flow.specs.Flow.{levels_of, Ordered, FlowOf};
 
 use crate::levels::LevelTables;
 use crate::nodes::Flow;
-use book::Book;
-use pairs::table::PairTable;
+use lattice::CheckedBook;
 use script::CheckedFile;
 
 // The write level and the test level of a checked script, whose levels the book has, and the smallest node whose need
 // fails, or the number of nodes if none does.
-pub fn find_flow(checked: &CheckedFile<'_>, b: Book, join: PairTable, meet: PairTable) -> Flow
-    requires levelled { Levelled checked.now.file.bytes.now b.count }
-    requires ordered { Ordered (levels_of b) }
-    requires tables { Joins (levels_of b) join × Meets (levels_of b) meet }
-    ensures { FlowOf (levels_of b) checked.now.file.bytes.now result }
+pub fn find_flow(checked: &CheckedFile<'_>, levels: &CheckedBook) -> Flow
+    requires levelled { Levelled checked.now.file.bytes.now levels.now.book.count }
+    requires ordered { Ordered (levels_of levels.now.book) }
+    requires tables { KeepsAll levels.now.book levels.now.tables }
+    ensures { FlowOf (levels_of levels.now.book) checked.now.file.bytes.now result }
 {
-    let levels = LevelTables {
-        book: b,
-        joins: &join,
-        meets: &meet,
-        top: lattice::top_of(b),
-        bottom: lattice::bottom_of(b),
+    let tables = LevelTables {
+        book: levels.book,
+        tables: &levels.tables,
+        top: lattice::top_of(levels.book),
+        bottom: lattice::bottom_of(levels.book),
     };
-    walk::flow_at(checked, &levels, checked.file.layout.nodes - 1)
+    walk::flow_at(checked, &tables, checked.file.layout.nodes - 1)
 }

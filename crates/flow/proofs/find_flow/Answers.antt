@@ -23,6 +23,6 @@ flow-of b s f ok a =
 pub returns : goal.returns
 returns c =
     let f = c.args.checked.now in
-    let b = c.args.b in
+    let b = c.args.levels.now.book in
     flow-of b f.file.bytes.now c.flow_at.result f.checked
     (subst (λ k. FlowAt b f.file.bytes.now k c.flow_at.result) (ap (λ n. n - 1) (nodes_are f.file.laid)) c.flow_at.ensures)
