@@ -19,8 +19,7 @@ use Rattle.language.specs.declared.expression_kinds.ExpressionKind.{ExpressionKi
 use Rattle.language.specs.declared.expression_kinds.ExpressionKind.TheVariants.{Constant, Register, Not}
 use Rattle.language.specs.KindNumbers.{expression_number}
 use Rattle.language.proofs.KindNumbers.{expression_kind_is}
-use Rattle.script.specs.declared.CheckedFile.{CheckedFile}
-use Rattle.script.specs.Checked.{Levelled}
+use Rattle.flow.specs.declared.levelled.LevelledScript.{LevelledScript}
 use Rattle.flow.specs.Flow.{lattice_by, LevelAt}
 
 module _ (𝓛 : Lattice ℕ) (s : List ℕ) where
@@ -48,20 +47,22 @@ module _ (𝓛 : Lattice ℕ) (s : List ℕ) where
     binary_level l m n = let r = binary_is s e view l m n in (r.0, ap (exp_level 𝓛 (names_of s)) r.1.1)
 
 -- what is known where expression e has been read: its part, and its kind
-pub record ReadExpression (f : CheckedFile) (b : Book) (e : ℕ) (p : Part) : Type 0 where
-  pub levelled : Levelled f.file.bytes.now b.count
-  pub known : e < f.file.layout.expressions
-  pub same : p ≡ part_of f.file.bytes.now e
+pub record ReadExpression (f : LevelledScript) (e : ℕ) (p : Part) : Type 0 where
+  pub known : e < f.checked.file.layout.expressions
+  pub same : p ≡ part_of f.checked.file.bytes.now e
 
-module _ {f : CheckedFile} {b : Book} {e : ℕ} {p : Part} (read : ReadExpression f b e p) where
+module _ {f : LevelledScript} {e : ℕ} {p : Part} (read : ReadExpression f e p) where
   abbrev s : List ℕ
-  s = f.file.bytes.now
+  s = f.checked.file.bytes.now
 
   abbrev c : Script
-  c = f.file.layout
+  c = f.checked.file.layout
+
+  abbrev b : Book
+  b = f.levels.book
 
   view : ExpressionView s e
-  view = expression-view s f.checked e (omega (arith, read.known, expressions_are f.file.laid))
+  view = expression-view s f.checked.checked e (omega (arith, read.known, expressions_are f.checked.file.laid))
 
   kind_is : (part_of s e).kind ≡ p.kind
   kind_is = ap (λ q. q.kind) (sym read.same)
@@ -77,14 +78,14 @@ module _ {f : CheckedFile} {b : Book} {e : ℕ} {p : Part} (read : ReadExpressio
     register = register_level 𝓛 s e view (kind_is ∙ sym n)
 
     pub register_known : p.a < c.names
-    register_known = omega (arith, register.0, ap (λ q. q.a) read.same, names_are f.file.laid)
+    register_known = omega (arith, register.0, ap (λ q. q.a) read.same, names_are f.checked.file.laid)
 
     pub at_register : {x : Name} → x ≡ name_of s p.a → LevelAt b s e x.level
     at_register {x} q =
         let same : x ≡ name_of s (part_of s e).a = q ∙ ap (λ p. name_of s p.a) read.same in
         record {
           same = ap (λ x. x.level) same ∙ sym register.1;
-          inside = subst (λ x. x.level < b.count) (sym same) (read.levelled (part_of s e).a register.0);
+          inside = subst (λ x. x.level < b.count) (sym same) (f.levelled (part_of s e).a register.0);
         }
 
   module _ (n : 8 ≡ p.kind) where
@@ -92,7 +93,7 @@ module _ {f : CheckedFile} {b : Book} {e : ℕ} {p : Part} (read : ReadExpressio
     negated_known =
         let u = operand_is s e view (λ k. omega (arith, kind_is)) (λ k. omega (arith, kind_is)) in
         let same = ap (λ q. q.a) read.same in
-        (omega (arith, u.part.before, same), omega (arith, u.known, same, expressions_are f.file.laid))
+        (omega (arith, u.part.before, same), omega (arith, u.known, same, expressions_are f.checked.file.laid))
 
     pub at_negated : {r : ℕ} → LevelAt b s p.a r → LevelAt b s e r
     at_negated a =
@@ -113,7 +114,7 @@ module _ {f : CheckedFile} {b : Book} {e : ℕ} {p : Part} (read : ReadExpressio
     first_operand =
         let u = operand_is s e view (is_not Constant m₀) (is_not Register m₁) in
         let same = ap (λ q. q.a) read.same in
-        (omega (arith, u.part.before, same), omega (arith, u.known, same, expressions_are f.file.laid))
+        (omega (arith, u.part.before, same), omega (arith, u.known, same, expressions_are f.checked.file.laid))
 
     binary :
         UsesExpression s e (part_of s e).b
@@ -124,7 +125,7 @@ module _ {f : CheckedFile} {b : Book} {e : ℕ} {p : Part} (read : ReadExpressio
     second_operand =
         let same = ap (λ q. q.b) read.same in (
           omega (arith, binary.0.part.before, same),
-          omega (arith, binary.0.known, same, expressions_are f.file.laid),
+          omega (arith, binary.0.known, same, expressions_are f.checked.file.laid),
         )
 
     pub at_binary :

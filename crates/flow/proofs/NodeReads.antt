@@ -17,7 +17,8 @@ use Rattle.tree.proofs.Shapes.{Children, children, first_below, second_below}
 use Rattle.flow.specs.declared.nodes.Flow.{Flow}
 use Rattle.flow.specs.declared.nodes.Own.{Own}
 use Rattle.flow.specs.Nodes.{pair_need, both_from, flow_from, pair_from, FlowWithin}
-use Rattle.flow.specs.Flow.{lattice_by, IsNodeAt, OwnOf, FlowAt}
+use Rattle.tree.specs.Promises.{IsNodeAt}
+use Rattle.flow.specs.Flow.{lattice_by, OwnOf, FlowAt}
 use Rattle.flow.proofs.NodeFlows.{PartsAt, parts_none, parts_one, parts_two, flow_at_lem}
 
 -- what is known where node k has been read: its part and its kind

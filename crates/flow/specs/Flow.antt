@@ -9,11 +9,11 @@ use Rattle.book.specs.LevelBook.{most_levels}
 use Rattle.lattice.specs.Lattice.{Lattice, lattice_of}
 use Rattle.language.specs.Levels.{exp_level, write_level, test_level}
 use Rattle.language.specs.declared.process_kinds.ProcessKind.{ProcessKind}
-use Rattle.language.specs.KindNumbers.{process_number}
 use Rattle.layout.specs.declared.parts.Part.{Part}
 use Rattle.layout.specs.Layout.{node_count}
-use Rattle.layout.specs.Entries.{part_of, node}
+use Rattle.layout.specs.Entries.{node}
 use Rattle.scope.specs.Reach.{lies_in}
+use Rattle.tree.specs.Promises.{IsNodeAt}
 use Rattle.tree.specs.Tree.{names_of, expression_of, process_of, tree}
 use Rattle.flow.specs.declared.nodes.Flow.{Flow}
 use Rattle.flow.specs.declared.nodes.Own.{Own}
@@ -50,15 +50,6 @@ pub record Ordered (l : Levels) : Type 0 where
   pub laws : LevelLattice (order_of l.book) l.book.count
   pub few : l.book.count ≤ most_levels
   pub own : l ≡ levels_of l.book
-
--- p has the bytes of node k, which is of this kind
-pub record IsNodeAt (s : List ℕ) (kind : ProcessKind) (p : Part) (k : ℕ) : Type 0 where
-  pub known : k < node_count s
-  pub same : p ≡ part_of s (node s k)
-  pub kinded : process_number kind ≡ p.kind
-
-abbrev pub IsNode : List ℕ → ProcessKind → Part → Type 0
-IsNode s kind p = (k : ℕ) × IsNodeAt s kind p k
 
 -- What the walks find: of an expression, ..
 pub record LevelAt (b : Book) (s : List ℕ) (e level : ℕ) : Type 0 where

@@ -2,7 +2,7 @@
 #![tactic(auto)]
 
 mod levels; // levels.rt: the levels of a book, as the walk looks them up
-mod expressions; // expressions.rt: the level of an expression
+mod levelled; // levelled.rt: a checked script, and the levels of its expressions
 mod own; // own.rt: what a node brings itself
 mod walk; // walk.rt: the walk over the nodes
 pub mod nodes; // nodes.rt: what a node has, from what its children have
@@ -11,6 +11,7 @@ ghost use Rattle.pairs.specs.Promises.{KeepsAll};
 ghost use Rattle.script.specs.Checked.{Levelled};
 ghost use Rattle.flow.specs.Flow.{levels_of, Ordered, FlowOf};
 
+use crate::levelled::LevelledScript;
 use crate::levels::LevelTables;
 use crate::nodes::Flow;
 use lattice::CheckedBook;
@@ -24,11 +25,14 @@ pub fn find_flow(checked: &CheckedFile<'_>, levels: &CheckedBook) -> Flow
     requires tables { KeepsAll levels.now.book levels.now.tables }
     ensures { FlowOf (levels_of levels.now.book) checked.now.file.bytes.now result }
 {
-    let tables = LevelTables {
-        book: levels.book,
-        tables: &levels.tables,
-        top: lattice::top_of(levels.book),
-        bottom: lattice::bottom_of(levels.book),
+    let script = LevelledScript {
+        checked: *checked,
+        levels: LevelTables {
+            book: levels.book,
+            tables: &levels.tables,
+            top: lattice::top_of(levels.book),
+            bottom: lattice::bottom_of(levels.book),
+        },
     };
-    walk::flow_at(checked, &tables, checked.file.layout.nodes - 1)
+    script.flow_at(checked.file.layout.nodes - 1)
 }

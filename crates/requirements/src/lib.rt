@@ -2,7 +2,7 @@
 // flow. One walk over the tree of a checked script, with sets of levels as numbers.
 #![tactic(auto)]
 
-mod expressions; // expressions.rt: the levels of an expression
+mod script; // script.rt: a checked script, and the levels of its names and expressions
 mod own; // own.rt: what a node brings itself
 pub mod nodes; // nodes.rt: what a node has, from what its children have
 pub mod table; // table.rt: the flows found so far
@@ -10,20 +10,20 @@ mod walk; // walk.rt: the walk over the nodes
 
 ghost use Rattle.std.specs.Prelude.{◌≡◌};
 ghost use Rattle.book.specs.LevelBook.{most_levels};
-ghost use Rattle.layout.specs.Promises.{Laid};
-ghost use Rattle.script.specs.Checked.{Checked, Levelled};
+ghost use Rattle.script.specs.Checked.{Levelled};
 ghost use Rattle.requirements.specs.Flows.{flows_of};
 
+use crate::script::LevelledScript;
 use crate::table::FlowTable;
+use ::script::CheckedFile;
 use book::Book;
-use layout::Script;
 
 // The flows of a checked script, whose levels a full book has.
-pub fn find_flows(s: &[u8], c: Script) -> FlowTable
-    requires { Laid s.now c × (Checked s.now × Levelled s.now most_levels) }
-    ensures { result ≡ flows_of s.now }
+pub fn find_flows(checked: &CheckedFile<'_>) -> [u16; Book::MAX_LEVELS]
+    requires { Levelled checked.now.file.bytes.now most_levels }
+    ensures { result ≡ flows_of checked.now.file.bytes.now }
 {
-    let mut flows = [0u16; Book::MAX_LEVELS];
-    walk::flows_at(s, c.offset, c.expressions, &mut flows, c.nodes - 1);
-    table::between_others(flows)
+    let mut flows = FlowTable::new();
+    LevelledScript { checked }.flows_at(&mut flows, checked.file.layout.nodes - 1);
+    flows.between_others()
 }

@@ -1,45 +1,39 @@
 // What a node brings itself.
-ghost use Rattle.flow.specs.Flow.{IsNode};
-ghost use Rattle.requirements.specs.Promises.{Reads, OwnOf};
+ghost use Rattle.tree.specs.Promises.{IsNode};
+ghost use Rattle.requirements.specs.Promises.{OwnOf};
 
-use crate::expressions::levels_of;
 use crate::nodes::Own;
-use book::sets;
-use flow::groups::is_either;
-use language::process_kinds;
-use layout::parts::{Part, name_at};
+use crate::script::LevelledScript;
+use language::process_kinds::ProcessKind;
+use layout::parts::Part;
 
-// What the node of part p brings itself.
-pub fn own_levels(s: &[u8], offset: usize, p: Part) -> Own
-    requires { Reads s.now offset × IsNode s.now p }
-    ensures { OwnOf s.now p result }
-{
-    if is_either(p.kind, process_kinds::ASSIGN, process_kinds::LET) {
-        let name = name_at(s, p.a);
-        return Own {
-            read: levels_of(s, offset, p.b),
-            name: sets::only(name.level),
-        };
+impl LevelledScript<'_> {
+    // What the node of this kind, with part p, brings itself.
+    pub fn own_levels(&self, kind: ProcessKind, p: Part) -> Own
+        requires { IsNode self.now.checked.now.file.bytes.now kind p }
+        ensures { OwnOf self.now.checked.now.file.bytes.now kind p result }
+    {
+        match kind {
+            ProcessKind::Assign | ProcessKind::Let => Own {
+                read: self.levels_of(p.b),
+                name: self.name_level(p.a),
+            },
+            ProcessKind::If | ProcessKind::While => Own {
+                read: self.levels_of(p.a),
+                name: 0,
+            },
+            ProcessKind::Watching | ProcessKind::When => Own {
+                read: self.name_level(p.a),
+                name: 0,
+            },
+            ProcessKind::Emit => Own {
+                read: 0,
+                name: self.name_level(p.a),
+            },
+            ProcessKind::Nil
+            | ProcessKind::Sequence
+            | ProcessKind::Local
+            | ProcessKind::Parallel => Own { read: 0, name: 0 },
+        }
     }
-    if is_either(p.kind, process_kinds::IF, process_kinds::WHILE) {
-        return Own {
-            read: levels_of(s, offset, p.a),
-            name: 0,
-        };
-    }
-    if is_either(p.kind, process_kinds::WATCHING, process_kinds::WHEN) {
-        let name = name_at(s, p.a);
-        return Own {
-            read: sets::only(name.level),
-            name: 0,
-        };
-    }
-    if p.kind == process_kinds::EMIT {
-        let name = name_at(s, p.a);
-        return Own {
-            read: 0,
-            name: sets::only(name.level),
-        };
-    }
-    Own { read: 0, name: 0 }
 }

@@ -1,25 +1,17 @@
 // The flows found so far: for each level the set of the levels to which it must be let flow.
-ghost use Rattle.std.specs.Prelude.{◌≡◌, not, ◌&&◌, eqb, get_or, ◌<◌};
+ghost use Rattle.std.specs.Prelude.{◌≡◌, not, ◌&&◌, eqb, get_or, replicate, length, ◌<◌};
 ghost use Rattle.prelude.specs.Sets.{has, set_of};
 ghost use Rattle.prelude.specs.Table.{table};
 ghost use Rattle.book.specs.LevelBook.{most_levels};
-ghost use Rattle.requirements.specs.Promises.{Long, Adds};
+ghost use Rattle.requirements.specs.Promises.{Adds};
 
 use book::{Book, sets};
 
-pub type FlowTable = [u16; Book::MAX_LEVELS];
-
-// Adds the flows from each level of `from` to each level of `to`.
-pub fn add(flows: &mut FlowTable, from: u16, to: u16)
-    requires { Long flows.old }
-    ensures { Adds flows.old (λ i j. has from i && has to j) flows.new }
-{
-    let mut left = from;
-    while left != 0 {
-        let i = sets::lowest(left);
-        flows[i] = sets::union(flows[i], to);
-        left = sets::without(left, i);
-    }
+// For each level a set of levels.
+#[derive(Clone, Copy)]
+pub struct FlowTable {
+    pub sets: [u16; Book::MAX_LEVELS],
+    ghost long: { length sets ≡ most_levels },
 }
 
 // The set without level i.
@@ -28,20 +20,43 @@ fn others(set: u16, i: usize) -> u16
     ensures { result ≡ set_of (λ j. not (eqb i j) && has set j) most_levels }
 {
     if sets::has(set, i) {
-        return sets::without(set, i);
+        sets::without(set, i)
+    } else {
+        set
     }
-    set
 }
 
-// The flows from a level to another.
-pub fn between_others(flows: FlowTable) -> FlowTable
-    ensures { result ≡ table (λ i. set_of (λ j. not (eqb i j) && has (get_or flows i 0) j) most_levels) most_levels }
-{
-    let mut between = [0u16; Book::MAX_LEVELS];
-    let mut i: usize = 0;
-    while i < Book::MAX_LEVELS {
-        between[i] = others(flows[i], i);
-        i += 1;
+impl FlowTable {
+    // No flows.
+    pub fn new() -> FlowTable
+        ensures { result.sets ≡ replicate most_levels 0 }
+    {
+        FlowTable {
+            sets: [0; Book::MAX_LEVELS],
+        }
     }
-    between
+
+    // Adds the flows from each level of `from` to each level of `to`.
+    #[tactic(auto, using(crate::proofs::Additions::lowest_below, crate::proofs::Additions::lowest_in))]
+    pub fn add(&mut self, from: u16, to: u16)
+        ensures { Adds self.old.sets (λ i j. has from i && has to j) self.new.sets }
+    {
+        let mut left = from;
+        while left != 0 {
+            let i = sets::lowest(left);
+            self.sets[i] = sets::union(self.sets[i], to);
+            left = sets::without(left, i);
+        }
+    }
+
+    // The flows from a level to another.
+    pub fn between_others(self) -> [u16; Book::MAX_LEVELS]
+        ensures { result ≡ table (λ i. set_of (λ j. not (eqb i j) && has (get_or self.sets i 0) j) most_levels) most_levels }
+    {
+        let mut between = self.sets;
+        for i in 0..Book::MAX_LEVELS {
+            between[i] = others(self.sets[i], i);
+        }
+        between
+    }
 }

@@ -1,38 +1,40 @@
 // The walk over the nodes.
 ghost use Rattle.std.specs.Prelude.{◌<◌};
-ghost use Rattle.layout.specs.Layout.{node_count};
-ghost use Rattle.requirements.specs.Promises.{Long, Walks, FlowsAt};
+ghost use Rattle.requirements.specs.Promises.{FlowsAt};
 
-use crate::nodes::Effects;
+use crate::nodes::{Effects, node_flows, pair_flows};
+use crate::script::LevelledScript;
 use crate::table::FlowTable;
-use crate::{nodes, own};
-use fields::children::children_of;
-use fields::roles::child_count;
-use layout::parts::part_at;
+use fields::children::{Children, children_of};
+use language::process_kinds::ProcessKind;
 
-// The levels that node k tests and writes; the flows that it and all under it need are added. The parts begin at byte
-// `at`, the nodes after so many expressions.
-pub fn flows_at(s: &[u8], at: usize, expressions: usize, flows: &mut FlowTable, k: usize) -> Effects
-    requires { Walks s.now at expressions × ((k < node_count s.now) × Long flows.old) }
-    ensures { FlowsAt s.now k flows.old flows.new result }
-{
-    let p = part_at(s, at, expressions + k);
-    let own = own::own_levels(s, at, p);
-    let count = child_count(p.kind);
-    if count == 0 {
-        let none = Effects {
-            tested: 0,
-            written: 0,
-        };
-        return nodes::node_flows(flows, p.kind, own, none);
+impl LevelledScript<'_> {
+    // The levels that node k tests and writes; the flows that it and all under it need are added.
+    pub fn flows_at(&self, flows: &mut FlowTable, k: usize) -> Effects
+        requires { k < self.now.checked.now.file.layout.nodes }
+        ensures { FlowsAt self.now.checked.now.file.bytes.now k flows.old.sets flows.new.sets result }
+    {
+        let file = &self.checked.file;
+        let p = file.part(file.layout.expressions + k);
+        let kind = ProcessKind::from_number(p.kind);
+        let own = self.own_levels(kind, p);
+        match children_of(p) {
+            Children::None => {
+                let none = Effects {
+                    tested: 0,
+                    written: 0,
+                };
+                node_flows(flows, kind, own, none)
+            }
+            Children::One(i) => {
+                let part = self.flows_at(flows, i);
+                node_flows(flows, kind, own, part)
+            }
+            Children::Two(i, j) => {
+                let first = self.flows_at(flows, i);
+                let second = self.flows_at(flows, j);
+                pair_flows(flows, kind, own, first, second)
+            }
+        }
     }
-    let children = children_of(p);
-    let i = children.first;
-    let first = flows_at(s, at, expressions, flows, i);
-    if count == 1 {
-        return nodes::node_flows(flows, p.kind, own, first);
-    }
-    let j = children.second;
-    let second = flows_at(s, at, expressions, flows, j);
-    nodes::pair_flows(flows, p.kind, own, first, second)
 }

@@ -3,6 +3,7 @@ pub mod Views
 pub mod ExpressionKinds
 pub mod Scoping
 pub mod Declaring
+pub mod NodeKinds
 pub mod Shapes
 pub mod NodeCounts
 pub mod NodeSizes

@@ -42,6 +42,6 @@ returns-then-has c =
     c.without.ensures
     ∙ taken c.args.set c.args.i (omega (arith, c.ranges.set.fits)) (sym c.has.ensures ∙ c.if-has.true)
 
-pub returns : goal.returns
-returns c =
+pub returns-else-has : goal.returns-else-has
+returns-else-has c =
     left c.args.set c.args.i (omega (arith, c.ranges.set.fits)) (sym c.has.ensures ∙ c.if-has.false)

@@ -8,9 +8,9 @@ use Rattle.layout.proofs.Layouts.{expressions_are, nodes_are}
 use Rattle.language.specs.declared.process_kinds.ProcessKind.{ProcessKind}
 use Rattle.language.specs.KindNumbers.{process_number}
 use Rattle.script.specs.declared.CheckedFile.{CheckedFile}
-use Rattle.flow.specs.Flow.{IsNodeAt}
+use Rattle.tree.specs.Promises.{IsNodeAt}
 use Rattle.flow.proofs.NodeReads.{one_before, first_before, second_before, found_none, found_one, found_two}
-use Rattle.flow.proofs.walk.+flow_at.Goals as goal
+use Rattle.flow.proofs.levelled.LevelledScript.+flow_at.Goals as goal
 
 -- the part that was read is that of node k
 read :
@@ -26,39 +26,39 @@ read f {k} known same kinded =
 
 pub returns-in-None : goal.returns-in-None
 returns-in-None t c =
-    let f = c.args.checked.now in
-    let l = c.args.levels.now in
-    found_none f l.book (read f c.requires.1 c.part-p.ensures.part c.from_number-kind.ensures) c.own_levels-own.ensures
+    let f = c.args.self.now.checked in
+    let l = c.args.self.now.levels in
+    found_none f l.book (read f c.requires c.part-p.ensures.part c.from_number-kind.ensures) c.own_levels-own.ensures
     (c.in-None.ensures) l.greatest l.least c.node_flow.ensures.same c.node_flow.ensures.inside
 
 pub flow_at-part-requires : goal.flow_at-part-requires
 flow_at-part-requires t c =
-    let f = c.args.checked.now in
-    let b = one_before f c.args.levels.now.book (read f c.requires.1 c.part-p.ensures.part c.from_number-kind.ensures) (c.in-One.ensures) in
-    (omega (arith, b.0), (c.requires.0, b.1))
+    let f = c.args.self.now.checked in
+    let b = one_before f c.args.self.now.levels.book (read f c.requires c.part-p.ensures.part c.from_number-kind.ensures) (c.in-One.ensures) in
+    (omega (arith, b.0), b.1)
 
 pub returns-in-One : goal.returns-in-One
 returns-in-One t c =
-    let f = c.args.checked.now in
-    found_one f c.args.levels.now.book (read f c.requires.1 c.part-p.ensures.part c.from_number-kind.ensures)
+    let f = c.args.self.now.checked in
+    found_one f c.args.self.now.levels.book (read f c.requires c.part-p.ensures.part c.from_number-kind.ensures)
     c.own_levels-own.ensures (c.in-One.ensures) c.flow_at-part.ensures c.node_flow-in-One.ensures.same
     c.node_flow-in-One.ensures.inside
 
 pub flow_at-first-requires : goal.flow_at-first-requires
 flow_at-first-requires t c =
-    let f = c.args.checked.now in
-    let b = first_before f c.args.levels.now.book (read f c.requires.1 c.part-p.ensures.part c.from_number-kind.ensures) (c.in-Two.ensures) in
-    (omega (arith, b.0), (c.requires.0, b.1))
+    let f = c.args.self.now.checked in
+    let b = first_before f c.args.self.now.levels.book (read f c.requires c.part-p.ensures.part c.from_number-kind.ensures) (c.in-Two.ensures) in
+    (omega (arith, b.0), b.1)
 
 pub flow_at-second-requires : goal.flow_at-second-requires
 flow_at-second-requires t c =
-    let f = c.args.checked.now in
-    let b = second_before f c.args.levels.now.book (read f c.requires.1 c.part-p.ensures.part c.from_number-kind.ensures) (c.in-Two.ensures) in
-    (omega (arith, b.0), (c.requires.0, b.1))
+    let f = c.args.self.now.checked in
+    let b = second_before f c.args.self.now.levels.book (read f c.requires c.part-p.ensures.part c.from_number-kind.ensures) (c.in-Two.ensures) in
+    (omega (arith, b.0), b.1)
 
 pub returns-in-Two : goal.returns-in-Two
 returns-in-Two t c =
-    let f = c.args.checked.now in
-    found_two f c.args.levels.now.book (read f c.requires.1 c.part-p.ensures.part c.from_number-kind.ensures)
+    let f = c.args.self.now.checked in
+    found_two f c.args.self.now.levels.book (read f c.requires c.part-p.ensures.part c.from_number-kind.ensures)
     c.own_levels-own.ensures (c.in-Two.ensures) c.flow_at-first.ensures c.flow_at-second.ensures
     c.pair_flow.ensures.same c.pair_flow.ensures.inside
