@@ -1,41 +1,41 @@
 -- The register levels of an expression of a checked file, by its kind.
-use mathlib.Core.Path.{◌≡◌, sym, ap, ap₂, ◌∙◌, subst}
+use mathlib.Core.Path.{◌≡◌, sym, ap, ap₂, ◌∙◌}
 use mathlib.Core.Bool.{Bool, false, ◌||◌}
 use mathlib.Core.List.{List}
 use Prim.Native.Nat.{ℕ, ◌<◌}
 use native.Mathlib.Omega.{arith}
-use lib.Dec.{eqb}
 use Rattle.prelude.specs.Sets.{has, IsSet}
 use Rattle.prelude.proofs.Sets.{has_zero}
 use Rattle.book.specs.LevelBook.{most_levels}
-use Rattle.language.specs.RequiredFlows.{reads}
-use Rattle.layout.specs.declared.parts.Name.{Name}
+use Rattle.language.specs.RequiredFlows.{is_level, reads}
 use Rattle.layout.specs.declared.parts.Part.{Part}
-use Rattle.layout.specs.Layout.{name_count, expression_count}
-use Rattle.layout.specs.Entries.{name_of, part_of}
+use Rattle.layout.specs.Entries.{part_of}
+use Rattle.layout.proofs.Layouts.{names_are, expressions_are}
 use Rattle.tree.specs.Tree.{names_of, expression_of}
 use Rattle.tree.proofs.Views.{ExpressionView, expression-view}
 use Rattle.tree.proofs.ExpressionKinds.{constant_is, register_is, operand_is, negated_is, binary_is}
-use Rattle.requirements.specs.Promises.{Reads, LevelsAt}
+use Rattle.language.specs.declared.expression_kinds.ExpressionKind.{ExpressionKind}
+use Rattle.language.specs.declared.expression_kinds.ExpressionKind.TheVariants.{Constant, Register, Not}
+use Rattle.language.specs.KindNumbers.{expression_number}
+use Rattle.language.proofs.KindNumbers.{expression_kind_is}
+use Rattle.requirements.specs.declared.levelled.LevelledScript.{LevelledScript}
+use Rattle.requirements.specs.Promises.{LevelAt, LevelsAt}
 
 -- the set of no level, and the levels of names
 pub nothing : IsSet most_levels (λ i. false) 0
 nothing i h = has_zero i
 
-pub level_inside :
-    {s : List ℕ} {offset : ℕ} → Reads s offset → (x : ℕ) → x < name_count s → {n : Name} → n ≡ name_of s x →
-    n.level < most_levels
-level_inside known x h e = subst (λ n. n.level < most_levels) (sym e) (known.levelled x h)
-
 -- what is known where expression e has been read: its part
-pub record ReadExpression (s : List ℕ) (offset e : ℕ) (p : Part) : Type 0 where
-  pub known : Reads s offset
-  pub below : e < expression_count s
-  pub same : p ≡ part_of s e
+pub record ReadExpression (f : LevelledScript) (e : ℕ) (p : Part) : Type 0 where
+  pub known : e < f.checked.file.layout.expressions
+  pub same : p ≡ part_of f.checked.file.bytes.now e
 
-module _ {s : List ℕ} {offset e : ℕ} {p : Part} (read : ReadExpression s offset e p) where
+module _ {f : LevelledScript} {e : ℕ} {p : Part} (read : ReadExpression f e p) where
+  abbrev s : List ℕ
+  s = f.checked.file.bytes.now
+
   view : ExpressionView s e
-  view = expression-view s read.known.checked e read.below
+  view = expression-view s f.checked.checked e (omega (arith, read.known, expressions_are f.checked.file.laid))
 
   kind_is : (part_of s e).kind ≡ p.kind
   kind_is = ap (λ q. q.kind) (sym read.same)
@@ -50,47 +50,56 @@ module _ {s : List ℕ} {offset e : ℕ} {p : Part} (read : ReadExpression s off
   abbrev levels : ℕ → ℕ → Bool
   levels k i = reads (names_of s) (expression_of s k) i
 
-  pub at_constant : p.kind ≡ 0 → LevelsAt s e 0
+  pub at_constant : 0 ≡ p.kind → LevelsAt s e 0
   unfolding reads
   at_constant n i h =
-      has_zero i ∙ sym (ap (λ x. reads (names_of s) x i) (constant_is s e view (kind_is ∙ n)).1)
+      has_zero i ∙ sym (ap (λ x. reads (names_of s) x i) (constant_is s e view (kind_is ∙ sym n)).1)
 
-  module _ (n : p.kind ≡ 1) where
-    pub register_known : p.a < name_count s
-    register_known = omega (arith, (register_is s e view (kind_is ∙ n)).0.known, a_is)
+  module _ (n : 1 ≡ p.kind) where
+    pub register_known : p.a < f.checked.file.layout.names
+    register_known = omega (arith, (register_is s e view (kind_is ∙ sym n)).0.known, a_is, names_are f.checked.file.laid)
 
-    pub at_register :
-        {x : Name} (set : ℕ) → x ≡ name_of s p.a → IsSet most_levels (eqb x.level) set → LevelsAt s e set
+    pub at_register : (set : ℕ) → LevelAt s p.a set → LevelsAt s e set
     unfolding reads
-    at_register {x} set q one i h =
-        one i h
-        ∙ ap (λ (n : Name). eqb n.level i) (q ∙ ap (name_of s) a_is)
-        ∙ sym (ap (λ x. reads (names_of s) x i) (register_is s e view (kind_is ∙ n)).1)
+    at_register set one i h =
+        one i h ∙ ap (λ x. is_level (names_of s) x i) a_is
+        ∙ sym (ap (λ x. reads (names_of s) x i) (register_is s e view (kind_is ∙ sym n)).1)
 
-  module _ (m : p.kind ≡ 0 → ⊥) (n : p.kind ≡ 1 → ⊥) where
-    pub first_operand : (p.a < e) × (p.a < expression_count s)
+  module _ (n : 8 ≡ p.kind) where
+    pub negated_known : (p.a < e) × (p.a < f.checked.file.layout.expressions)
+    negated_known =
+        let u = operand_is s e view (λ k. omega (arith, kind_is)) (λ k. omega (arith, kind_is)) in
+        (omega (arith, u.part.before, a_is), omega (arith, u.known, a_is, expressions_are f.checked.file.laid))
+
+    pub at_negated : (set : ℕ) → LevelsAt s p.a set → LevelsAt s e set
+    unfolding reads
+    at_negated set a i h =
+        a i h ∙ ap (λ k. levels k i) a_is
+        ∙ sym (ap (λ x. reads (names_of s) x i) (negated_is s e view (kind_is ∙ sym n)))
+
+  -- none of the kinds with fewer operands
+  module _
+      (k : ExpressionKind) (n : expression_number k ≡ p.kind) (m₀ : k ≡ Constant → ⊥) (m₁ : k ≡ Register → ⊥)
+      (m₈ : k ≡ Not → ⊥) where
+    is_not : (other : ExpressionKind) → (k ≡ other → ⊥) → (part_of s e).kind ≡ expression_number other → ⊥
+    is_not other m q = m (expression_kind_is k other (n ∙ sym kind_is ∙ q))
+
+    pub first_operand : (p.a < e) × (p.a < f.checked.file.layout.expressions)
     first_operand =
-        let u = operand_is s e view (λ k. m (sym kind_is ∙ k)) (λ k. n (sym kind_is ∙ k)) in
-        (omega (arith, u.part.before, a_is), omega (arith, u.known, a_is))
+        let u = operand_is s e view (is_not Constant m₀) (is_not Register m₁) in
+        (omega (arith, u.part.before, a_is), omega (arith, u.known, a_is, expressions_are f.checked.file.laid))
 
-  pub at_negated : p.kind ≡ 8 → (set : ℕ) → LevelsAt s p.a set → LevelsAt s e set
-  unfolding reads
-  at_negated n set a i h =
-      a i h ∙ ap (λ k. levels k i) a_is
-      ∙ sym (ap (λ x. reads (names_of s) x i) (negated_is s e view (kind_is ∙ n)))
-
-  module _ (l₀ : p.kind ≡ 0 → ⊥) (l₁ : p.kind ≡ 1 → ⊥) (l₈ : p.kind ≡ 8 → ⊥) where
-    pub second_operand : (p.b < e) × (p.b < expression_count s)
+    pub second_operand : (p.b < e) × (p.b < f.checked.file.layout.expressions)
     second_operand =
-        let u = (binary_is s e view (λ k. l₀ (sym kind_is ∙ k)) (λ k. l₁ (sym kind_is ∙ k)) (λ k. l₈ (sym kind_is ∙ k))).0 in
-        (omega (arith, u.part.before, b_is), omega (arith, u.known, b_is))
+        let u = (binary_is s e view (is_not Constant m₀) (is_not Register m₁) (is_not Not m₈)).0 in
+        (omega (arith, u.part.before, b_is), omega (arith, u.known, b_is, expressions_are f.checked.file.laid))
 
     pub at_binary :
         (left right set : ℕ) → LevelsAt s p.a left → LevelsAt s p.b right →
         IsSet most_levels (λ i. has left i || has right i) set → LevelsAt s e set
     unfolding reads
     at_binary left right set a b union i h =
-        let q = (binary_is s e view (λ k. l₀ (sym kind_is ∙ k)) (λ k. l₁ (sym kind_is ∙ k)) (λ k. l₈ (sym kind_is ∙ k))).1.1 in
+        let q = (binary_is s e view (is_not Constant m₀) (is_not Register m₁) (is_not Not m₈)).1.1 in
         union i h
         ∙ ap₂ ◌||◌ (a i h ∙ ap (λ k. levels k i) a_is) (b i h ∙ ap (λ k. levels k i) b_is)
         ∙ sym (ap (λ x. reads (names_of s) x i) q)

@@ -1,45 +1,36 @@
--- What the walk has where it has read a node: what the children's walks ask, and what each number of children gives.
+-- What the walk has where it has read a node, by how many children it has.
 use mathlib.Core.Path.{◌≡◌, sym, ap, ap₂, ◌∙◌, subst}
 use mathlib.Core.Bool.{◌||◌}
 use mathlib.Core.List.{List, []}
-use Prim.Native.Nat.{ℕ, ◌<◌}
-use native.Mathlib.Omega.{arith}
+use Prim.Native.Nat.{ℕ}
 use Rattle.prelude.specs.Sets.{has}
 use Rattle.prelude.proofs.Sets.{has_zero}
 use Rattle.language.specs.Syntax.{Proc}
 use Rattle.language.specs.RequiredFlows.{tests, writes}
-use Rattle.language.specs.KindGroups.{kind_of, children_of}
+use Rattle.language.specs.KindGroups.{children_of}
+use Rattle.language.specs.declared.process_kinds.ProcessKind.{ProcessKind}
+use Rattle.language.specs.KindNumbers.{process_number}
 use Rattle.layout.specs.declared.parts.Part.{Part}
-use Rattle.layout.specs.Layout.{node_count}
-use Rattle.layout.specs.Entries.{part_of, node}
-use Rattle.fields.specs.Children.{first_child, second_child, child_count}
+use Rattle.fields.specs.Children.{AreChildren}
+use Rattle.fields.specs.declared.children.Children.TheVariants.{None, One, Two}
+use Rattle.script.specs.declared.CheckedFile.{CheckedFile}
+use Rattle.tree.specs.Promises.{IsNodeAt}
 use Rattle.tree.specs.Tree.{names_of, process_of}
-use Rattle.flow.specs.Flow.{IsNodeAt}
-use Rattle.flow.proofs.Shapes.{Children, none, one, two, children, first_below, second_below, kind_is}
+use Rattle.tree.proofs.NodeChildren.{kind_of_node, no_children, one_child, two_children}
 use Rattle.requirements.specs.declared.nodes.Own.{Own}
 use Rattle.requirements.specs.declared.nodes.Effects.{Effects}
 use Rattle.requirements.specs.Nodes.{pair_by}
-use Rattle.requirements.specs.Promises.{Walks, OwnOf, Long, Adds, PartLeaves, pair_flows, PairLeaves, FlowsAt}
+use Rattle.requirements.specs.Promises.{OwnOf, Adds, PartLeaves, pair_flows, PairLeaves, FlowsAt}
 use Rattle.requirements.proofs.Additions.{adds_none, adds_more}
 use Rattle.requirements.proofs.ByKind.{tests_of, writes_of, must_of, pair_of}
 use Rattle.requirements.proofs.NodeEffects.{process_leaves}
 
--- what is known where node k has been read: its part, what it brings itself, and how many children it has
-pub record Read (s : List ℕ) (offset expressions k : ℕ) (p : Part) (own : Own) (m : ℕ) : Type 0 where
-  pub walks : Walks s offset expressions
-  pub at : IsNodeAt s p k
-  pub brings : OwnOf s p own
-  pub count : m ≡ child_count p.kind
-
-module _ {s : List ℕ} {offset expressions k : ℕ} {p : Part} {own : Own} {m : ℕ} (read : Read s offset expressions k p own m) where
-  shape : Children s k
-  shape = children s read.walks.reads.checked k read.at.known
-
-  kind : p.kind ≡ kind_of (process_of s k)
-  kind = ap (λ p. p.kind) read.at.same ∙ kind_is s read.walks.reads.checked k read.at.known
-
-  count_is : m ≡ child_count (part_of s (node s k)).kind
-  count_is = read.count ∙ ap (λ p. child_count p.kind) read.at.same
+-- what is known where node k has been read: its part and its kind, and what it brings itself
+module _
+    (f : CheckedFile) {k : ℕ} {kind : ProcessKind} {p : Part} (at : IsNodeAt f.file.bytes.now kind p k) {own : Own}
+    (brings : OwnOf f.file.bytes.now kind p own) where
+  abbrev s : List ℕ
+  s = f.file.bytes.now
 
   -- what its children have together, where it has these
   module _ (ps : List (Proc ℕ)) (q : children_of (process_of s k) ≡ ps) where
@@ -49,89 +40,53 @@ module _ {s : List ℕ} {offset expressions k : ℕ} {p : Part} {own : Own} {m :
     writes_of_lem : (j : ℕ) → writes_of (names_of s) ps j ≡ writes_of (names_of s) (children_of (process_of s k)) j
     writes_of_lem j = sym (ap (λ ps. writes_of (names_of s) ps j) q)
 
-    pair_of_lem : (i j : ℕ) → pair_of (names_of s) p.kind ps i j ≡ pair_of (names_of s) p.kind (children_of (process_of s k)) i j
-    pair_of_lem i j = sym (ap (λ ps. pair_of (names_of s) p.kind ps i j) q)
+    pair_of_lem :
+        (n i j : ℕ) → pair_of (names_of s) n ps i j ≡ pair_of (names_of s) n (children_of (process_of s k)) i j
+    pair_of_lem n i j = sym (ap (λ ps. pair_of (names_of s) n ps i j) q)
 
     must_of_lem :
         {before after : List ℕ} → Adds before (must_of (names_of s) ps) after →
         Adds before (must_of (names_of s) (children_of (process_of s k))) after
     must_of_lem {before} {after} h = subst (λ ps. Adds before (must_of (names_of s) ps) after) (sym q) h
 
-  -- what the walk asks of a node below k
-  abbrev Asks : ℕ → Type 0
-  Asks j = (j < k) × (j < node_count s)
-
   pub none_leaves :
-      m ≡ 0 → {before after : List ℕ} {r : Effects} → Long before →
-      PartLeaves p.kind own (record { tested = 0; written = 0 }) before after r → FlowsAt s k before after r
-  none_leaves z {before} {after} {r} long h = go shape
-    where
-      go : Children s k → FlowsAt s k before after r
-      go (none n q) =
-          process_leaves kind (read.brings k read.at) (λ i l. has_zero i ∙ tests_of_lem [] q i)
-          (λ j l. has_zero j ∙ writes_of_lem [] q j)
-          (λ i j hi hj. pair_of_lem [] q i j)
-          (must_of_lem [] q (adds_none long))
-          h
-      go (one n q a) = absurd (omega (arith, count_is))
-      go (two n q a b) = absurd (omega (arith, count_is))
+      AreChildren p None → {before after : List ℕ} {r : Effects} →
+      PartLeaves (process_number kind) own (record { tested = 0; written = 0 }) before after r →
+      FlowsAt s k before after r
+  none_leaves a h =
+      let q = no_children f at a in
+      process_leaves (kind_of_node f at) (brings k at) (λ i l. has_zero i ∙ tests_of_lem [] q i)
+      (λ j l. has_zero j ∙ writes_of_lem [] q j)
+      (λ i j hi hj. pair_of_lem [] q (process_number kind) i j)
+      (must_of_lem [] q adds_none)
+      h
 
-  module _ {i : ℕ} (first-child : i ≡ first_child p) where
-    first_same : i ≡ first_child (part_of s (node s k))
-    first_same = first-child ∙ ap first_child read.at.same
+  pub one_leaves :
+      {i : ℕ} → AreChildren p (One i) → {before middle after : List ℕ} {first r : Effects} →
+      FlowsAt s i before middle first → PartLeaves (process_number kind) own first middle after r →
+      FlowsAt s k before after r
+  one_leaves a first h =
+      let q = one_child f at a in
+      process_leaves (kind_of_node f at) (brings k at) (λ i l. first.tested i l ∙ tests_of_lem _ q i)
+      (λ j l. first.written j l ∙ writes_of_lem _ q j)
+      (λ i j hi hj. pair_of_lem _ q (process_number kind) i j)
+      (must_of_lem _ q first.flows)
+      h
 
-    pub first_asks : (m ≡ 0 → ⊥) → Asks i
-    first_asks n =
-        let l = first_below s k shape (λ z. n (count_is ∙ z)) in
-        (omega (arith, first_same, l), omega (arith, first_same, l, read.at.known))
-
-    pub one_leaves :
-        m ≡ 1 → {before middle after : List ℕ} {first r : Effects} → FlowsAt s i before middle first →
-        PartLeaves p.kind own first middle after r → FlowsAt s k before after r
-    one_leaves z {before} {middle} {after} {first} {r} a h =
-        go shape (subst (λ i. FlowsAt s i before middle first) first_same a)
-      where
-        go : Children s k → FlowsAt s (first_child (part_of s (node s k))) before middle first → FlowsAt s k before after r
-        go (none n q) a = absurd (omega (arith, count_is))
-        go (one n q u) a =
-            process_leaves kind (read.brings k read.at) (λ i l. a.tested i l ∙ tests_of_lem _ q i)
-            (λ j l. a.written j l ∙ writes_of_lem _ q j)
-            (λ i j hi hj. pair_of_lem _ q i j)
-            (must_of_lem _ q a.flows)
-            h
-        go (two n q u v) a = absurd (omega (arith, count_is))
-
-    module _ {j : ℕ} (second-child : j ≡ second_child p) (n₀ : m ≡ 0 → ⊥) (n₁ : m ≡ 1 → ⊥) where
-      second_same : j ≡ second_child (part_of s (node s k))
-      second_same = second-child ∙ ap second_child read.at.same
-
-      pub second_asks : Asks j
-      second_asks =
-          let l = second_below s k shape (λ z. n₀ (count_is ∙ z)) (λ z. n₁ (count_is ∙ z)) in
-          (omega (arith, second_same, l), omega (arith, second_same, l, read.at.known))
-
-      pub two_leaves :
-          {before middle later after : List ℕ} {first second r : Effects} → FlowsAt s i before middle first →
-          FlowsAt s j middle later second → PairLeaves p.kind own first second later after r →
-          FlowsAt s k before after r
-      two_leaves {before} {middle} {later} {after} {first} {second} {r} a b h =
-          go shape (subst (λ i. FlowsAt s i before middle first) first_same a)
-          (subst (λ j. FlowsAt s j middle later second) second_same b)
-        where
-          go :
-              Children s k → FlowsAt s (first_child (part_of s (node s k))) before middle first →
-              FlowsAt s (second_child (part_of s (node s k))) middle later second → FlowsAt s k before after r
-          go (none n q) a b = absurd (n₀ (count_is ∙ n))
-          go (one n q u) a b = absurd (n₁ (count_is ∙ n))
-          go (two n q u v) a b =
-              process_leaves kind (read.brings k read.at) {pair = pair_flows p.kind first second}
-              (λ i l. ap₂ ◌||◌ (a.tested i l) (b.tested i l) ∙ tests_of_lem _ q i)
-              (λ j l. ap₂ ◌||◌ (a.written j l) (b.written j l) ∙ writes_of_lem _ q j)
-              (λ i j hi hj.
-              ap₂ (λ t w. pair_by p.kind t w (has second.tested i) (has second.written j)) (a.tested i hi)
-              (a.written j hj)
-              ∙ ap₂ (pair_by p.kind (tests (names_of s) (process_of s (first_child (part_of s (node s k)))) i) (writes (names_of s) (process_of s (first_child (part_of s (node s k)))) j)) (b.tested i hi)
-              (b.written j hj)
-              ∙ pair_of_lem _ q i j)
-              (must_of_lem _ q (adds_more a.flows b.flows))
-              h
+  pub two_leaves :
+      {i j : ℕ} → AreChildren p (Two i j) → {before middle later after : List ℕ} {first second r : Effects} →
+      FlowsAt s i before middle first → FlowsAt s j middle later second →
+      PairLeaves (process_number kind) own first second later after r → FlowsAt s k before after r
+  two_leaves {i = x} {j = y} children {first = first} {second} a b h =
+      let q = two_children f at children in
+      let n = process_number kind in
+      process_leaves (kind_of_node f at) (brings k at) {pair = pair_flows n first second}
+      (λ i l. ap₂ ◌||◌ (a.tested i l) (b.tested i l) ∙ tests_of_lem _ q i)
+      (λ j l. ap₂ ◌||◌ (a.written j l) (b.written j l) ∙ writes_of_lem _ q j)
+      (λ i j hi hj.
+      ap₂ (λ t w. pair_by n t w (has second.tested i) (has second.written j)) (a.tested i hi) (a.written j hj)
+      ∙ ap₂ (pair_by n (tests (names_of s) (process_of s x) i) (writes (names_of s) (process_of s x) j)) (b.tested i hi)
+      (b.written j hj)
+      ∙ pair_of_lem _ q n i j)
+      (must_of_lem _ q (adds_more a.flows b.flows))
+      h

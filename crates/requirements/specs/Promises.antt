@@ -1,28 +1,20 @@
 -- The flows that a checked script needs, as sets of levels: what the walk asks and gives, no part of what is promised.
-use Rattle.std.specs.Prelude.{◌≡◌, Bool, false, ◌&&◌, ◌||◌, List, ℕ, ◌<◌, get_or, length}
+use Rattle.std.specs.Prelude.{◌≡◌, Bool, false, ◌&&◌, ◌||◌, List, ℕ, ◌<◌, get_or}
 use Rattle.prelude.specs.Sets.{has, IsSet}
 use Rattle.book.specs.LevelBook.{most_levels}
 use Rattle.language.specs.Syntax.{Names, Proc}
-use Rattle.language.specs.RequiredFlows.{reads, tests, writes, must_flow}
+use Rattle.language.specs.declared.process_kinds.ProcessKind.{ProcessKind}
+use Rattle.language.specs.RequiredFlows.{is_level, reads, tests, writes, must_flow}
 use Rattle.layout.specs.declared.parts.Part.{Part}
-use Rattle.layout.specs.Layout.{expressions_at, expression_count}
-use Rattle.script.specs.Checked.{Checked, Levelled}
 use Rattle.tree.specs.Tree.{names_of, expression_of, process_of}
-use Rattle.flow.specs.Flow.{IsNodeAt}
+use Rattle.tree.specs.Promises.{IsNodeAt}
 use Rattle.requirements.specs.declared.nodes.Own.{Own}
 use Rattle.requirements.specs.declared.nodes.Effects.{Effects}
 use Rattle.requirements.specs.Nodes.{own_reads, own_name, tested_by, written_by, source_by, target_by, pair_by}
 
--- What the readers of expressions are handed: a checked script, whose levels a full book has, and where its parts begin.
-pub record Reads (s : List ℕ) (offset : ℕ) : Type 0 where
-  pub checked : Checked s
-  pub levelled : Levelled s most_levels
-  pub start : offset ≡ expressions_at s
-
--- What the walk is handed: also how many expressions there are.
-pub record Walks (s : List ℕ) (offset e : ℕ) : Type 0 where
-  pub reads : Reads s offset
-  pub expressions : e ≡ expression_count s
+-- the level of name x
+abbrev pub LevelAt : List ℕ → ℕ → ℕ → Type 0
+LevelAt s x set = IsSet most_levels (is_level (names_of s) x) set
 
 -- the levels of the registers of expression e
 abbrev pub LevelsAt : List ℕ → ℕ → ℕ → Type 0
@@ -33,17 +25,12 @@ pub record Brings (names : Names ℕ) (p : Proc ℕ) (own : Own) : Type 0 where
   pub read : IsSet most_levels (own_reads names p) own.read
   pub name : IsSet most_levels (own_name names p) own.name
 
--- what a node with these bytes brings itself
-abbrev pub OwnOf : List ℕ → Part → Own → Type 0
-OwnOf s p own = (k : ℕ) → IsNodeAt s p k → Brings (names_of s) (process_of s k) own
-
--- a set for each level: that a lent array has its length is in its type, but no function is told so
-abbrev pub Long : List ℕ → Type 0
-Long flows = length flows ≡ most_levels
+-- what a node of this kind with these bytes brings itself
+abbrev pub OwnOf : List ℕ → ProcessKind → Part → Own → Type 0
+OwnOf s kind p own = (k : ℕ) → IsNodeAt s kind p k → Brings (names_of s) (process_of s k) own
 
 -- the flows are those before and those of f
 pub record Adds (before : List ℕ) (f : ℕ → ℕ → Bool) (after : List ℕ) : Type 0 where
-  pub long : Long after
   pub each :
       (i j : ℕ) → i < most_levels → j < most_levels → has (get_or after i 0) j ≡ (has (get_or before i 0) j || f i j)
 

@@ -2,7 +2,7 @@
 // flow. One walk over the tree of a checked script, with sets of levels as numbers.
 #![tactic(auto)]
 
-mod script; // script.rt: a checked script, and the levels of its names and expressions
+mod levelled; // levelled.rt: a checked script, and the levels of its names and expressions
 mod own; // own.rt: what a node brings itself
 pub mod nodes; // nodes.rt: what a node has, from what its children have
 pub mod table; // table.rt: the flows found so far
@@ -13,17 +13,20 @@ ghost use Rattle.book.specs.LevelBook.{most_levels};
 ghost use Rattle.script.specs.Checked.{Levelled};
 ghost use Rattle.requirements.specs.Flows.{flows_of};
 
-use crate::script::LevelledScript;
+use crate::levelled::LevelledScript;
 use crate::table::FlowTable;
-use ::script::CheckedFile;
 use book::Book;
+use script::CheckedFile;
 
 // The flows of a checked script, whose levels a full book has.
 pub fn find_flows(checked: &CheckedFile<'_>) -> [u16; Book::MAX_LEVELS]
     requires { Levelled checked.now.file.bytes.now most_levels }
     ensures { result ≡ flows_of checked.now.file.bytes.now }
 {
-    let mut flows = FlowTable::new();
-    LevelledScript { checked }.flows_at(&mut flows, checked.file.layout.nodes - 1);
+    let mut flows = FlowTable {
+        sets: [0; Book::MAX_LEVELS],
+    };
+    let script = LevelledScript { checked: *checked };
+    script.flows_at(&mut flows, checked.file.layout.nodes - 1);
     flows.between_others()
 }

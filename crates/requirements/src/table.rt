@@ -1,11 +1,12 @@
 // The flows found so far: for each level the set of the levels to which it must be let flow.
-ghost use Rattle.std.specs.Prelude.{◌≡◌, not, ◌&&◌, eqb, get_or, replicate, length, ◌<◌};
+ghost use Rattle.std.specs.Prelude.{◌≡◌, not, ◌&&◌, eqb, get_or, length, ◌<◌};
 ghost use Rattle.prelude.specs.Sets.{has, set_of};
 ghost use Rattle.prelude.specs.Table.{table};
 ghost use Rattle.book.specs.LevelBook.{most_levels};
 ghost use Rattle.requirements.specs.Promises.{Adds};
 
 use book::{Book, sets};
+use prelude::set;
 
 // For each level a set of levels.
 #[derive(Clone, Copy)]
@@ -15,11 +16,12 @@ pub struct FlowTable {
 }
 
 // The set without level i.
+#[tactic(auto, using(crate::proofs::Others::taken, crate::proofs::Others::left))]
 fn others(set: u16, i: usize) -> u16
     requires { i < most_levels }
     ensures { result ≡ set_of (λ j. not (eqb i j) && has set j) most_levels }
 {
-    if sets::has(set, i) {
+    if set::has(u64::from(set), i) {
         sets::without(set, i)
     } else {
         set
@@ -27,15 +29,6 @@ fn others(set: u16, i: usize) -> u16
 }
 
 impl FlowTable {
-    // No flows.
-    pub fn new() -> FlowTable
-        ensures { result.sets ≡ replicate most_levels 0 }
-    {
-        FlowTable {
-            sets: [0; Book::MAX_LEVELS],
-        }
-    }
-
     // Adds the flows from each level of `from` to each level of `to`.
     #[tactic(auto, using(crate::proofs::Additions::lowest_below, crate::proofs::Additions::lowest_in))]
     pub fn add(&mut self, from: u16, to: u16)

@@ -2,8 +2,8 @@
 ghost use Rattle.std.specs.Prelude.{◌<◌};
 ghost use Rattle.requirements.specs.Promises.{FlowsAt};
 
+use crate::levelled::LevelledScript;
 use crate::nodes::{Effects, node_flows, pair_flows};
-use crate::script::LevelledScript;
 use crate::table::FlowTable;
 use fields::children::{Children, children_of};
 use language::process_kinds::ProcessKind;
@@ -11,8 +11,8 @@ use language::process_kinds::ProcessKind;
 impl LevelledScript<'_> {
     // The levels that node k tests and writes; the flows that it and all under it need are added.
     pub fn flows_at(&self, flows: &mut FlowTable, k: usize) -> Effects
-        requires { k < self.now.checked.now.file.layout.nodes }
-        ensures { FlowsAt self.now.checked.now.file.bytes.now k flows.old.sets flows.new.sets result }
+        requires { k < self.now.checked.file.layout.nodes }
+        ensures { FlowsAt self.now.checked.file.bytes.now k flows.old.sets flows.new.sets result }
     {
         let file = &self.checked.file;
         let p = file.part(file.layout.expressions + k);

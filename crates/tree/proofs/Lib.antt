@@ -5,6 +5,7 @@ pub mod Scoping
 pub mod Declaring
 pub mod NodeKinds
 pub mod Shapes
+pub mod NodeChildren
 pub mod NodeCounts
 pub mod NodeSizes
 pub mod Theorems

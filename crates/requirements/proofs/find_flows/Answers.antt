@@ -1,9 +1,8 @@
 -- `find_flows`: what the walk adds of the last node is what the whole script needs.
-use mathlib.Core.Path.{◌≡◌, refl, ap, ◌∙◌}
+use mathlib.Core.Path.{◌≡◌, ap, ◌∙◌}
 use mathlib.Core.Bool.{not, ◌&&◌}
 use mathlib.Core.List.{List}
 use Prim.Native.Nat.{ℕ, ◌-◌, ◌<◌}
-use native.Mathlib.Omega.{arith}
 use lib.Dec.{eqb}
 use lib.ListN.{get_or, get_or-replicate}
 use Rattle.prelude.specs.Sets.{has, set_of}
@@ -13,7 +12,7 @@ use Rattle.prelude.proofs.Tables.{table_same}
 use Rattle.book.specs.LevelBook.{most_levels}
 use Rattle.language.specs.RequiredFlows.{must_flow}
 use Rattle.layout.specs.Layout.{node_count}
-use Rattle.layout.proofs.Layouts.{few_bounds, nodes_are}
+use Rattle.layout.proofs.Layouts.{nodes_are}
 use Rattle.tree.specs.Tree.{names_of, process_of}
 use Rattle.requirements.specs.Flows.{flows_to, flows_of}
 use Rattle.requirements.specs.Promises.{Adds}
@@ -31,21 +30,8 @@ flows-are s none h e =
     ap (λ b. not (eqb i j) && b)
     (adds_first none h i j hi hj ∙ ap (λ k. must_flow (names_of s) (process_of s k) i j) e)))
 
-pub overflow_sub-c : goal.overflow_sub-c
-overflow_sub-c c = omega (arith, (few_bounds c.args.c c.requires.0.few).1.1.0)
-
-pub flows_at-requires : goal.flows_at-requires
-flows_at-requires c =
-    let same = c.requires.0.same in (
-      record {
-        reads = record { checked = c.requires.1.0; levelled = c.requires.1.1; start = ap (λ z. z.offset) same };
-        expressions = ap (λ z. z.expressions) same;
-      },
-      (omega (arith, (few_bounds c.args.c c.requires.0.few).1.1.0, nodes_are c.requires.0), refl),
-    )
-
 pub returns : goal.returns
 returns c =
+    let f = c.args.checked.now.file in
     c.between_others.ensures
-    ∙ flows-are c.args.s.now (λ i hi. get_or-replicate most_levels i 0 0 hi) c.flows_at.ensures.flows
-    (ap (λ n. n - 1) (nodes_are c.requires.0))
+    ∙ flows-are f.bytes.now (λ i hi. get_or-replicate most_levels i 0 0 hi) c.flows_at.ensures.flows (ap (λ n. n - 1) (nodes_are f.laid))

@@ -9,7 +9,8 @@ use Rattle.language.specs.declared.process_kinds.ProcessKind.{ProcessKind}
 use Rattle.language.specs.KindNumbers.{process_number}
 use Rattle.script.specs.declared.CheckedFile.{CheckedFile}
 use Rattle.tree.specs.Promises.{IsNodeAt}
-use Rattle.flow.proofs.NodeReads.{one_before, first_before, second_before, found_none, found_one, found_two}
+use Rattle.tree.proofs.NodeChildren.{one_before, first_before, second_before}
+use Rattle.flow.proofs.NodeReads.{found_none, found_one, found_two}
 use Rattle.flow.proofs.levelled.LevelledScript.+flow_at.Goals as goal
 
 -- the part that was read is that of node k
@@ -34,7 +35,7 @@ returns-in-None t c =
 pub flow_at-part-requires : goal.flow_at-part-requires
 flow_at-part-requires t c =
     let f = c.args.self.now.checked in
-    let b = one_before f c.args.self.now.levels.book (read f c.requires c.part-p.ensures.part c.from_number-kind.ensures) (c.in-One.ensures) in
+    let b = one_before f (read f c.requires c.part-p.ensures.part c.from_number-kind.ensures) (c.in-One.ensures) in
     (omega (arith, b.0), b.1)
 
 pub returns-in-One : goal.returns-in-One
@@ -47,13 +48,13 @@ returns-in-One t c =
 pub flow_at-first-requires : goal.flow_at-first-requires
 flow_at-first-requires t c =
     let f = c.args.self.now.checked in
-    let b = first_before f c.args.self.now.levels.book (read f c.requires c.part-p.ensures.part c.from_number-kind.ensures) (c.in-Two.ensures) in
+    let b = first_before f (read f c.requires c.part-p.ensures.part c.from_number-kind.ensures) (c.in-Two.ensures) in
     (omega (arith, b.0), b.1)
 
 pub flow_at-second-requires : goal.flow_at-second-requires
 flow_at-second-requires t c =
     let f = c.args.self.now.checked in
-    let b = second_before f c.args.self.now.levels.book (read f c.requires c.part-p.ensures.part c.from_number-kind.ensures) (c.in-Two.ensures) in
+    let b = second_before f (read f c.requires c.part-p.ensures.part c.from_number-kind.ensures) (c.in-Two.ensures) in
     (omega (arith, b.0), b.1)
 
 pub returns-in-Two : goal.returns-in-Two

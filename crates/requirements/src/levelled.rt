@@ -10,23 +10,23 @@ use script::CheckedFile;
 
 #[derive(Clone, Copy)]
 pub struct LevelledScript<'a> {
-    pub checked: &'a CheckedFile<'a>,
-    ghost levelled: { Levelled checked.now.file.bytes.now most_levels },
+    pub checked: CheckedFile<'a>,
+    ghost levelled: { Levelled checked.file.bytes.now most_levels },
 }
 
 impl LevelledScript<'_> {
     // The level of name x.
     pub fn name_level(&self, x: usize) -> u16
-        requires { x < self.now.checked.now.file.layout.names }
-        ensures { LevelAt self.now.checked.now.file.bytes.now x result }
+        requires { x < self.now.checked.file.layout.names }
+        ensures { LevelAt self.now.checked.file.bytes.now x result }
     {
         sets::only(self.checked.file.name(x).level)
     }
 
     // The levels of the registers of expression e.
     pub fn levels_of(&self, e: usize) -> u16
-        requires { e < self.now.checked.now.file.layout.expressions }
-        ensures { LevelsAt self.now.checked.now.file.bytes.now e result }
+        requires { e < self.now.checked.file.layout.expressions }
+        ensures { LevelsAt self.now.checked.file.bytes.now e result }
     {
         let part = self.checked.file.part(e);
         match ExpressionKind::from_number(part.kind) {
