@@ -3,13 +3,15 @@
 
 pub mod list; // list.rt: refusal 15, the list of signals
 
-ghost use Rattle.std.specs.Prelude.{◌≡◌, ◌+◌, ◌*◌, ◌≤◌, ◌<◌, length};
+ghost use Rattle.std.specs.Prelude.{◌≡◌, not, ◌+◌, ◌*◌, ◌≤◌, ◌<◌, length};
 ghost use Rattle.layout.specs.Promises.{Laid};
-ghost use Rattle.arguments.specs.Refusals.{value_is_right, values_refusal, call_refusal, first_wrong};
+ghost use Rattle.prelude.specs.Promises.{found, outcome};
+ghost use Rattle.arguments.specs.Refusals.{value_is_right, values_refusal, call_refusal};
 ghost use Rattle.arguments.specs.Promises.{Listed};
 
 use layout::Script;
 use prelude::Refusal;
+use prelude::search::first;
 
 // The most steps that a call may allow.
 pub const MAX_STEPS: u32 = 1000000;
@@ -30,47 +32,30 @@ fn value_is_right(s: &[u8], values: &[i32], x: usize) -> bool
     name.kind != 1 || v == 1
 }
 
-// The first name with a wrong value, or the number of names.
-fn first_wrong(s: &[u8], c: Script, values: &[i32]) -> usize
+// The first name with a wrong value.
+fn first_wrong(s: &[u8], c: Script, values: &[i32]) -> Option<usize>
     requires { Listed s.now c values.now }
-    ensures { result ≡ first_wrong s.now values.now }
+    ensures { result ≡ found (λ x. not (value_is_right s.now values.now x)) c.names }
 {
-    let n = c.names;
-    let mut x: usize = 0;
-    while x < n {
-        if !value_is_right(s, values, x) {
-            return x;
-        }
-        x += 1;
-    }
-    n
+    first(c.names, |x| !value_is_right(s, values, x))
 }
 
-fn values_refusal(s: &[u8], c: Script, values: &[i32]) -> Refusal
+// Row 13: each name has a value, and a right one.
+fn check_values(s: &[u8], c: Script, values: &[i32]) -> Result<(), Refusal>
     requires { Laid s.now c }
-    ensures { result ≡ values_refusal s.now values.now }
+    ensures { result ≡ outcome (values_refusal s.now values.now) tt }
 {
     if values.len() != c.names {
-        return Refusal {
-            number: 13,
-            place: 0,
-        };
+        return Err(Refusal::at(13, 0));
     }
-    let wrong = first_wrong(s, c, values);
-    if wrong < c.names {
-        return Refusal {
-            number: 13,
-            place: wrong as u32,
-        };
-    }
-    Refusal {
-        number: 0,
-        place: 0,
+    match first_wrong(s, c, values) {
+        Some(x) => Err(Refusal::at(13, x)),
+        None => Ok(()),
     }
 }
 
-// The refusal of a call whose book, of so many levels, and script are not refused.
-pub fn call_refusal(
+// What is asked of a call whose book, of so many levels, and script are not refused.
+pub fn check_call(
     s: &[u8],
     c: Script,
     levels: usize,
@@ -78,25 +63,16 @@ pub fn call_refusal(
     values: &[i32],
     limit: u32,
     list: &[u32],
-) -> Refusal
+) -> Result<(), Refusal>
     requires { Laid s.now c }
-    ensures { result ≡ call_refusal levels s.now reader values.now limit list.now }
+    ensures { result ≡ outcome (call_refusal levels s.now reader values.now limit list.now) tt }
 {
     if levels <= (reader as usize) {
-        return Refusal {
-            number: 12,
-            place: 0,
-        };
+        return Err(Refusal::at(12, 0));
     }
-    let refusal = values_refusal(s, c, values);
-    if refusal.number != 0 {
-        return refusal;
-    }
+    check_values(s, c, values)?;
     if MAX_STEPS < limit {
-        return Refusal {
-            number: 14,
-            place: 0,
-        };
+        return Err(Refusal::at(14, 0));
     }
-    list::list_refusal(s, c, list)
+    list::check_list(s, c, list)
 }

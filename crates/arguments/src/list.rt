@@ -1,12 +1,14 @@
 // Refusal 15: the list of signals.
-ghost use Rattle.std.specs.Prelude.{◌≡◌};
+ghost use Rattle.std.specs.Prelude.{◌≡◌, not};
 ghost use Rattle.prelude.specs.Search.{lesser};
 ghost use Rattle.layout.specs.Promises.{Laid};
 ghost use Rattle.inputs.specs.Lists.{pairs_begun};
-ghost use Rattle.arguments.specs.Refusals.{is_session_signal, pair_is_right, first_faulty, last_place, list_refusal};
+ghost use Rattle.prelude.specs.Promises.{found, outcome};
+ghost use Rattle.arguments.specs.Refusals.{is_session_signal, pair_is_right, last_place, list_refusal};
 
 use layout::Script;
 use prelude::Refusal;
+use prelude::search::first;
 
 // The greatest place that 32 bits hold.
 const LAST_PLACE: usize = 4294967295;
@@ -51,42 +53,28 @@ fn pairs_begun(list: &[u32]) -> usize
     list.len() / 2 + list.len() % 2
 }
 
-// The first pair at fault, or the number of pairs.
-fn first_faulty(s: &[u8], c: Script, list: &[u32]) -> usize
+// The first pair at fault.
+fn first_faulty(s: &[u8], c: Script, list: &[u32]) -> Option<usize>
     requires { Laid s.now c }
-    ensures { result ≡ first_faulty s.now list.now }
+    ensures { result ≡ found (λ k. not (pair_is_right s.now list.now k)) (pairs_begun list.now) }
 {
-    let n = pairs_begun(list);
-    let mut k: usize = 0;
-    while k < n {
-        if !pair_is_right(s, c, list, k) {
-            return k;
-        }
-        k += 1;
-    }
-    n
+    first(pairs_begun(list), |k| !pair_is_right(s, c, list, k))
 }
 
-// The place of pair k.
-fn place_of(k: usize) -> u32
+// The place of pair k: 32 bits hold no greater one.
+fn place_of(k: usize) -> usize
     ensures { result ≡ lesser k last_place }
 {
-    prelude::lesser(k, LAST_PLACE) as u32
+    k.min(LAST_PLACE)
 }
 
-pub fn list_refusal(s: &[u8], c: Script, list: &[u32]) -> Refusal
+// Row 15: every pair is right.
+pub fn check_list(s: &[u8], c: Script, list: &[u32]) -> Result<(), Refusal>
     requires { Laid s.now c }
-    ensures { result ≡ list_refusal s.now list.now }
+    ensures { result ≡ outcome (list_refusal s.now list.now) tt }
 {
-    let k = first_faulty(s, c, list);
-    if k < pairs_begun(list) {
-        return Refusal {
-            number: 15,
-            place: place_of(k),
-        };
-    }
-    Refusal {
-        number: 0,
-        place: 0,
+    match first_faulty(s, c, list) {
+        Some(k) => Err(Refusal::at(15, place_of(k))),
+        None => Ok(()),
     }
 }
