@@ -13,8 +13,3 @@ pub record ListRight (s list : List ℕ) : Type 0 where
   pub known : (k : ℕ) → k < pair_count list → signal_at list k < name_count s
   pub signals : (k : ℕ) → k < pair_count list → (names_of s).is_signal (signal_at list k) ≡ true
   pub session : (k : ℕ) → k < pair_count list → (names_of s).is_session (signal_at list k) ≡ true
-
--- a file with its layout, and a value for each of its names
-pub record Listed (s : List ℕ) (c : Script) (values : List ℤ) : Type 0 where
-  pub laid : Laid s c
-  pub named : length values ≡ c.names

@@ -18,21 +18,21 @@ use Rattle.arguments.proofs.check_values.Goals.{After-first_wrong}
 -- what was found, by the definition
 searched :
     (c : After-first_wrong) →
-    c.first_wrong.result ≡ found (λ x. not (value_is_right c.args.s.now c.args.values.now x)) (name_count c.args.s.now)
-searched c = c.first_wrong.ensures ∙ ap (found _) (names_are c.requires)
+    c.first_wrong.result ≡ found (λ x. not (value_is_right c.args.file.now.bytes.now c.args.values.now x)) (name_count c.args.file.now.bytes.now)
+searched c = c.first_wrong.ensures ∙ ap (found _) (names_are c.args.file.now.laid)
 
 -- each name has a value
-counted : (c : After-first_wrong) → eqb (length c.args.values.now) (name_count c.args.s.now) ≡ true
-counted c = eq-eqb _ _ (c.if-values-c.false ∙ names_are c.requires)
+counted : (c : After-first_wrong) → eqb (length c.args.values.now) (name_count c.args.file.now.bytes.now) ≡ true
+counted c = eq-eqb _ _ (c.if-values-file.false ∙ names_are c.args.file.now.laid)
 
-pub returns-then-values-c : goal.returns-then-values-c
+pub returns-then-values-file : goal.returns-then-values-file
 unfolding values_refusal
-returns-then-values-c c =
-    rw (c.at.ensures, ne_eqb _ _ (λ e. c.if-values-c.true (e ∙ sym (names_are c.requires)))) refl
+returns-then-values-file c =
+    rw (c.at.ensures, ne_eqb _ _ (λ e. c.if-values-file.true (e ∙ sym (names_are c.args.file.now.laid)))) refl
 
 pub at-requires-in-Some : goal.at-requires-in-Some
 at-requires-in-Some c =
-    omega (arith, (found_some _ _ (sym c.first_wrong.ensures ∙ c.in-Some.is)).0, (few_bounds c.args.c c.requires.few).0)
+    omega (arith, (found_some _ _ (sym c.first_wrong.ensures ∙ c.in-Some.is)).0, (few_bounds c.args.file.now.layout c.args.file.now.laid.few).0)
 
 pub returns-in-Some : goal.returns-in-Some
 unfolding values_refusal
