@@ -17,17 +17,15 @@ use runner::Ran;
 pub fn check(book: &[u8], script: &[u8]) -> Verdict
     ensures { result ≡ verdict book.now script.now }
 {
-    let p = checker::prepare(book, script);
-    if p.refusal.number != 0 {
-        return Verdict::from(p.refusal);
-    }
-    let moves = bound::find_bound(script, p.script);
-    Verdict {
-        number: p.refusal.number,
-        place: p.refusal.place,
-        write: p.write as u32,
-        test: p.test as u32,
-        moves,
+    match checker::prepare(book, script) {
+        Ok(p) => Verdict {
+            number: 0,
+            place: 0,
+            write: p.write as u32,
+            test: p.test as u32,
+            moves: bound::find_bound(&p.checked.file),
+        },
+        Err(refusal) => Verdict::from(refusal),
     }
 }
 
@@ -36,46 +34,57 @@ pub fn check(book: &[u8], script: &[u8]) -> Verdict
 pub fn flows(script: &[u8]) -> Flows
     ensures { result ≡ flows_found script.now }
 {
-    let read = script::load(script, Book::MAX_LEVELS);
-    let number = read.refusal.number;
-    let place = read.refusal.place;
-    if number != 0 {
-        return Flows {
-            number,
-            place,
-            to: [0u16; Book::MAX_LEVELS],
-        };
+    match script::load(script, Book::MAX_LEVELS) {
+        Ok(checked) => Flows {
+            number: 0,
+            place: 0,
+            to: requirements::find_flows(&checked),
+        },
+        Err(refusal) => Flows::from(refusal),
     }
-    let to = requirements::find_flows(script, read.script);
-    Flows { number, place, to }
 }
 
 // Runs a script that no row of the table refuses, from its start. Owned names are then 0.
 fn run_checked(
-    s: &[u8],
-    c: Script,
-    b: Book,
+    checked: &CheckedFile<'_>,
+    b: &Book,
     reader: usize,
     values: &mut [i32],
     limit: u32,
     list: &[u32],
     log: &mut [u32],
 ) -> Ran
-    requires { CanStart s.now c b reader values.old limit list.now }
-    ensures { Returns (run_for b s.now reader values.old limit list.now log.old) log.old result values.new log.new }
+    requires { CanStart checked.now.file.bytes.now b.now reader values.old limit list.now }
+    ensures { Returns (run_for b.now checked.now.file.bytes.now reader values.old limit list.now log.old) log.old result values.new log.new }
 {
-    let program = plan::find_plan(s, c, b, reader);
+    let program = plan::find_plan(checked, b, reader);
     let mut state = [0u8; Script::MAX_NODES];
-    let n = c.nodes;
-    let most = limit as usize;
     let from = Counts {
         steps: 0,
         instants: 0,
         lines: 0,
     };
-    let r = runner::run(&program, values, &mut state[0..n], list, log, most, from);
+    let part = &mut state[..checked.file.layout.nodes];
+    let ran = runner::run(&program, values, part, list, log, limit as usize, from);
     instants::clear_owned(&program, values);
-    r
+    ran
+}
+
+// What is to be run: a book and a script that no row refuses, for a call that none refuses.
+fn admit<'a>(
+    book: &[u8],
+    script: &'a [u8],
+    reader: u32,
+    values: &[i32],
+    limit: u32,
+    list: &[u32],
+) -> Result<Prepared<'a>, Refusal>
+    ensures { Answers (run_refusal book.now script.now reader values.now limit list.now) (Prepares book.now script.now) result }
+{
+    let prepared = checker::prepare(book, script)?;
+    let levels = prepared.book.count;
+    arguments::check_call(&prepared.checked.file, levels, reader, values, limit, list)?;
+    Ok(prepared)
 }
 
 // Runs a script under a book for a reader, from these values, for at most `limit` steps. The list names signals that are
@@ -94,32 +103,17 @@ pub fn run(
     ensures values_after { values.new ≡ (left book.now script.now reader values.old limit list.now log.old).values }
     ensures log_after { log.new ≡ (left book.now script.now reader values.old limit list.now log.old).log }
 {
-    let p = checker::prepare(book, script);
-    if p.refusal.number != 0 {
-        return RunResult::from(p.refusal);
+    match admit(book, script, reader, values, limit, list) {
+        Ok(p) => {
+            let ran = run_checked(&p.checked, &p.book, reader as usize, values, limit, list, log);
+            let at = ran.at;
+            result_of(
+                u32::from(ran.ending),
+                at.steps as u32,
+                at.instants as u32,
+                at.lines,
+            )
+        }
+        Err(refusal) => RunResult::from(refusal),
     }
-    let refusal = arguments::call_refusal(
-        script,
-        p.script,
-        p.book.count,
-        reader,
-        values,
-        limit,
-        list,
-    );
-    if refusal.number != 0 {
-        return RunResult::from(refusal);
-    }
-    let r = run_checked(
-        script,
-        p.script,
-        p.book,
-        reader as usize,
-        values,
-        limit,
-        list,
-        log,
-    );
-    let at = r.at;
-    result_of(r.ending, at.steps as u32, at.instants as u32, at.lines)
 }
