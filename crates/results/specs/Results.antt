@@ -1,7 +1,8 @@
 -- 'Check returns number, place, W, T', and by 02 (f) the figure. 'Run returns how it ended, steps, instants, lines.' 'A
 -- refusal's other returned numbers are 0; 0 means not refused.' 02 (e): 'for each level the set of other levels'.
-use Rattle.std.specs.Prelude.{List, ℕ, Option, None}
+use Rattle.std.specs.Prelude.{List, ℕ, Option, None, replicate}
 use Rattle.prelude.specs.declared.Refusal.{Refusal}
+use Rattle.book.specs.LevelBook.{most_levels}
 use Rattle.results.specs.declared.Verdict.{Verdict}
 use Rattle.results.specs.declared.RunResult.{RunResult}
 use Rattle.results.specs.declared.Flows.{Flows}
@@ -22,3 +23,6 @@ result_by ending steps instants lines =
 
 abbrev pub flows_by : Refusal → List ℕ → Flows
 flows_by r to = record { number = r.number; place = r.place; to = to }
+
+abbrev pub refused_flows : Refusal → Flows
+refused_flows r = flows_by r (replicate most_levels 0)

@@ -4,7 +4,7 @@
 pub mod words; // words.rt: the answers' words for C
 
 ghost use Rattle.std.specs.Prelude.{◌≡◌, ◌^◌, ◌<◌};
-ghost use Rattle.results.specs.Results.{refused_verdict, refused_result, result_by};
+ghost use Rattle.results.specs.Results.{refused_verdict, refused_result, refused_flows, result_by};
 
 use book::Book;
 use prelude::Refusal;
@@ -65,6 +65,19 @@ impl From<Refusal> for RunResult {
             steps: 0,
             instants: 0,
             lines: 0,
+        }
+    }
+}
+
+impl From<Refusal> for Flows {
+    ghost from_gives = { λ refusal f. f ≡ refused_flows refusal };
+
+    fn from(refusal: Refusal) -> Flows {
+        let Refusal { number, place } = refusal;
+        Flows {
+            number,
+            place,
+            to: [0u16; Book::MAX_LEVELS],
         }
     }
 }
