@@ -1,98 +1,59 @@
--- What each way out of the check has to show.
+-- What a check shows, step by step: a book that passes, a script that passes under it, and the flow that is found.
 use mathlib.Core.Path.{◌≡◌, refl, sym, ap, ◌∙◌, subst}
 use mathlib.Core.Bool.{true, false}
 use mathlib.Core.List.{List}
-use Prim.Native.Nat.{ℕ, ◌≤◌, zero-le}
-use lib.Dec.{ltb}
+use Prim.Native.Nat.{ℕ, ◌≤◌, ◌<◌}
+use borrow.Author.Tests.{lt-ltb, le-ltb}
 use Rattle.prelude.specs.declared.Refusal.{Refusal}
-use Rattle.prelude.specs.Refusals.{refused_by, not_refused, passes}
-use Rattle.prelude.proofs.Bools.{by_cases}
+use Rattle.prelude.specs.Refusals.{refused_by, passes}
 use Rattle.book.specs.declared.Book.{Book}
-use Rattle.book.specs.LevelBook.{most_levels, count}
+use Rattle.book.specs.LevelBook.{count}
 use Rattle.book.specs.Load.{book_of}
 use Rattle.lattice.specs.Refusals as books
-use Rattle.lattice.specs.Lattice.{Lattice, book_lattice}
-use Rattle.language.specs.Levels.{write_level, test_level}
-use Rattle.layout.specs.declared.Script.{Script}
-use Rattle.layout.specs.Layout.{node_count, layout_of}
+use Rattle.lattice.specs.Lattice.{book_lattice}
+use Rattle.layout.specs.Layout.{node_count}
 use Rattle.script.specs.Refusals as scripts
-use Rattle.tree.specs.Tree.{names_of, tree}
 use Rattle.flow.specs.declared.nodes.Flow.{Flow}
-use Rattle.flow.specs.Needs.{first_failing}
-use Rattle.checker.specs.declared.Prepared.{Prepared}
-use Rattle.checker.specs.Refusals.{script_refusal, check_refusal}
-use Rattle.checker.specs.Promises.{refused_with, prepared, with_flow, Prepares}
+use Rattle.flow.specs.Flow.{levels_of, Ordered, FlowOf}
+use Rattle.flow.proofs.Theorems.{books_ordered}
+use Rattle.checker.specs.Refusals.{flow_refusal, check_refusal}
 
--- what is found, part by part
-module _ {R : Refusal} {𝓛 : Lattice ℕ} {B : Book} {s : List ℕ} {r : Prepared} (p : Prepares R 𝓛 B s r) where
-  pub found_refusal : r.refusal ≡ R
-  found_refusal =
-      ap (λ x. x.refusal) p.same
-      ∙ by_cases (λ (x : Prepared). x.refusal ≡ R) (passes R) (λ _. refl) (λ _. refl)
-
-  pub found_book : passes R ≡ true → r.book ≡ B
-  found_book right = ap (λ x. x.book) p.same ∙ rw right
-
-  pub found_layout : passes R ≡ true → r.script ≡ layout_of s
-  found_layout right = ap (λ x. x.script) p.same ∙ rw right
-
--- a refusal
-pub refused_by_lem :
-    {𝓛 : Lattice ℕ} {B : Book} {s : List ℕ} {R given : Refusal} → given ≡ R → passes given ≡ false →
-    Prepares R 𝓛 B s (refused_with given)
-refused_by_lem e f = record { same = ap refused_with e ∙ sym (rw (ap passes (sym e) ∙ f)); few = (zero-le, zero-le) }
-
-pub by_script :
-    (n : ℕ) (𝓛 : Lattice ℕ) (s : List ℕ) {R : Refusal} → R ≡ scripts.refusal s n → passes R ≡ false →
-    R ≡ script_refusal n 𝓛 s
-by_script n 𝓛 s e f = e ∙ sym (rw (ap passes (sym e) ∙ f))
-
-pub by_book : (b s : List ℕ) {R : Refusal} → R ≡ books.refusal b → passes R ≡ false → R ≡ check_refusal b s
-unfolding check_refusal
-by_book b s e f = e ∙ sym (rw (ap passes (sym e) ∙ f))
-
--- the flow that a walk has found, of a script that rows 4 to 10 let through
-pub record Found (𝓛 : Lattice ℕ) (s : List ℕ) (script : Script) (found : Flow) : Type 0 where
-  pub layout : script ≡ layout_of s
-  pub nodes : script.nodes ≡ node_count s
-  pub failing : found.failing ≡ first_failing 𝓛 s
-  pub few : (found.write ≤ most_levels) × (found.test ≤ most_levels)
-  pub write : found.write ≡ write_level 𝓛 (names_of s) (tree s)
-  pub test : found.test ≡ test_level 𝓛 (names_of s) (tree s)
-
-module _ (n : ℕ) (𝓛 : Lattice ℕ) (B : Book) (s : List ℕ) (right : scripts.is_accepted s n ≡ true)
-    (script : Script) (found : Flow) (f : Found 𝓛 s script found) where
-  by_flow : ltb found.failing script.nodes ≡ true → refused_by 11 found.failing ≡ script_refusal n 𝓛 s
-  by_flow l = sym (rw (right, ← f.failing, ← f.nodes, l))
-
-  by_none : ltb found.failing script.nodes ≡ false → not_refused ≡ script_refusal n 𝓛 s
-  by_none l = sym (rw (right, ← f.failing, ← f.nodes, l))
-
-  -- what is found where no node fails
-  abbrev found_so : Prepared
-  found_so = record { refusal = not_refused; book = B; script = script; write = found.write; test = found.test }
-
-  found_is : found_so ≡ prepared not_refused 𝓛 B s
-  found_is = rw (f.layout, f.write, f.test) refl
-
-  pub flow_prepares : Prepares (script_refusal n 𝓛 s) 𝓛 B s (with_flow B script found.write found.test found.failing)
-  flow_prepares =
-      by_cases
-      (λ (r : Prepared). Prepares (script_refusal n 𝓛 s) 𝓛 B s r)
-      (ltb found.failing script.nodes)
-      (λ l. refused_by_lem (by_flow l) refl)
-      (λ l. record { same = subst (λ R. found_so ≡ prepared R 𝓛 B s) (by_none l) found_is; few = f.few })
-
--- under a book that rows 1 to 3 let through
-module _ (b s : List ℕ) (right : books.is_accepted b ≡ true) (B : Book) (same : B ≡ book_of b)
-    (𝓛 : Lattice ℕ) (order : 𝓛 ≡ book_lattice b) (r : Prepared) where
-  rows : script_refusal (count b) (book_lattice b) s ≡ check_refusal b s
+module _ (b s : List ℕ) where
+  pub at_book : {r : Refusal} → passes (books.refusal b) ≡ false → r ≡ books.refusal b → r ≡ check_refusal b s
   unfolding check_refusal
-  rows = sym (rw right)
+  at_book f e = e ∙ sym (rw f refl)
 
-  pub book_prepares :
-      Prepares (script_refusal B.count 𝓛 s) 𝓛 B s r → Prepares (check_refusal b s) (book_lattice b) (book_of b) s r
-  book_prepares p =
-      subst (λ R. Prepares R (book_lattice b) (book_of b) s r) rows
-      (subst (λ (z : Lattice ℕ). Prepares (script_refusal (count b) z s) z (book_of b) s r) order
-      (subst (λ (z : Book). Prepares (script_refusal z.count 𝓛 s) 𝓛 z s r) same p))
+  pub book_refuses : passes (books.refusal b) ≡ false → passes (check_refusal b s) ≡ false
+  unfolding check_refusal
+  book_refuses f = rw f f
+
+  module _ (right : books.is_accepted b ≡ true) (B : Book) (same : B ≡ book_of b) where
+    pub ordered : Ordered (levels_of B)
+    ordered = subst (λ x. Ordered (levels_of x)) (sym same) (books_ordered b right)
+
+    counts : scripts.refusal s B.count ≡ scripts.refusal s (count b)
+    counts = ap (λ (x : Book). scripts.refusal s x.count) same
+
+    pub at_script : {r : Refusal} → passes (scripts.refusal s B.count) ≡ false → r ≡ scripts.refusal s B.count → r ≡ check_refusal b s
+    unfolding check_refusal
+    at_script f e = e ∙ counts ∙ sym (rw (right, ap passes (sym counts) ∙ f) refl)
+
+    pub script_refuses : passes (scripts.refusal s B.count) ≡ false → passes (check_refusal b s) ≡ false
+    unfolding check_refusal
+    script_refuses f = let g = ap passes (sym counts) ∙ f in rw (right, g) g
+
+    module _ (passed : passes (scripts.refusal s B.count) ≡ true) {t : List ℕ} (bytes : t ≡ s) (f : Flow)
+        (found : FlowOf (levels_of B) t f) where
+      -- the flow of the script under the book
+      pub flow : FlowOf (levels_of (book_of b)) s f
+      flow = subst (λ x. FlowOf (levels_of x) s f) same (subst (λ x. FlowOf (levels_of B) x f) bytes found)
+
+      rest : check_refusal b s ≡ flow_refusal (book_lattice b) s
+      unfolding check_refusal
+      rest = rw (right, ap passes (sym counts) ∙ passed) refl
+
+      pub at_node : f.failing < node_count s → check_refusal b s ≡ refused_by 11 f.failing
+      at_node h = rest ∙ rw (← flow.failing, lt-ltb _ _ h) refl
+
+      pub past_nodes : node_count s ≤ f.failing → passes (check_refusal b s) ≡ true
+      past_nodes h = ap passes rest ∙ rw (← flow.failing, le-ltb _ _ h) refl
