@@ -41,7 +41,7 @@ positive c = omega (arith, c.instant_at-instant.ensures, c.if-instant-eq0.false)
 pub returns-then-pair_count-k : goal.returns-then-pair_count-k
 returns-then-pair_count-k c =
     let a = c.args in
-    is-half a.s.now a.list.now a.k (omega (arith, c.pair_count.ensures, c.if-pair_count-k.true))
+    is-half a.file.now.bytes.now a.list.now a.k (omega (arith, c.pair_count.ensures, c.if-pair_count-k.true))
 
 pub instant_at-instant-requires : goal.instant_at-instant-requires
 instant_at-instant-requires c = whole (goal.at.instant_at-instant-requires c).Else-pair_count-k
@@ -49,7 +49,7 @@ instant_at-instant-requires c = whole (goal.at.instant_at-instant-requires c).El
 pub returns-then-instant-eq0 : goal.returns-then-instant-eq0
 returns-then-instant-eq0 c =
     let a = c.args in
-    is_zero a.s.now a.list.now a.k (whole (goal.at.returns-then-instant-eq0 c).Else-pair_count-k) (omega (arith, c.instant_at-instant.ensures, c.if-instant-eq0.true))
+    is_zero a.file.now.bytes.now a.list.now a.k (whole (goal.at.returns-then-instant-eq0 c).Else-pair_count-k) (omega (arith, c.instant_at-instant.ensures, c.if-instant-eq0.true))
 
 pub instant_at-requires : goal.instant_at-requires
 instant_at-requires c = omega (arith, whole (goal.at.instant_at-requires c).Else-pair_count-k)
@@ -57,7 +57,7 @@ instant_at-requires c = omega (arith, whole (goal.at.instant_at-requires c).Else
 pub returns-then-instant-instant_at : goal.returns-then-instant-instant_at
 returns-then-instant-instant_at c =
     let a = c.args in
-    falls a.s.now a.list.now a.k (whole (goal.at.returns-then-instant-instant_at c).Else-pair_count-k) (positive (goal.at.returns-then-instant-instant_at c).Else-instant-eq0)
+    falls a.file.now.bytes.now a.list.now a.k (whole (goal.at.returns-then-instant-instant_at c).Else-pair_count-k) (positive (goal.at.returns-then-instant-instant_at c).Else-instant-eq0)
     (omega (arith, c.instant_at-instant.ensures, c.instant_at.ensures, c.if-instant-instant_at.true))
 
 pub signal_at-a-requires : goal.signal_at-a-requires
@@ -67,9 +67,9 @@ pub returns : goal.returns
 returns c =
     let a = c.args in
     c.is_session_signal.ensures
-    ∙ ap (is_session_signal a.s.now) c.signal_at-a.ensures
-    ∙ rises a.s.now a.list.now a.k (whole (goal.at.returns c).Else-pair_count-k) (positive (goal.at.returns c).Else-instant-eq0)
+    ∙ ap (is_session_signal a.file.now.bytes.now) c.signal_at-a.ensures
+    ∙ rises a.file.now.bytes.now a.list.now a.k (whole (goal.at.returns c).Else-pair_count-k) (positive (goal.at.returns c).Else-instant-eq0)
     (elim c.else-k-gt0.branch [
       | follows t ↦ omega (arith, c.instant_at-instant.ensures, t.instant_at.ensures, t.if-instant-instant_at.false)
-      | starts t ↦ is-first a.s.now a.list.now a.k (whole (goal.at.returns c).Else-pair_count-k) (positive (goal.at.returns c).Else-instant-eq0) (omega (arith, t.if-k-gt0.false))
+      | starts t ↦ is-first a.file.now.bytes.now a.list.now a.k (whole (goal.at.returns c).Else-pair_count-k) (positive (goal.at.returns c).Else-instant-eq0) (omega (arith, t.if-k-gt0.false))
     ])
