@@ -12,7 +12,8 @@ use Rattle.language.specs.Shapes.{watches}
 use Rattle.layout.specs.declared.parts.Part.{Part}
 use Rattle.layout.specs.Layout.{node_count}
 use Rattle.layout.specs.Entries.{part_of, node}
-use Rattle.fields.specs.Roles.{node_rows, role_in, unused}
+use Rattle.fields.specs.declared.roles.Role.TheVariants.{Unused}
+use Rattle.fields.specs.Roles.{node_rows, role_in}
 use Rattle.fields.specs.Fields.{field_count, field_of}
 use Rattle.fields.specs.Children.{first_child, second_child}
 use Rattle.entries.proofs.Holding.{right_field, holds_unused}
@@ -52,7 +53,7 @@ module _ (s : List ℕ) (ok : Checked s) where
     none : {j : ℕ} → j ≡ 0 → told j ≡ false
     none e = ap told e ∙ ap (λ b. ltb 0 k && b) (first_view (node_view s ok 0 (omega arith))) ∙ and-false (ltb 0 k)
 
-    empty : (n f : ℕ) → f < field_count → entry.kind ≡ n → role_in node_rows n f ≡ unused → (field_of s (node s k) f).value ≡ 0
+    empty : (n f : ℕ) → f < field_count → entry.kind ≡ n → role_in node_rows n f ≡ Unused → (field_of s (node s k) f).value ≡ 0
     empty n f l e u =
         eqb-true _ _
         (sym (holds_unused s (node s k) (field_of s (node s k) f) (role s ok k h n e f ∙ u))

@@ -7,10 +7,9 @@ use Rattle.language.specs.NodeCounts.{size}
 use Rattle.language.specs.Shapes.{watches}
 use Rattle.layout.specs.declared.Script.{Script}
 use Rattle.layout.specs.Layout.{name_count, expression_count, node_count}
-use Rattle.layout.specs.Promises.{Laid}
 use Rattle.layout.specs.Entries.{name_of, is_session, part_of, node}
 use Rattle.fields.specs.Children.{first_child, second_child}
-use Rattle.script.specs.Checked.{Checked, Levelled}
+use Rattle.script.specs.Checked.{Levelled}
 use Rattle.tree.specs.Tree.{expression_of, process_of}
 use Rattle.tree.specs.Promises.{KeepsSizes}
 use Rattle.program.specs.Program.{name_word, seen_by, expression_word, node_word, word_count}
@@ -18,10 +17,8 @@ use Rattle.program.specs.Program as program
 use Rattle.program.specs.Forms.{form_of}
 use Rattle.program.specs.Runnable.{Runnable}
 
--- a checked file and its layout, a book that has the level of each name, and a level of the book: the reader's
-pub record CanPlan (s : List ℕ) (c : Script) (b : Book) (level : ℕ) : Type 0 where
-  pub laid : Laid s c
-  pub checked : Checked s
+-- a book that has the level of each name of a file, and a level of the book: the reader's
+pub record CanPlan (s : List ℕ) (b : Book) (level : ℕ) : Type 0 where
   pub levelled : Levelled s b.count
   pub levels : b.count ≤ most_levels
   pub reader : level < b.count
@@ -74,10 +71,8 @@ pub record Keeps (s : List ℕ) (sees : ℕ → Bool) (names expressions nodes :
   pub expression : (e : ℕ) → e < expressions → ExpressionPacked s e (expression_word words e)
   pub node : KeepsNodes s nodes words
 
--- what the word of node k is made of: a checked file, the sizes of its nodes, and the words of the nodes before k
+-- what the word of node k is made of: the sizes of the nodes of a checked file, and the words of the nodes before k
 pub record CanPack (s : List ℕ) (c : Script) (sizes words : List ℕ) (k : ℕ) : Type 0 where
-  pub laid : Laid s c
-  pub checked : Checked s
   pub sized : KeepsSizes s c.nodes sizes
   pub before : KeepsNodes s k words
   pub known : k < c.nodes

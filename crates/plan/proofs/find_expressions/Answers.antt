@@ -5,16 +5,16 @@ use native.Mathlib.Omega.{arith}
 use Rattle.layout.specs.Layout.{most_expressions}
 use Rattle.layout.proofs.Layouts.{few_bounds}
 use Rattle.plan.proofs.Plans.{expression_more}
-use borrow.Author.Rules.{rules, Fits-under}
+use borrow.Author.Rules.{Fits-under}
 use Rattle.plan.proofs.find_expressions.Goals as goal
 use Rattle.plan.proofs.find_expressions.Goals.{After-expression_word}
 
 pub loop-e-init : goal.loop-e-init
-loop-e-init c = (search rules, λ sees keeps. keeps)
+loop-e-init c sees keeps = keeps
 
 inside : (c : After-expression_word) → c.loop-e.e < most_expressions
 inside c =
-    omega (arith, c.loop-e-test.true, few_bounds c.args.c c.requires.laid.few)
+    omega (arith, c.loop-e-test.true, few_bounds c.args.checked.now.file.layout c.args.checked.now.file.laid.few)
 
 pub overflow_add-words : goal.overflow_add-words
 overflow_add-words c = Fits-under _ _ 385 (omega (arith, inside (goal.at.overflow_add-words c).After-expression_word)) tt
@@ -26,11 +26,11 @@ pub bounds-words-e : goal.bounds-words-e
 bounds-words-e c = omega (arith, inside (goal.at.bounds-words-e c).After-expression_word)
 
 pub loop-e-preserved : goal.loop-e-preserved
-loop-e-preserved c =
-    let few = (few_bounds c.args.c c.requires.laid.few).0 in
-    (search rules, λ sees keeps. expression_more (c.loop-e.invariant.1 sees keeps) few (inside (goal.at.loop-e-preserved c).After-expression_word) c.expression_word.ensures)
+loop-e-preserved c sees keeps =
+    let few = (few_bounds c.args.checked.now.file.layout c.args.checked.now.file.laid.few).0 in
+    expression_more (c.loop-e.invariant sees keeps) few (inside (goal.at.loop-e-preserved c).After-expression_word) c.expression_word.ensures
 
 pub returns : goal.returns
 returns c =
-    let all : c.args.c.expressions ≡ c.loop-e.e = omega arith in
-    rw all (c.loop-e.invariant.1 _ c.find_names-words.ensures)
+    let all : c.args.checked.now.file.layout.expressions ≡ c.loop-e.e = omega arith in
+    rw all (c.loop-e.invariant _ c.find_names-words.ensures)

@@ -1,13 +1,12 @@
 -- `find_expressions`: the table has the words of the names still, and those of the expressions below e.
 use mathlib.Core.Bool.{Bool}
-use Prim.Native.Nat.{ℕ, ◌-◌, ◌≤◌}
+use Prim.Native.Nat.{ℕ}
 use Rattle.plan.specs.Plan.{Keeps}
 use Rattle.plan.proofs.find_expressions.Given as goal
 
 -- whichever names the reader sees: the book is not at hand in the loop
 abbrev pub invariant-loop-e : goal.invariant-loop-e
 invariant-loop-e l =
-    (l.e ≤ l.n) × ((sees : ℕ → Bool) → Keeps l.s sees l.c.names 0 0 l.initial.words → Keeps l.s sees l.c.names l.e 0 l.words)
-
-abbrev pub decreases-loop-e : goal.decreases-loop-e
-decreases-loop-e l = l.n - l.e
+    (sees : ℕ → Bool) →
+    Keeps l.checked.file.bytes.now sees l.checked.file.layout.names 0 0 l.initial.words →
+    Keeps l.checked.file.bytes.now sees l.checked.file.layout.names l.e 0 l.words

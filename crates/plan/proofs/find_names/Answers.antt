@@ -7,23 +7,20 @@ use Rattle.layout.specs.Layout.{most_names}
 use Rattle.layout.proofs.Layouts.{few_bounds}
 use Rattle.plan.proofs.Plans.{name_more}
 use Rattle.plan.proofs.Reading.{name_known}
-use borrow.Author.Rules.{rules, Fits-under}
+use borrow.Author.Rules.{Fits-under}
 use Rattle.plan.proofs.find_names.Goals as goal
 use Rattle.plan.proofs.find_names.Goals.{After-name_word}
 
 pub loop-x-init : goal.loop-x-init
-loop-x-init c = (
-  search rules,
-  record { long = refl; name = below_none _; expression = below_none _; node = below_none _ },
-)
+loop-x-init c = record { long = refl; name = below_none _; expression = below_none _; node = below_none _ }
 
 pub name_word-requires : goal.name_word-requires
 name_word-requires c =
-    name_known c.loop-x.x c.requires c.loop-x-test.true
+    name_known c.args.checked.now.file.laid c.args.checked.now.checked c.loop-x.x c.requires c.loop-x-test.true
 
 inside : (c : After-name_word) → c.loop-x.x < most_names
 inside c =
-    omega (arith, c.loop-x-test.true, few_bounds c.args.c c.requires.laid.few)
+    omega (arith, c.loop-x-test.true, few_bounds c.args.checked.now.file.layout c.args.checked.now.file.laid.few)
 
 pub overflow_add-words : goal.overflow_add-words
 overflow_add-words c = Fits-under _ _ 65 (omega (arith, inside (goal.at.overflow_add-words c).After-name_word)) tt
@@ -35,9 +32,9 @@ pub bounds-words-x : goal.bounds-words-x
 bounds-words-x c = omega (arith, inside (goal.at.bounds-words-x c).After-name_word)
 
 pub loop-x-preserved : goal.loop-x-preserved
-loop-x-preserved c = (search rules, name_more c.loop-x.invariant.1 (inside (goal.at.loop-x-preserved c).After-name_word) c.name_word.ensures)
+loop-x-preserved c = name_more c.loop-x.invariant (inside (goal.at.loop-x-preserved c).After-name_word) c.name_word.ensures
 
 pub returns : goal.returns
 returns c =
-    let all : c.args.c.names ≡ c.loop-x.x = omega arith in
-    rw all c.loop-x.invariant.1
+    let all : c.args.checked.now.file.layout.names ≡ c.loop-x.x = omega arith in
+    rw all c.loop-x.invariant

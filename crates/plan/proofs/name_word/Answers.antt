@@ -9,10 +9,10 @@ use Rattle.plan.proofs.name_word.Goals.{After-name_at-n}
 
 -- the entry that was read has a level of the book, and is a register or a signal
 level : (c : After-name_at-n) → c.name_at-n.result.level < most_levels
-level c = omega (arith, ap (λ n. n.level) c.name_at-n.ensures, c.requires.named)
+level c = omega (arith, ap (λ n. n.level) c.name_at-n.ensures.name, c.requires.named)
 
 kind : (c : After-name_at-n) → c.name_at-n.result.kind < 2
-kind c = omega (arith, ap (λ n. n.kind) c.name_at-n.ensures, c.requires.kind)
+kind c = omega (arith, ap (λ n. n.kind) c.name_at-n.ensures.name, c.requires.kind)
 
 pub at_or_below-seen-requires : goal.at_or_below-seen-requires
 at_or_below-seen-requires c = (omega (arith, level (goal.at.at_or_below-seen-requires c).After-name_at-n), omega (arith, level (goal.at.at_or_below-seen-requires c).After-name_at-n))
@@ -24,6 +24,6 @@ pub returns : goal.returns
 returns c =
     let args = c.args in
     rw c.pack_name.ensures
-    (name_packed _ _ _ _ c.name_at-n.ensures (omega (arith, level (goal.at.returns c).After-name_at-n)) (kind (goal.at.returns c).After-name_at-n) _
+    (name_packed _ _ _ _ c.name_at-n.ensures.name (omega (arith, level (goal.at.returns c).After-name_at-n)) (kind (goal.at.returns c).After-name_at-n) _
     (c.at_or_below-seen.ensures
-    ∙ ap (λ m. at_or_below args.b.rows m.level args.reader) c.name_at-n.ensures))
+    ∙ ap (λ m. at_or_below args.b.now.rows m.level args.reader) c.name_at-n.ensures.name))

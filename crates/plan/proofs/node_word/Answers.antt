@@ -1,5 +1,5 @@
 -- `node_word`: the entry, its children, the size of the first and the mark, packed.
-use mathlib.Core.Path.{◌≡◌, refl, sym, ap, ◌∙◌, subst}
+use mathlib.Core.Path.{◌≡◌, sym, ap, ◌∙◌, subst}
 use mathlib.Core.Bool.{Bool, cond}
 use mathlib.Core.List.{List}
 use Prim.Native.Nat.{ℕ, ◌<◌}
@@ -12,7 +12,7 @@ use Rattle.fields.specs.Children.{first_child, second_child}
 use Rattle.language.specs.NodeCounts.{size}
 use Rattle.language.specs.Shapes.{watches}
 use Rattle.tree.specs.Tree.{process_of}
-use Rattle.layout.proofs.Layouts.{few_bounds, nodes_are, part_within}
+use Rattle.layout.proofs.Layouts.{few_bounds, nodes_are}
 use Rattle.tree.proofs.Views.{kind_below}
 use Rattle.tree.proofs.NodeSizes.{size_within}
 use Rattle.script.specs.Checked.{Checked}
@@ -22,25 +22,21 @@ use Rattle.plan.proofs.Watching.{watches_told}
 use Rattle.packing.proofs.Words.{bit_small}
 use Rattle.plan.proofs.Plans.{forms_fit, node_packed}
 use Rattle.plan.proofs.node_word.Goals as goal
-use Rattle.plan.proofs.node_word.Goals.{After-part_at-p, Start}
-
-pub part_at-p-requires : goal.part_at-p-requires
-part_at-p-requires c =
-    part_within c.requires.laid refl (omega (arith, c.requires.known))
+use Rattle.plan.proofs.node_word.Goals.{After-part-p, Start}
 
 -- the entry that was read
 read :
-    (c : After-part_at-p) →
-    c.part_at-p.result ≡ part_of c.args.s.now (node c.args.s.now c.args.k)
-read c = node_read c.args.k c.requires.laid c.part_at-p.ensures
+    (c : After-part-p) →
+    c.part-p.result ≡ part_of c.args.checked.now.file.bytes.now (node c.args.checked.now.file.bytes.now c.args.k)
+read c = node_read c.args.k c.args.checked.now.file.laid c.part-p.ensures.part
 
-kind : (c : After-part_at-p) → c.part_at-p.result.kind < 11
+kind : (c : After-part-p) → c.part-p.result.kind < 11
 kind c =
     subst (λ (p : Part). p.kind < 11) (sym (read c))
-    (kind_below c.args.s.now c.requires.checked c.args.k (omega (arith, c.requires.known, nodes_are c.requires.laid)))
+    (kind_below c.args.checked.now.file.bytes.now c.args.checked.now.checked c.args.k (omega (arith, c.requires.known, nodes_are c.args.checked.now.file.laid)))
 
 few : (c : Start) → c.args.k < most_nodes
-few c = omega (arith, c.requires.known, (few_bounds c.args.c c.requires.laid.few).1.1.1)
+few c = omega (arith, c.requires.known, (few_bounds c.args.checked.now.file.layout c.args.checked.now.file.laid.few).1.1.1)
 
 -- field b and the mark, by the entry that was read
 module _ (s : List ℕ) (k : ℕ) (p : Part) (q : p ≡ part_of s (node s k)) where
@@ -60,14 +56,14 @@ pub has_watching-requires : goal.has_watching-requires
 has_watching-requires c = few (goal.at.has_watching-requires c).Start
 
 pub mark-kind-requires : goal.mark-kind-requires
-mark-kind-requires c = omega (arith, kind (goal.at.mark-kind-requires c).After-part_at-p)
+mark-kind-requires c = omega (arith, kind (goal.at.mark-kind-requires c).After-part-p)
 
 pub forms_of-requires : goal.forms_of-requires
-forms_of-requires c = kind (goal.at.forms_of-requires c).After-part_at-p
+forms_of-requires c = kind (goal.at.forms_of-requires c).After-part-p
 
 pub pack_node-requires : goal.pack_node-requires
 pack_node-requires c =
-    let known = kind (goal.at.pack_node-requires c).After-part_at-p in (
+    let known = kind (goal.at.pack_node-requires c).After-part-p in (
       rw c.forms_of.ensures (forms_fit _ known),
       (
         omega (arith, c.pack_fields-fields.ensures),
@@ -77,18 +73,17 @@ pack_node-requires c =
 
 pub returns : goal.returns
 returns c =
-    let s = c.args.s.now in
+    let s = c.args.checked.now.file.bytes.now in
     let k = c.args.k in
-    let ok = c.requires.checked in
-    let known : k < node_count s = omega (arith, c.requires.known, nodes_are c.requires.laid) in
-    let parts = c.children_of-parts.ensures in
-    let read_first = ap first_child (read (goal.at.returns c).After-part_at-p) in
-    rw (c.pack_node.ensures, c.forms_of.ensures, c.mark-kind.ensures, c.pack_fields-fields.ensures, read (goal.at.returns c).After-part_at-p)
+    let ok = c.args.checked.now.checked in
+    let known : k < node_count s = omega (arith, c.requires.known, nodes_are c.args.checked.now.file.laid) in
+    let read_first = ap first_child (read (goal.at.returns c).After-part-p) in
+    rw (c.pack_node.ensures, c.forms_of.ensures, c.mark-kind.ensures, c.pack_fields-fields.ensures, read (goal.at.returns c).After-part-p)
     (node_packed s k (kind_below s ok k known) (omega (arith, few (goal.at.returns c).Start)) _ _ _ _
-    (omega (arith, parts.0, read_first)) (field_is s k _ (read (goal.at.returns c).After-part_at-p) parts.1 c.field_b-b.ensures)
+    (omega (arith, c.first_child-child.ensures, read_first)) (field_is s k _ (read (goal.at.returns c).After-part-p) c.second_child-second.ensures c.field_b-b.ensures)
     (λ h.
     let e =
-    c.wide.ensures ∙ c.requires.sized _ (omega (arith, h, c.requires.known, few (goal.at.returns c).Start, parts.0, read_first))
-    ∙ ap (λ j. size (process_of s j)) (omega (arith, h, few (goal.at.returns c).Start, parts.0, read_first)) in
+    c.from.ensures ∙ c.requires.sized _ (omega (arith, h, c.requires.known, few (goal.at.returns c).Start, c.first_child-child.ensures, read_first))
+    ∙ ap (λ j. size (process_of s j)) (omega (arith, h, few (goal.at.returns c).Start, c.first_child-child.ensures, read_first)) in
     (e, omega (arith, e, h, few (goal.at.returns c).Start, size_within s ok (first_child (part_of s (node s k))) (omega (arith, h, known)))))
-    (marks s k _ (read (goal.at.returns c).After-part_at-p) _ parts.0 parts.1 c.has_watching.ensures ok known c.requires.before))
+    (marks s k _ (read (goal.at.returns c).After-part-p) _ c.first_child-child.ensures c.second_child-second.ensures c.has_watching.ensures ok known c.requires.before))
