@@ -1,8 +1,9 @@
 -- What a right field holds, role by role.
-use mathlib.Core.Path.{◌≡◌, refl}
+use mathlib.Core.Path.{◌≡◌}
 use mathlib.Core.Bool.{true, ◌&&◌, ◌||◌}
 use mathlib.Core.List.{List}
 use Prim.Native.Nat.{ℕ, ◌<◌}
+use native.Mathlib.Omega.{arith}
 use lib.Dec.{eqb, ltb}
 use borrow.Author.Tests.{ltb-true}
 use Rattle.prelude.proofs.Bools.{and_left, and_right}
@@ -10,8 +11,7 @@ use Rattle.prelude.proofs.Searches.{all_elim}
 use Rattle.layout.specs.Layout.{expression_count, part_count}
 use Rattle.layout.specs.Entries.{node, part_of}
 use Rattle.fields.specs.declared.Field.{Field}
-use Rattle.fields.specs.declared.roles.Role.{Role}
-use Rattle.fields.specs.declared.roles.Role.TheVariants.{Unused, Register, Signal, NewRegister, NewSignal, Expression, Child, Half}
+use Rattle.fields.specs.declared.roles.Role.TheVariants.{Unused, Expression, Child}
 use Rattle.fields.specs.Roles.{is_use, is_new}
 use Rattle.fields.specs.Fields.{field_count, field_of}
 use Rattle.entries.specs.Faults.{field_is_right, holds_name, kinds_for}
@@ -33,17 +33,7 @@ module _ (s : List ℕ) (q : ℕ) (x : Field) where
   -- a field that uses or declares a name
   pub holds_name_lem : (is_use x.role || is_new x.role) ≡ true → field_is_right s q x ≡ holds_name s q x
   unfolding field_is_right
-  holds_name_lem = go x.role refl
-    where
-      go : (r : Role) → x.role ≡ r → (is_use r || is_new r) ≡ true → field_is_right s q x ≡ holds_name s q x
-      go Register e h = rw e
-      go Signal e h = rw e
-      go NewRegister e h = rw e
-      go NewSignal e h = rw e
-      go Unused e h = cc
-      go Expression e h = cc
-      go Child e h = cc
-      go Half e h = cc
+  holds_name_lem h = grind arith
 
 module _ (s : List ℕ) (sound : Sound s) where
   pub right_kind : (q : ℕ) → q < part_count s → (part_of s q).kind < kinds_for (expression_count s) q

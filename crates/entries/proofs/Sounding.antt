@@ -4,12 +4,11 @@ use mathlib.Core.Bool.{true, not}
 use mathlib.Core.List.{List}
 use Prim.Native.Nat.{ℕ, ◌<◌}
 use native.Mathlib.Omega.{arith}
-use lib.Dec.{leb, ltb}
 use borrow.Author.Tests.{not-false}
+use Rattle.std.proofs.lemmas.Bool.Decides.{nat_tests}
 use Rattle.prelude.specs.Refusals.{refused_by, not_refused, passes}
-use Rattle.prelude.proofs.Bools.{and_right}
 use Rattle.layout.specs.Layout.{name_count, expression_count, node_count, part_count}
-use Rattle.layout.specs.Entries.{name_of, node}
+use Rattle.layout.specs.Entries.{node}
 use Rattle.layout.proofs.Placing.{passes_first, past_first, both}
 use Rattle.entries.specs.Faults.{name_is_right, part_is_right, fault_refusal}
 use Rattle.entries.specs.Promises.{Sound}
@@ -32,13 +31,7 @@ module _ (s : List ℕ) (levels : ℕ) where
       }
 
   pub sound : Faultless → Sound s
-  sound f =
-      record {
-        owners =
-            λ x h.
-            and_right (ltb (name_of s x).level levels) _ (and_right (leb (name_of s x).kind 1) _ (f.names x h));
-        parts = f.parts;
-      }
+  sound f = record { owners = λ x h. let right = f.names x h in grind (arith, nat_tests); parts = f.parts }
 
   pub no_fault : Faultless → fault_refusal s levels ≡ not_refused
   unfolding fault_refusal

@@ -7,7 +7,7 @@ ghost use Rattle.entries.specs.Faults.{declares_as, declares, name_is_right};
 use fields::field_at;
 use fields::roles::Role;
 use layout::file::File;
-use layout::parts::SESSION;
+use layout::parts::NameKind;
 use prelude::search::first;
 
 // A field of this role declares a name of this kind.
@@ -15,8 +15,8 @@ fn declares_as(role: Role, kind: usize) -> bool
     ensures { result ≡ declares_as kind role }
 {
     match role {
-        Role::NewRegister => kind == 0,
-        Role::NewSignal => kind != 0,
+        Role::NewRegister => kind == NameKind::Register as usize,
+        Role::NewSignal => kind != NameKind::Register as usize,
         _ => false,
     }
 }
@@ -37,9 +37,9 @@ fn name_is_right(file: &File<'_>, levels: usize, x: usize) -> bool
     ensures { result ≡ name_is_right file.now.bytes.now levels x }
 {
     let name = file.name(x);
-    name.kind <= 1
+    name.kind <= NameKind::Signal as usize
         && name.level < levels
-        && (name.owner == SESSION || declares(file, name.owner, name.kind, x))
+        && (name.is_session() || declares(file, name.owner, name.kind, x))
 }
 
 // The smallest name at fault.

@@ -3,7 +3,8 @@ ghost use Rattle.std.specs.Prelude.{◌≡◌, not, ◌+◌, ◌<◌};
 ghost use Rattle.prelude.specs.Search.{all};
 ghost use Rattle.prelude.specs.Promises.{found};
 ghost use Rattle.layout.specs.Layout.{expression_count, node_count};
-ghost use Rattle.layout.specs.Entries.{node};
+ghost use Rattle.layout.specs.Entries.{kind_number, node};
+ghost use Rattle.layout.specs.Promises.{IsPart};
 ghost use Rattle.fields.specs.Fields.{field_count, field_of};
 ghost use Rattle.entries.specs.Faults.{kind_for, holds_name, field_is_right, kinds_for, part_is_right};
 
@@ -11,16 +12,16 @@ use fields::roles::{EXPRESSION_KINDS, NODE_KINDS, Role};
 use fields::{Field, field_at};
 use layout::Script;
 use layout::file::File;
-use layout::parts::Part;
+use layout::parts::{NameKind, Part};
 use prelude::search::{all, first};
 
 // The kind of the names that a field of this role holds.
-fn kind_for(role: Role) -> usize
-    ensures { result ≡ kind_for role }
+fn kind_for(role: Role) -> NameKind
+    ensures { kind_number result ≡ kind_for role }
 {
     match role {
-        Role::Register | Role::NewRegister => 0,
-        _ => 1,
+        Role::Register | Role::NewRegister => NameKind::Register,
+        _ => NameKind::Signal,
     }
 }
 
@@ -32,14 +33,14 @@ fn holds_name(file: &File<'_>, q: usize, field: Field) -> bool
         return false;
     }
     let name = file.name(field.value);
-    name.kind == kind_for(field.role)
+    name.kind == kind_for(field.role) as usize
         && (!field.role.is_new() || file.layout.expressions + name.owner == q)
 }
 
 // Field f of part q holds what its role asks for.
 #[tactic(auto, unfolding(crate::specs::Faults::field_is_right))]
 fn field_is_right(file: &File<'_>, q: usize, f: usize) -> bool
-    requires { (q < file.now.layout.expressions + file.now.layout.nodes) × (f < field_count) }
+    requires { IsPart file.now.layout q × (f < field_count) }
     ensures { result ≡ field_is_right file.now.bytes.now q (field_of file.now.bytes.now q f) }
 {
     let field = field_at(file, q, f);
@@ -63,14 +64,14 @@ fn kinds_for(layout: Script, q: usize) -> usize
 }
 
 fn fields_are_right(file: &File<'_>, q: usize) -> bool
-    requires { q < file.now.layout.expressions + file.now.layout.nodes }
+    requires { IsPart file.now.layout q }
     ensures { result ≡ all (λ f. field_is_right file.now.bytes.now q (field_of file.now.bytes.now q f)) field_count }
 {
     all(Part::FIELDS, |f| field_is_right(file, q, f))
 }
 
 fn part_is_right(file: &File<'_>, q: usize) -> bool
-    requires { q < file.now.layout.expressions + file.now.layout.nodes }
+    requires { IsPart file.now.layout q }
     ensures { result ≡ part_is_right file.now.bytes.now q }
 {
     let p = file.part(q);

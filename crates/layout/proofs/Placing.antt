@@ -1,45 +1,32 @@
 -- Searches that refuse a file: what they tell where they find a fault, and where they find none.
-use mathlib.Core.Path.{◌≡◌, refl, sym, ap, ◌∙◌, subst}
-use mathlib.Core.Bool.{Bool, true, false, false≢true}
+use mathlib.Core.Path.{◌≡◌, refl, sym, ap, ◌∙◌}
+use mathlib.Core.Bool.{Bool, true, false}
 use mathlib.Core.List.{List}
-use Prim.Native.Nat.{ℕ, ◌+◌, ◌-◌, ◌≤◌, ◌<◌}
-use native.Mathlib.Decide.{dec_lt}
+use Prim.Native.Nat.{ℕ, ◌-◌}
 use native.Mathlib.Omega.{arith}
 use lib.Dec.{eqb}
-use borrow.Author.Tests.{lt-ltb, le-ltb}
 use Rattle.prelude.specs.declared.Refusal.{Refusal}
 use Rattle.prelude.specs.Refusals.{refused_by, not_refused, passes}
-use Rattle.std.proofs.Common.{Some, None}
+use Rattle.std.proofs.Common.{Option, Some, None}
 use Rattle.prelude.specs.Promises.{found}
-use Rattle.prelude.specs.Search.{first}
-use Rattle.prelude.proofs.Found.{given_found, given_nothing}
-use Rattle.prelude.proofs.Searches.{NoneBelow, first_within, first_at_end, first_none, first_same}
-use Rattle.layout.specs.declared.Script.{Script}
-use Rattle.layout.specs.Layout.{layout_of, expression_count, node_count, part_count}
+use Rattle.prelude.proofs.Found.{found_none, found_nothing, given_found, given_nothing}
+use Rattle.prelude.proofs.Searches.{NoneBelow}
+use Rattle.layout.specs.Layout.{expression_count}
 use Rattle.layout.specs.Entries.{node}
-use Rattle.layout.specs.Places.{at_first, place_of_part, at_part, at_first_part}
-
--- a search that found a fault at r, and one that found none
-pub missed : (fault : ℕ → Bool) (n : ℕ) {r : ℕ} → r ≡ first fault n → n ≤ r → NoneBelow fault n
-missed fault n e h = first_at_end fault n (omega (arith, first_within fault n))
+use Rattle.layout.specs.Places.{at_first, place_of_part, at_first_part}
 
 module _ (fault : ℕ → Bool) (n : ℕ) (given : ℕ → Refusal) (rest : Refusal) where
-  pub at_first_lem : {r : ℕ} → r ≡ first fault n → r < n → at_first fault n given rest ≡ given r
-  at_first_lem e h = rw (sym e, lt-ltb _ _ h)
-
   pub past_first : NoneBelow fault n → at_first fault n given rest ≡ rest
-  past_first none = rw (le-ltb (first fault n) n (omega (arith, first_none fault n none)))
+  past_first none = given_nothing fault n given rest (found_none fault n none)
 
   pub passes_first :
       ((k : ℕ) → passes (given k) ≡ false) → passes (at_first fault n given rest) ≡ true →
       NoneBelow fault n × (passes rest ≡ true)
-  passes_first refuses h =
-      elim (dec_lt (first fault n) n) [
-        | yes l ↦ absurd (false≢true (sym (ap passes (at_first_lem refl l) ∙ refuses _) ∙ h))
-        | no l ↦
-            let none = missed fault n refl (omega arith) in
-            (none, sym (ap passes (past_first none)) ∙ h)
-      ]
+  passes_first refuses h = go (found fault n) refl
+    where
+      go : (o : Option ℕ) → found fault n ≡ o → NoneBelow fault n × (passes rest ≡ true)
+      go (Some k) e = let r = refuses k in let g = ap passes (given_found fault n given rest e) in cc
+      go None e = (found_nothing fault n e, sym (ap passes (given_nothing fault n given rest e)) ∙ h)
 
 -- the same of the parts
 module _ (s : List ℕ) (number : ℕ) (fault : ℕ → Bool) (n : ℕ) where
@@ -63,8 +50,4 @@ module _ (s : List ℕ) (number : ℕ) (fault : ℕ → Bool) (n : ℕ) where
 pub both :
     (s : List ℕ) (fault : ℕ → Bool) (n : ℕ) →
     NoneBelow fault (expression_count s) → NoneBelow (λ k. fault (node s k)) n → NoneBelow fault (node s n)
-both s fault n a b q h =
-    elim (dec_lt q (expression_count s)) [
-      | yes l ↦ a q l
-      | no l ↦ subst (λ p. fault p ≡ false) (omega arith) (b (q - expression_count s) (omega arith))
-    ]
+both s fault n a b q h = grind (arith, a q, b (q - expression_count s))

@@ -1,6 +1,8 @@
 -- 01, 'Script file': names, and the parts, which are the expressions and then the nodes.
 use Rattle.std.specs.Prelude.{Bool, ◌&&◌, List, ℕ, ◌+◌, ◌*◌, eqb, ltb, get_or}
 use Rattle.prelude.specs.Search.{count}
+use Rattle.layout.specs.declared.parts.NameKind.{NameKind}
+use Rattle.layout.specs.declared.parts.NameKind.TheVariants.{Register, Signal}
 use Rattle.layout.specs.declared.parts.Name.{Name}
 use Rattle.layout.specs.declared.parts.Part.{Part}
 use Rattle.layout.specs.Layout.{word_at, expressions_at, name_count, expression_count, node_count}
@@ -9,6 +11,11 @@ use Rattle.layout.specs.Layout.{word_at, expressions_at, name_count, expression_
 abbrev pub name_of : List ℕ → ℕ → Name
 name_of s x =
     record { kind = get_or s (4 * x) 0; level = get_or s (4 * x + 1) 0; owner = word_at s (4 * x + 2) }
+
+-- the number of a kind of names
+abbrev pub kind_number : NameKind → ℕ
+kind_number Register = 0
+kind_number Signal = 1
 
 -- 'Owner 65535 makes it a session name; otherwise it is the node that declares it.'
 abbrev pub session : ℕ

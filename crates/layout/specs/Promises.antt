@@ -11,6 +11,10 @@ pub record Laid (s : List ℕ) (c : Script) : Type 0 where
   pub touching : c.offset ≡ 4 * c.names
   pub whole : length s ≡ c.offset + 8 * (c.expressions + c.nodes) + 8
 
+-- q is the number of a part
+abbrev pub IsPart : Script → ℕ → Type 0
+IsPart c q = q < c.expressions + c.nodes
+
 -- the parts begin at this offset, and part q lies in the file
 pub record PartWithin (s : List ℕ) (offset q : ℕ) : Type 0 where
   pub start : offset ≡ expressions_at s

@@ -5,7 +5,7 @@ ghost use Rattle.prelude.specs.Promises.{Answers};
 ghost use Rattle.layout.specs.Layout.{expression_count, layout_refusal};
 ghost use Rattle.layout.specs.Entries.{name_of, part_of};
 ghost use Rattle.layout.specs.Places.{place_of_part};
-ghost use Rattle.layout.specs.Promises.{Laid, SmallFields};
+ghost use Rattle.layout.specs.Promises.{IsPart, Laid, SmallFields};
 
 use crate::Script;
 use crate::parts::{Name, Part, name_at, part_at};
@@ -44,7 +44,7 @@ impl File<'_> {
     }
 
     pub fn part(&self, q: usize) -> Part
-        requires { q < self.now.layout.expressions + self.now.layout.nodes }
+        requires { IsPart self.now.layout q }
         ensures part { result ≡ part_of self.now.bytes.now q }
         ensures small { SmallFields result }
     {
@@ -60,7 +60,7 @@ impl File<'_> {
 
     // The refusal of this number at part q.
     pub fn refused_at(&self, number: u32, q: usize) -> Refusal
-        requires { q < self.now.layout.expressions + self.now.layout.nodes }
+        requires { IsPart self.now.layout q }
         ensures { result ≡ refused_by number (place_of_part (expression_count self.now.bytes.now) q) }
     {
         if q < self.layout.expressions {

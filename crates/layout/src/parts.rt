@@ -1,14 +1,31 @@
 // Names, and the parts, which are the expressions and then the nodes.
-ghost use Rattle.std.specs.Prelude.{◌≡◌, ◌+◌, ◌*◌, ◌<◌, ◌≤◌, length};
+ghost use Rattle.std.specs.Prelude.{◌≡◌, eqb, ◌+◌, ◌*◌, ◌<◌, ◌≤◌, length};
 ghost use Rattle.layout.specs.Layout.{word_at};
-ghost use Rattle.layout.specs.Entries.{name_of, part_of};
+ghost use Rattle.layout.specs.Entries.{session, name_of, part_of};
 ghost use Rattle.layout.specs.Promises.{PartWithin, SmallFields};
 
+// The kinds of names, in the order of their numbers in files.
+#[derive(Clone, Copy, PartialEq, Eq)]
+pub enum NameKind {
+    Register,
+    Signal,
+}
+
+// Of a name: its bytes, which any file may hold.
 #[derive(Clone, Copy)]
 pub struct Name {
     pub kind: usize,
     pub level: usize,
     pub owner: usize,
+}
+
+impl Name {
+    // The owner of a name says that it is a session name.
+    pub fn is_session(self) -> bool
+        ensures { result ≡ eqb self.owner session }
+    {
+        self.owner == SESSION
+    }
 }
 
 // Of an expression or a node: its bytes.

@@ -21,11 +21,9 @@ fn offsets_are_right(expressions: usize, nodes: usize, tail: usize) -> bool
 pub fn tail_is_right(s: &[u8]) -> bool
     ensures { result ≡ tail_is_right s.now }
 {
-    let n = s.len();
-    if n < 8 {
+    let Some(tail) = s.len().checked_sub(8) else {
         return false;
-    }
-    let tail = n - 8;
+    };
     word_at(s, tail + 6) == MARK
         && word_at(s, tail + 4) == tail
         && offsets_are_right(word_at(s, tail), word_at(s, tail + 2), tail)
