@@ -5,6 +5,7 @@ pub mod roles; // roles.rt: what the fields of each kind hold
 pub mod children; // children.rt: the children of a node
 
 ghost use Rattle.std.specs.Prelude.{◌≡◌, ◌+◌, ◌<◌};
+ghost use Rattle.layout.specs.Promises.{IsPart};
 ghost use Rattle.fields.specs.Fields.{field_count, role_of, field_of};
 
 use crate::roles::{Role, expression_roles, node_roles};
@@ -30,7 +31,7 @@ fn role_of(expressions: usize, q: usize, kind: usize, f: usize) -> Role
 
 // Field f of part q.
 pub fn field_at(file: &File<'_>, q: usize, f: usize) -> Field
-    requires { (q < file.now.layout.expressions + file.now.layout.nodes) × (f < field_count) }
+    requires { IsPart file.now.layout q × (f < field_count) }
     ensures field { result ≡ field_of file.now.bytes.now q f }
     ensures small { result.value < 65536 }
 {

@@ -42,33 +42,53 @@ pub const EXPRESSION_KINDS: usize = 9;
 
 pub const NODE_KINDS: usize = 11;
 
-// The roles of fields a, b and c of an expression of this kind. A kind past the table has none.
+// What fields a, b and c of each kind of expression hold. The tables are statics, which are data in one place: a const
+// that is indexed by a variable would be built at each call.
+static EXPRESSION_ROWS: [[Role; Part::FIELDS]; EXPRESSION_KINDS] = [
+    [Role::Unused, Role::Half, Role::Half],
+    [Role::Register, Role::Unused, Role::Unused],
+    [Role::Expression, Role::Expression, Role::Unused],
+    [Role::Expression, Role::Expression, Role::Unused],
+    [Role::Expression, Role::Expression, Role::Unused],
+    [Role::Expression, Role::Expression, Role::Unused],
+    [Role::Expression, Role::Expression, Role::Unused],
+    [Role::Expression, Role::Expression, Role::Unused],
+    [Role::Expression, Role::Unused, Role::Unused],
+];
+
+// What fields a, b and c of each kind of node hold.
+static NODE_ROWS: [[Role; Part::FIELDS]; NODE_KINDS] = [
+    [Role::Unused, Role::Unused, Role::Unused],
+    [Role::Register, Role::Expression, Role::Unused],
+    [Role::NewRegister, Role::Expression, Role::Child],
+    [Role::Expression, Role::Child, Role::Child],
+    [Role::Expression, Role::Child, Role::Unused],
+    [Role::Child, Role::Child, Role::Unused],
+    [Role::Signal, Role::Unused, Role::Unused],
+    [Role::NewSignal, Role::Child, Role::Unused],
+    [Role::Signal, Role::Child, Role::Unused],
+    [Role::Signal, Role::Child, Role::Unused],
+    [Role::Child, Role::Child, Role::Unused],
+];
+
+// The row of an expression of this kind. A kind past the table has no roles.
 pub fn expression_roles(kind: usize) -> [Role; Part::FIELDS]
     ensures { result ≡ row_of expression_rows kind }
 {
-    match kind {
-        0 => [Role::Unused, Role::Half, Role::Half],
-        1 => [Role::Register, Role::Unused, Role::Unused],
-        2..=7 => [Role::Expression, Role::Expression, Role::Unused],
-        8 => [Role::Expression, Role::Unused, Role::Unused],
-        _ => [Role::Unused, Role::Unused, Role::Unused],
+    if kind < EXPRESSION_KINDS {
+        EXPRESSION_ROWS[kind]
+    } else {
+        [Role::Unused; Part::FIELDS]
     }
 }
 
-// The roles of fields a, b and c of a node of this kind. Nil has none, nor has a kind past the table.
+// The row of a node of this kind. A kind past the table has no roles.
 pub fn node_roles(kind: usize) -> [Role; Part::FIELDS]
     ensures { result ≡ row_of node_rows kind }
 {
-    match kind {
-        1 => [Role::Register, Role::Expression, Role::Unused],
-        2 => [Role::NewRegister, Role::Expression, Role::Child],
-        3 => [Role::Expression, Role::Child, Role::Child],
-        4 => [Role::Expression, Role::Child, Role::Unused],
-        5 => [Role::Child, Role::Child, Role::Unused],
-        6 => [Role::Signal, Role::Unused, Role::Unused],
-        7 => [Role::NewSignal, Role::Child, Role::Unused],
-        8 | 9 => [Role::Signal, Role::Child, Role::Unused],
-        10 => [Role::Child, Role::Child, Role::Unused],
-        _ => [Role::Unused, Role::Unused, Role::Unused],
+    if kind < NODE_KINDS {
+        NODE_ROWS[kind]
+    } else {
+        [Role::Unused; Part::FIELDS]
     }
 }
