@@ -33,3 +33,12 @@ module _ (r next : Refusal) where
 
   pub or_else_first : passes r ≡ false → or_else r next ≡ r
   or_else_first h = ap (λ b. cond b next r) h
+
+  -- the refusal of the first row, and of the next
+  pub refused_first : {e : Refusal} → (passes r ≡ false) × (r ≡ e) → (passes (or_else r next) ≡ false) × (e ≡ or_else r next)
+  refused_first h = rw (or_else_first h.0) (h.0, sym h.1)
+
+  pub refused_next :
+      {e : Refusal} → passes r ≡ true → (passes next ≡ false) × (e ≡ next) →
+      (passes (or_else r next) ≡ false) × (e ≡ or_else r next)
+  refused_next p h = rw (or_else_next p) h

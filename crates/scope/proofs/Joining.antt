@@ -1,23 +1,20 @@
 -- What a file whose parts are right and used once tells of its fields: a part is used by one field, of a later part.
-use mathlib.Core.Path.{◌≡◌, refl, sym, ap, ◌∙◌, subst}
+use mathlib.Core.Path.{◌≡◌, sym, ap, ◌∙◌, subst}
 use mathlib.Core.Bool.{true}
 use mathlib.Core.List.{List}
 use Prim.Native.Nat.{ℕ, suc, ◌<◌}
 use native.Mathlib.Omega.{arith}
-use lib.Dec.{eqb, ltb}
-use borrow.Author.Tests.{ltb-true, eqb-true, eq-eqb}
-use Rattle.prelude.proofs.Bools.{and_right}
+use lib.Dec.{eqb}
+use borrow.Author.Tests.{eqb-true, eq-eqb}
+use Rattle.std.proofs.lemmas.Bool.Decides.{nat_tests}
 use Rattle.prelude.proofs.Counts.{count_found, count-some, count_one}
 use Rattle.prelude.proofs.Totals.{total_holds, total_found, total_one}
 use Rattle.std.proofs.Common.{Some}
 use Rattle.layout.specs.Layout.{most_parts, expression_count, part_count}
-use Rattle.layout.specs.Entries.{node}
 use Rattle.fields.specs.declared.Field.{Field}
-use Rattle.fields.specs.declared.roles.Role.{Role}
-use Rattle.fields.specs.declared.roles.Role.TheVariants.{Unused, Register, Signal, NewRegister, NewSignal, Expression, Child, Half}
 use Rattle.fields.specs.Fields.{field_count, field_of}
 use Rattle.entries.specs.Faults.{field_is_right}
-use Rattle.entries.proofs.Holding.{holds_expression, holds_child_lem, right_field}
+use Rattle.entries.proofs.Holding.{right_field}
 use Rattle.uses.specs.Uses.{part_used, used, times_in, times_used}
 use Rattle.uses.proofs.Used.{used_some, used_part}
 use Rattle.scope.specs.Promises.{FieldUses}
@@ -26,21 +23,8 @@ use Rattle.scope.specs.Joined.{Joined}
 module _ (s : List ℕ) (q : ℕ) (x : Field) where
   -- what a right field uses comes before its part
   uses_earlier : {u : ℕ} → field_is_right s q x ≡ true → part_used (expression_count s) x ≡ Some u → u < q
-  uses_earlier {u} h = go x.role refl
-    where
-      go : (r : Role) → x.role ≡ r → part_used (expression_count s) x ≡ Some u → u < q
-      go Expression e p =
-          let same : x.value ≡ u = cc (rw e at p) in
-          rw (sym same) (ltb-true _ _ (and_right (ltb x.value (expression_count s)) _ (sym (holds_expression s q x e) ∙ h)))
-      go Child e p =
-          let same : node s x.value ≡ u = cc (rw e at p) in
-          rw (sym same) (ltb-true _ _ (sym (holds_child_lem s q x e) ∙ h))
-      go Unused e p = cc (rw e at p)
-      go Register e p = cc (rw e at p)
-      go Signal e p = cc (rw e at p)
-      go NewRegister e p = cc (rw e at p)
-      go NewSignal e p = cc (rw e at p)
-      go Half e p = cc (rw e at p)
+  unfolding field_is_right
+  uses_earlier h e = grind (arith, nat_tests)
 
 module _ (s : List ℕ) (joined : Joined s) where
   -- a field that uses a part uses one before its own

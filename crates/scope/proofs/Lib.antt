@@ -2,6 +2,5 @@
 pub mod Joining
 pub mod Reaching
 pub mod Sets
-pub mod Entering
 pub mod ReachTables
 pub mod Refusing

@@ -27,9 +27,7 @@ module _ (s : List ℕ) (j : Joined s) (few : part_count s ≤ most_parts) where
         | yes more ↦
             let w = user s j q more (omega arith) in
             h.passed w.0 w.1 q (omega (arith, w.2.before)) w.2
-        | no end ↦
-            let e : suc q ≡ part_count s = omega arith in
-            λ x k. h.last q e x k ∙ sym (reach_last s j q x e k)
+        | no end ↦ λ x k. grind (arith, h.last q, reach_last s j q x)
       ]
 
   -- one field, by its number among all
@@ -54,10 +52,7 @@ module _ (s : List ℕ) (j : Joined s) (few : part_count s ≤ most_parts) where
   fill_last p v more sets n h end new =
       record {
         long = simp length-set n;
-        last =
-            λ q e x l.
-            let same : q ≡ v = omega arith in
-            rw same (ap (λ m. has m x) (get_or-set_same sets v more 0 (omega arith)) ∙ new x l);
+        last = λ q e x l. let same : q ≡ v = omega arith in rw same (grind (arith, get_or-set_same, new x));
         passed = λ k g q l u. absurd (omega (arith, u.known, u.inside));
       }
 
@@ -70,11 +65,7 @@ module _ (s : List ℕ) (j : Joined s) (few : part_count s ≤ most_parts) where
         long = h.long;
         last = h.last;
         passed =
-            λ m g q l u.
-            elim (ℕ_discrete (field_count * p + f) (field_count * m + g)) [
-              | yes e ↦ absurd (omega (arith, u.known, u.before, u.same, same_field p f m g inside u.inside e))
-              | no e ↦ h.passed m g q (omega (arith, lt_of_le_of_ne l e)) u
-            ];
+            λ m g q l u. grind (arith, u.known, u.before, u.same, u.inside, same_field p f m g inside u.inside, h.passed m g q);
       }
 
   -- a field that uses part v, whose set is made of that of the field's own part

@@ -12,7 +12,7 @@ use lib.ListN.{get_or}
 use borrow.Author.Tests.{ltb-true, eqb-true, eq-eqb}
 use Rattle.prelude.specs.Search.{any}
 use Rattle.prelude.specs.Course.{course, entry}
-use Rattle.prelude.proofs.Bools.{and_intro, and_left, and_right, or_cases, or_first, or-true, same_truth, fails}
+use Rattle.prelude.proofs.Bools.{and_intro, and_left, and_right, or_cases, or_first, or-true}
 use Rattle.prelude.proofs.Searches.{any_some, some_of_any}
 use Rattle.prelude.proofs.Courses.{earlier, not_earlier}
 use Rattle.layout.specs.Layout.{most_parts, name_count, expression_count, part_count}
@@ -204,22 +204,14 @@ module _ (s : List ℕ) (joined : Joined s) {p f q : ℕ} (w : FieldUses s p f q
         ])
 
   pub reach_used : in_reach s x q ≡ (opens s p f x || in_reach s x p)
-  reach_used =
-      by_both_ways (is_session s x) refl
-    where
-      by_both_ways :
-          (b : Bool) → is_session s x ≡ b → (b || in_body s x q) ≡ (opens s p f x || (b || in_body s x p))
-      by_both_ways true e = sym (or-true (opens s p f x) true refl)
-      by_both_ways false e =
-          same_truth _ _ (up e) (λ b. or_cases (opens s p f x) _ b (opened e) (down e))
+  reach_used = grind (arith, opened, down, up)
 
 module _ (s : List ℕ) (joined : Joined s) where
   -- in the last part: the session names
   pub reach_last : (q x : ℕ) → suc q ≡ part_count s → x < name_count s → in_reach s x q ≡ is_session s x
-  reach_last q x e known = go (is_session s x) refl
-    where
-      go : (b : Bool) → is_session s x ≡ b → (b || in_body s x q) ≡ b
-      go true n = refl
-      go false n =
-          fails (in_body s x q)
-          (λ b. omega (arith, body_before s joined x known n q b, (declaration s joined x known n).inside))
+  reach_last q x e known =
+      grind (
+        arith,
+        λ (n : is_session s x ≡ false) (b : in_body s x q ≡ true). body_before s joined x known n q b,
+        λ (n : is_session s x ≡ false). (declaration s joined x known n).inside,
+      )

@@ -6,6 +6,7 @@ ghost use Rattle.prelude.specs.Promises.{found, outcome};
 ghost use Rattle.prelude.specs.Sets.{has, IsSet};
 ghost use Rattle.layout.specs.Layout.{name_count, part_count};
 ghost use Rattle.layout.specs.Entries.{is_session};
+ghost use Rattle.layout.specs.Promises.{IsPart};
 ghost use Rattle.fields.specs.Fields.{field_count};
 ghost use Rattle.scope.specs.Reach.{misses_name, is_out_of_reach, reach_refusal};
 ghost use Rattle.scope.specs.Promises.{opens, IsReach, KeepsReach, KeepsReachFrom};
@@ -15,7 +16,7 @@ use fields::field_at;
 use fields::roles::Role;
 use layout::Script;
 use layout::file::File;
-use layout::parts::{Part, SESSION};
+use layout::parts::Part;
 use prelude::search::{any, first};
 use prelude::{Refusal, set};
 use uses::used_at;
@@ -33,7 +34,7 @@ fn session_names(file: &File<'_>) -> u64
 {
     let mut names: u64 = 0;
     for x in 0..file.layout.names {
-        if file.name(x).owner == SESSION {
+        if file.name(x).is_session() {
             names = set::with(names, x);
         }
     }
@@ -43,7 +44,7 @@ fn session_names(file: &File<'_>) -> u64
 // The names in reach in the part that field f of part q uses, where those of `reach` are in reach in part q: in the
 // body of a declaration the declared name is, too.
 fn entered(joined: &JoinedFile<'_>, q: usize, f: usize, reach: u64) -> u64
-    requires { (q < joined.now.file.layout.expressions + joined.now.file.layout.nodes) × (f < field_count) }
+    requires { IsPart joined.now.file.layout q × (f < field_count) }
     ensures { IsSet (name_count joined.now.file.bytes.now) (λ x. opens joined.now.file.bytes.now q f x || has reach x) result }
 {
     let field = field_at(&joined.file, q, f);
@@ -56,7 +57,7 @@ fn entered(joined: &JoinedFile<'_>, q: usize, f: usize, reach: u64) -> u64
 
 // Finds the names in reach in the parts that the fields of part q use, where those of the later parts are found.
 fn enter_fields(joined: &JoinedFile<'_>, q: usize, sets: &mut [u64; Script::MAX_PARTS])
-    requires { (q < joined.now.file.layout.expressions + joined.now.file.layout.nodes) × KeepsReachFrom joined.now.file.bytes.now (q + 1) 0 sets.old }
+    requires { IsPart joined.now.file.layout q × KeepsReachFrom joined.now.file.bytes.now (q + 1) 0 sets.old }
     ensures { KeepsReachFrom joined.now.file.bytes.now q 0 sets.new }
 {
     for f in (0..Part::FIELDS).rev() {
@@ -82,7 +83,7 @@ fn find_reach(joined: &JoinedFile<'_>) -> [u64; Script::MAX_PARTS]
 // Field f of part q uses a name that is not in reach.
 fn misses_name(joined: &JoinedFile<'_>, reach: u64, q: usize, f: usize) -> bool
     requires in_reach { IsReach joined.now.file.bytes.now q reach }
-    requires inside { (q < joined.now.file.layout.expressions + joined.now.file.layout.nodes) × (f < field_count) }
+    requires inside { IsPart joined.now.file.layout q × (f < field_count) }
     ensures { result ≡ misses_name joined.now.file.bytes.now q f }
 {
     let field = field_at(&joined.file, q, f);
@@ -92,7 +93,7 @@ fn misses_name(joined: &JoinedFile<'_>, reach: u64, q: usize, f: usize) -> bool
 #[tactic(auto, unfolding(crate::specs::Reach::is_out_of_reach))]
 fn is_out_of_reach(joined: &JoinedFile<'_>, reach: u64, q: usize) -> bool
     requires in_reach { IsReach joined.now.file.bytes.now q reach }
-    requires inside { q < joined.now.file.layout.expressions + joined.now.file.layout.nodes }
+    requires inside { IsPart joined.now.file.layout q }
     ensures { result ≡ is_out_of_reach joined.now.file.bytes.now q }
 {
     any(Part::FIELDS, |f| misses_name(joined, reach, q, f))

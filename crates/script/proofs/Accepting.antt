@@ -3,13 +3,11 @@ use mathlib.Core.Path.{◌≡◌, refl, ap, ◌∙◌}
 use mathlib.Core.Bool.{true}
 use mathlib.Core.List.{List}
 use Prim.Native.Nat.{ℕ}
-use lib.Dec.{leb, ltb}
-use borrow.Author.Tests.{lt-ltb, ltb-true, le-leb, leb-true}
+use native.Mathlib.Omega.{arith}
+use Rattle.std.proofs.lemmas.Bool.Decides.{nat_tests}
 use Rattle.prelude.specs.Refusals.{refused_by, not_refused, passes, or_else}
-use Rattle.prelude.proofs.Bools.{and_intro, and_left, and_right}
 use Rattle.prelude.proofs.Refusing.{passes_test, passes_both, or_else_next}
 use Rattle.layout.specs.Layout.{tail_is_right, counts_are_right, layout_of, layout_refusal}
-use Rattle.layout.specs.Entries.{name_of}
 use Rattle.layout.proofs.Layouts.{few_bounds, laid}
 use Rattle.entries.specs.Faults.{fault_refusal}
 use Rattle.entries.proofs.Sounding.{Faultless, faultless, sound, no_fault}
@@ -34,13 +32,11 @@ module _ (s : List ℕ) (levels : ℕ) where
         record {
           tail = t.0;
           laid = laid s t.0 c.0;
-          kinds = λ y l. leb-true _ _ (and_left (leb (name_of s y).kind 1) _ (right.names y l));
+          kinds = λ y l. let name = right.names y l in grind (arith, nat_tests);
           joined = record { sound = sound s levels right; once = each_once s some u.0 };
           reach = all_in_reach s u.1;
         },
-        λ y l.
-            ltb-true _ _
-            (and_left (ltb (name_of s y).level levels) _ (and_right (leb (name_of s y).kind 1) _ (right.names y l))),
+        λ y l. let name = right.names y l in grind (arith, nat_tests),
       )
 
   right_all : Checked s → Levelled s levels → Faultless s levels
@@ -48,8 +44,10 @@ module _ (s : List ℕ) (levels : ℕ) where
       record {
         names =
             λ x h.
-            and_intro (leb (name_of s x).kind 1) _ (le-leb _ _ (ok.kinds x h))
-            (and_intro (ltb (name_of s x).level levels) _ (lt-ltb _ _ (levelled x h)) (ok.joined.sound.owners x h));
+            let kind = ok.kinds x h in
+            let level = levelled x h in
+            let owner = ok.joined.sound.owners x h in
+            grind (arith, nat_tests);
         parts = ok.joined.sound.parts;
       }
 

@@ -2,4 +2,3 @@
 pub mod Accepting
 pub mod Theorems
 pub mod Worked
-pub mod Rows

@@ -7,14 +7,12 @@ use native.Mathlib.Numerals.{add-one}
 use native.Mathlib.Omega.{arith}
 use lib.Dec.{eqb}
 use lib.ListN.{replicate, get_or-replicate}
-use Rattle.std.proofs.Common.{Option, Some, None}
-use Rattle.std.specs.Option.{unwrap_or}
+use Rattle.std.proofs.Common.{Some, None}
 use Rattle.prelude.specs.Search.{count, total}
 use Rattle.prelude.proofs.Counts.{count_within}
 use Rattle.layout.specs.Layout.{most_parts, expression_count, part_count}
 use Rattle.fields.specs.declared.Field.{Field}
-use Rattle.fields.specs.declared.roles.Role.{Role}
-use Rattle.fields.specs.declared.roles.Role.TheVariants.{Unused, Register, Signal, NewRegister, NewSignal, Expression, Child, Half}
+use Rattle.fields.specs.declared.roles.Role.TheVariants.{Expression, Child}
 use Rattle.fields.specs.Fields.{field_count, field_of}
 use Rattle.uses.specs.Uses.{part_used, used_by, used, times_in, times_used}
 use Rattle.uses.specs.Promises.{KeepsTimes, KeepsTimesTo}
@@ -55,11 +53,7 @@ module _ (s : List ℕ) where
 
 -- a number of a part is that of one that is used
 pub used_part : (n : ℕ) (x : Field) → used_by n x < most_parts → part_used n x ≡ Some (used_by n x)
-used_part n x = go (part_used n x)
-  where
-    go : (o : Option ℕ) → unwrap_or o most_parts < most_parts → o ≡ Some (unwrap_or o most_parts)
-    go None h = absurd (omega arith)
-    go (Some u) h = refl
+used_part n x h = grind arith
 
 pub used_expression : (n : ℕ) (x : Field) → x.role ≡ Expression → used_by n x ≡ x.value
 used_expression n x e = rw e
@@ -70,14 +64,4 @@ used_child n x e = rw e
 pub used_by_role :
     (M : ℕ → Type 0) (n : ℕ) (x : Field) → (x.role ≡ Expression → M x.value) → (x.role ≡ Child → M (n + x.value)) →
     M most_parts → M (used_by n x)
-used_by_role M n x operand node none = go x.role refl
-  where
-    go : (r : Role) → x.role ≡ r → M (used_by n x)
-    go Expression e = rw e (operand e)
-    go Child e = rw e (node e)
-    go Unused e = rw e none
-    go Register e = rw e none
-    go Signal e = rw e none
-    go NewRegister e = rw e none
-    go NewSignal e = rw e none
-    go Half e = rw e none
+used_by_role M n x operand node none = grind (arith, operand, node, none)

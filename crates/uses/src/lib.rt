@@ -4,6 +4,7 @@
 ghost use Rattle.std.specs.Prelude.{◌≡◌, ◌+◌, ◌-◌, ◌<◌};
 ghost use Rattle.prelude.specs.Promises.{found, outcome};
 ghost use Rattle.layout.specs.Layout.{expression_count, part_count};
+ghost use Rattle.layout.specs.Promises.{IsPart};
 ghost use Rattle.fields.specs.Fields.{field_count, field_of};
 ghost use Rattle.uses.specs.Uses.{part_used, is_loose, use_refusal};
 ghost use Rattle.uses.specs.Promises.{KeepsTimes, KeepsTimesTo};
@@ -18,7 +19,7 @@ use prelude::search::first;
 
 // The part that field f of part q uses, if it uses one.
 pub fn used_at(file: &File<'_>, q: usize, f: usize) -> Option<usize>
-    requires { (q < file.now.layout.expressions + file.now.layout.nodes) × (f < field_count) }
+    requires { IsPart file.now.layout q × (f < field_count) }
     ensures { result ≡ part_used (expression_count file.now.bytes.now) (field_of file.now.bytes.now q f) }
 {
     let field = field_at(file, q, f);
@@ -31,7 +32,7 @@ pub fn used_at(file: &File<'_>, q: usize, f: usize) -> Option<usize>
 
 // Counts what the fields of part q use, where those of the parts before it are counted.
 fn count_fields(file: &File<'_>, q: usize, times: &mut [u16; Script::MAX_PARTS])
-    requires { (q < file.now.layout.expressions + file.now.layout.nodes) × KeepsTimesTo file.now.bytes.now q 0 times.old }
+    requires { IsPart file.now.layout q × KeepsTimesTo file.now.bytes.now q 0 times.old }
     ensures { KeepsTimesTo file.now.bytes.now (q + 1) 0 times.new }
 {
     for f in 0..Part::FIELDS {

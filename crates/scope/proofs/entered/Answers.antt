@@ -4,11 +4,11 @@ use native.Mathlib.Omega.{arith}
 use borrow.Author.Rules.{rules}
 use denote.Enum.Bare.{same_true}
 use Rattle.layout.proofs.Layouts.{few_bounds, names_are, parts_are}
+use Rattle.fields.specs.declared.Field.{Field}
 use Rattle.fields.specs.contracts.roles.Role.{the_type}
 use Rattle.fields.specs.declared.roles.Role.TheVariants.{Child}
 use Rattle.fields.specs.Roles.{is_child, is_new}
 use Rattle.entries.proofs.Naming.{named_new}
-use Rattle.scope.proofs.Entering.{opens_name}
 use Rattle.scope.proofs.entered.Goals as goal
 
 pub with-requires : goal.with-requires
@@ -23,8 +23,10 @@ with-requires c =
 pub returns-then-is_new : goal.returns-then-is_new
 returns-then-is_new c =
     let file = c.args.joined.now.file in
+    let role = same_true the_type (search rules) _ _ (sym c.if-eq.ensures) in
+    let child = ap (λ (z : Field). is_child z.role) (sym c.field_at-field.ensures.field) ∙ ap is_child {y = Child} role in
+    let declared = c.field_at-declared.ensures.field in
+    let new = ap (λ (z : Field). is_new z.role) (sym declared) ∙ sym c.if-is_new.ensures in
     λ x h.
     c.with.ensures x (omega (arith, names_are file.laid, few_bounds file.layout file.laid.few))
-    ∙ opens_name file.bytes.now c.args.q c.args.f x _ _ c.field_at-field.ensures.field _ c.field_at-declared.ensures.field
-    (ap is_child {y = Child} (same_true the_type (search rules) _ _ (sym c.if-eq.ensures)))
-    (sym c.if-is_new.ensures)
+    ∙ rw (child, new, ap (λ (z : Field). z.value) declared)

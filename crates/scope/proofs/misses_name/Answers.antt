@@ -5,9 +5,9 @@ use Prim.Native.Nat.{◌<◌}
 use native.Mathlib.Omega.{arith}
 use Rattle.layout.specs.Layout.{name_count}
 use Rattle.layout.proofs.Layouts.{few_bounds, names_are, parts_are}
+use Rattle.fields.specs.declared.Field.{Field}
 use Rattle.fields.specs.Roles.{is_use}
 use Rattle.entries.proofs.Naming.{named_use}
-use Rattle.scope.proofs.Entering.{misses_name_lem}
 use Rattle.scope.proofs.misses_name.Goals as goal
 use Rattle.scope.proofs.misses_name.Goals.{Then-is_use}
 
@@ -28,7 +28,7 @@ has-requires c =
 
 pub returns-then-is_use : goal.returns-then-is_use
 returns-then-is_use c =
+    let field = c.field_at-field.ensures.field in
+    let used = ap (λ (z : Field). is_use z.role) (sym field) ∙ sym c.if-is_use.ensures in
     ap not (c.has.ensures ∙ c.requires.in_reach _ (known (goal.at.returns-then-is_use c).Then-is_use))
-    ∙ sym
-    (misses_name_lem c.args.joined.now.file.bytes.now c.args.q c.args.f _ c.field_at-field.ensures.field
-    (sym c.if-is_use.ensures))
+    ∙ rw (used, ap (λ (z : Field). z.value) field)
