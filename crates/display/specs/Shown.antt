@@ -15,6 +15,12 @@ value_text w = cond (ltb w 2147483648) (number_text w 10) (45 ∷ number_text (4
 abbrev pub word_text : List ℕ → ℕ → List ℕ
 word_text log i = cond (eqb (i % 4) 3) (value_text (get_or log i 0)) (number_text (get_or log i 0) 32)
 
+-- a line of a log, by its four words
+abbrev pub line_text : List ℕ → List ℕ
+line_text line =
+    let number : ℕ → List ℕ = λ i. number_text (get_or line i 0) 32 in
+    number 0 ++ (number 1 ++ (number 2 ++ value_text (get_or line 3 0)))
+
 -- the first n words of a log
 unfoldable pub words_text : List ℕ → ℕ → List ℕ
 words_text log n = concat (table (word_text log) n)

@@ -1,29 +1,24 @@
 // What the calls answer of a script, printed in the form that 01 gives; and the bound on its moves.
 #![tactic(auto)]
 
-ghost use Rattle.std.specs.Prelude.{◌≡◌, ◌%◌, OnOk, cond, eqb};
+ghost use Rattle.std.specs.Prelude.{◌≡◌, OnOk, length};
 ghost use Rattle.std.specs.Io.KnownBytes.{Appends};
-ghost use Rattle.text.specs.Written.{number_text, pair_text};
+ghost use Rattle.text.specs.Written.{pair_text};
 ghost use Rattle.engine.specs.Answers.{verdict};
-ghost use Rattle.display.specs.Shown.{value_text, lines_text, ending_word, answers_text, left_with, run_text, moves_text, bound_text};
+ghost use Rattle.display.specs.Shown.{line_text, lines_text, ending_word, answers_text, left_with, run_text, moves_text, bound_text};
 
 use results::{RunResult, Verdict};
 use std::io;
 use std::io::Write;
-use text::{say, say_byte, say_number, say_pair, say_refusal};
+use text::say_refusal;
 
-// The word at index i of a log: of a line's four words the last is a signed value, in two's complement.
-fn say_word<W: Write>(out: &mut W, i: usize, w: u32) -> io::Result<()>
-    ensures { OnOk result (Appends (W.contents out.old) (W.contents out.new) (cond (eqb (i % 4) 3) (value_text w) (number_text w 32))) }
+// A line of a log: of its four words the last is a signed value, in two's complement.
+fn say_line<W: Write>(out: &mut W, line: &[u32]) -> io::Result<()>
+    requires { length line.now ≡ 4 }
+    ensures { OnOk result (Appends (W.contents out.old) (W.contents out.new) (line_text line.now)) }
 {
-    if i % 4 != 3 {
-        say_number(out, w as u64, b' ')
-    } else if w < 2147483648 {
-        say_number(out, w as u64, b'\n')
-    } else {
-        say_byte(out, b'-')?;
-        say_number(out, 4294967296 - (w as u64), b'\n')
-    }
+    let value = line[3].cast_signed();
+    writeln!(out, "{} {} {} {value}", line[0], line[1], line[2])
 }
 
 // The first lines of a log that has so many.
@@ -34,10 +29,8 @@ fn say_lines<W: Write>(out: &mut W, log: &[u32], lines: u32) -> io::Result<()>
     if log.len() < n {
         return Ok(());
     }
-    let mut i: usize = 0;
-    while i < n {
-        say_word(out, i, log[i])?;
-        i += 1;
+    for line in log[..n].chunks_exact(4) {
+        say_line(out, line)?;
     }
     Ok(())
 }
@@ -45,13 +38,12 @@ fn say_lines<W: Write>(out: &mut W, log: &[u32], lines: u32) -> io::Result<()>
 fn say_ending<W: Write>(out: &mut W, ending: u32, steps: u32, instants: u32) -> io::Result<()>
     ensures { OnOk result (Appends (W.contents out.old) (W.contents out.new) (pair_text (ending_word ending) steps instants)) }
 {
-    if ending == 0 {
-        say_pair(out, b"finished ", steps, instants)
-    } else if ending == 1 {
-        say_pair(out, b"spent ", steps, instants)
-    } else {
-        say_pair(out, b"log full ", steps, instants)
-    }
+    let word = match ending {
+        0 => "finished",
+        1 => "spent",
+        _ => "log full",
+    };
+    writeln!(out, "{word} {steps} {instants}")
 }
 
 // What the two calls answered of a script. A refusal is all that is printed of a refused call of run; else W and T,
@@ -63,7 +55,7 @@ fn say_answers<W: Write>(out: &mut W, v: Verdict, r: RunResult, log: &[u32]) -> 
     if r.number != 0 {
         return say_refusal(out, r.number, r.place);
     }
-    say_pair(out, b"accepted ", v.write, v.test)?;
+    writeln!(out, "accepted {} {}", v.write, v.test)?;
     say_lines(out, log, r.lines)?;
     say_ending(out, r.ending, r.steps, r.instants)
 }
@@ -90,17 +82,9 @@ fn say_bound<W: Write>(out: &mut W, bound: Option<u32>) -> io::Result<()>
     ensures { OnOk result (Appends (W.contents out.old) (W.contents out.new) (moves_text bound)) }
 {
     match bound {
-        Some(moves) => say_moves(out, moves),
-        None => say(out, b"no bound\n"),
+        Some(moves) => writeln!(out, "at most {moves} moves"),
+        None => writeln!(out, "no bound"),
     }
-}
-
-fn say_moves<W: Write>(out: &mut W, moves: u32) -> io::Result<()>
-    ensures { OnOk result (Appends (W.contents out.old) (W.contents out.new) (moves_text (Some moves))) }
-{
-    say(out, b"at most ")?;
-    say_number(out, moves as u64, b' ')?;
-    say(out, b"moves\n")
 }
 
 // Checks a script and prints how many moves it can make.
@@ -112,6 +96,5 @@ pub fn show_bound<W: Write>(out: &mut W, book: &[u8], script: &[u8]) -> io::Resu
     if v.number != 0 {
         return say_refusal(out, v.number, v.place);
     }
-    let moves = v.moves;
-    say_bound(out, moves)
+    say_bound(out, v.moves)
 }

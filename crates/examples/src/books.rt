@@ -4,7 +4,6 @@ ghost use Rattle.std.specs.Prelude.{◌<◌, ◌≤◌};
 ghost use Rattle.book.specs.LevelBook.{most_levels};
 ghost use Rattle.order.specs.Rows.{InOrder};
 
-use crate::say;
 use book::Book;
 use pairs::table;
 use pairs::table::PairTable;
@@ -18,22 +17,18 @@ const MARK: u8 = 99;
 fn say_row<W: Write>(out: &mut W, t: &PairTable, n: usize, i: usize) -> io::Result<()>
     requires { (i < n) × (n ≤ most_levels) }
 {
-    let mut j: usize = 0;
-    while j < n {
-        say(out, b" ", table::level_at(t, i, j))?;
-        j += 1;
+    for j in 0..n {
+        write!(out, " {}", table::level_at(t, i, j))?;
     }
-    text::say_byte(out, b'\n')
+    writeln!(out)
 }
 
-fn say_table<W: Write>(out: &mut W, title: &[u8], t: &PairTable, n: usize) -> io::Result<()>
+fn say_table<W: Write>(out: &mut W, title: &str, t: &PairTable, n: usize) -> io::Result<()>
     requires { n ≤ most_levels }
 {
-    text::say(out, title)?;
-    let mut i: usize = 0;
-    while i < n {
+    writeln!(out, "{title}")?;
+    for i in 0..n {
         say_row(out, t, n, i)?;
-        i += 1;
     }
     Ok(())
 }
@@ -41,16 +36,17 @@ fn say_table<W: Write>(out: &mut W, title: &[u8], t: &PairTable, n: usize) -> io
 fn say_tables<W: Write>(out: &mut W, join: PairTable, meet: PairTable, n: usize) -> io::Result<()>
     requires { n ≤ most_levels }
 {
-    say_table(out, b"\njoins\n", &join, n)?;
-    say_table(out, b"meets\n", &meet, n)
+    writeln!(out)?;
+    say_table(out, "joins", &join, n)?;
+    say_table(out, "meets", &meet, n)
 }
 
 fn say_book<W: Write>(out: &mut W, b: Book, join: PairTable, meet: PairTable) -> io::Result<()>
     requires { b.count ≤ most_levels }
 {
-    say(out, b"levels ", b.count)?;
-    say(out, b" bottom ", lattice::bottom_of(b))?;
-    say(out, b" top ", lattice::top_of(b))?;
+    let bottom = lattice::bottom_of(b);
+    let top = lattice::top_of(b);
+    write!(out, "levels {} bottom {bottom} top {top}", b.count)?;
     say_tables(out, join, meet, b.count)
 }
 
@@ -75,8 +71,7 @@ fn show_first<W: Write>(out: &mut W, b: Book, most: usize) -> io::Result<()>
     let mut join = [[MARK; Book::MAX_LEVELS]; Book::MAX_LEVELS];
     let mut meet = [[MARK; Book::MAX_LEVELS]; Book::MAX_LEVELS];
     let swept = pairs::sweep(b, most, &mut join, &mut meet);
-    say(out, b"taken ", swept.taken)?;
-    say(out, b" place ", swept.place)?;
+    write!(out, "taken {} place {}", swept.taken, swept.place)?;
     say_tables(out, join, meet, b.count)
 }
 

@@ -14,16 +14,10 @@ use text::{hex, input};
 // The most bytes that are read of the files.
 const TEXT: usize = 4096;
 
-// A word and a number.
-fn say<W: Write>(out: &mut W, word: &[u8], n: usize) -> io::Result<()> {
-    text::say(out, word)?;
-    write!(out, "{n}")
-}
-
 // The number of pairs, and a level book.
 fn show_first<W: Write>(out: &mut W, bytes: &[u8]) -> io::Result<()> {
-    if 0 < bytes.len() {
-        books::show(out, &bytes[1..], false, prelude::wide(bytes[0]))?;
+    if let Some((most, file)) = bytes.split_first() {
+        books::show(out, file, false, usize::from(*most))?;
     }
     Ok(())
 }

@@ -2,7 +2,6 @@
 ghost use Rattle.layout.specs.Promises.{Laid};
 ghost use Rattle.script.specs.Checked.{Checked};
 
-use crate::say;
 use layout::Script;
 use std::io;
 use std::io::Write;
@@ -12,11 +11,12 @@ fn say_script<W: Write>(out: &mut W, file: &[u8], c: Script) -> io::Result<()>
 {
     let sizes = tree::sizes::find_sizes(file, c);
     let n = c.nodes;
-    say(out, b"names ", c.names)?;
-    say(out, b" expressions ", c.expressions)?;
-    say(out, b" nodes ", n)?;
-    say(out, b" size ", sizes[n - 1] as usize)?;
-    text::say_byte(out, b'\n')
+    let size = sizes[n - 1];
+    writeln!(
+        out,
+        "names {} expressions {} nodes {n} size {size}",
+        c.names, c.expressions
+    )
 }
 
 pub fn show<W: Write>(out: &mut W, file: &[u8]) -> io::Result<()> {

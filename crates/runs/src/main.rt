@@ -18,58 +18,26 @@ const SCRIPT: usize = 512;
 // before them, and behind them a byte for each word of the list.
 const CALL: usize = 72;
 
-fn signed(byte: u8) -> i32 {
-    byte as i32
-}
-
-fn unsigned(byte: u8) -> u32 {
-    byte as u32
-}
-
-fn numbers_of(bytes: &[u8]) -> [i32; CALL]
-    requires { length bytes.now ≤ 72 }
-{
-    let mut numbers = [0i32; CALL];
-    let mut i: usize = 0;
-    while i < bytes.len() {
-        numbers[i] = signed(bytes[i]);
-        i += 1;
-    }
-    numbers
-}
-
-fn words_of(bytes: &[u8]) -> [u32; CALL]
-    requires { length bytes.now ≤ 72 }
-{
-    let mut words = [0u32; CALL];
-    let mut i: usize = 0;
-    while i < bytes.len() {
-        words[i] = unsigned(bytes[i]);
-        i += 1;
-    }
-    words
-}
-
-// Runs a script by the bytes of a call: its values begin at index `from`, its list at index `end`.
+// Runs a script by the first n bytes of a call: its values begin at index `from`, its list at index `end`.
 fn call<W: Write>(
     out: &mut W,
     script: &[u8],
-    bytes: &[u8],
+    bytes: &[u8; CALL],
     from: usize,
     end: usize,
+    n: usize,
 ) -> io::Result<()>
-    requires { (7 ≤ from) × (from ≤ end) × (end ≤ length bytes.now) × (length bytes.now ≤ 72) }
+    requires { (from ≤ end) × (end ≤ n) × (n ≤ 72) }
 {
-    let mut numbers = numbers_of(bytes);
-    let words = words_of(bytes);
-    let n = bytes.len();
-    let limit = prelude::word_of(bytes[5], bytes[6]) as u32;
+    let mut numbers = bytes.map(i32::from);
+    let words = bytes.map(u32::from);
+    let limit = u16::from_be_bytes([bytes[5], bytes[6]]);
     display::show_run(
         out,
-        &bytes[0..5],
+        &bytes[..5],
         script,
         &mut numbers[from..end],
-        limit,
+        u32::from(limit),
         &words[end..n],
     )
 }
@@ -78,21 +46,19 @@ fn run<W: Write>(out: &mut W, line: &[u8], script: &[u8]) -> io::Result<()> {
     let mut bytes = [0u8; CALL];
     let n = hex::read(line, &mut bytes, 0);
     if 7 <= n {
-        call(out, script, &bytes[0..n], 7, n)?;
+        call(out, script, &bytes, 7, n, n)?;
     }
-    text::say_byte(out, b'\n')
+    writeln!(out)
 }
 
 fn run_listed<W: Write>(out: &mut W, line: &[u8], script: &[u8]) -> io::Result<()> {
     let mut bytes = [0u8; CALL];
     let n = hex::read(line, &mut bytes, 0);
-    let count = prelude::wide(bytes[7]);
-    if 8 <= n {
-        if count <= n - 8 {
-            call(out, script, &bytes[0..n], 8, 8 + count)?;
-        }
+    let end = 8 + usize::from(bytes[7]);
+    if end <= n {
+        call(out, script, &bytes, 8, end, n)?;
     }
-    text::say_byte(out, b'\n')
+    writeln!(out)
 }
 
 fn bound<W: Write>(out: &mut W, line: &[u8], script: &[u8]) -> io::Result<()> {
@@ -108,7 +74,7 @@ fn take_line<W: Write>(out: &mut W, line: &[u8], script: &mut [u8], end: usize) 
     ensures { IfOk result (λ n. n ≤ length script.old) }
 {
     match line[0] {
-        b'>' => text::say(out, &line[1..])?,
+        b'>' => out.write_all(&line[1..])?,
         b'n' => return Ok(0),
         b's' => return Ok(hex::read(line, script, end)),
         b'r' => run(out, line, &script[0..end])?,

@@ -1,2 +1,2 @@
 -- Laws that the proof of `read_values` uses.
-pub mod Reading
+pub mod Pieces

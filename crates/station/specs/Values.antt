@@ -1,5 +1,5 @@
 -- 01: 'values.val (4-byte signed; a last piece under 4 bytes is a wrong length)'; big-endian, as every number of a file.
-use Rattle.std.specs.Prelude.{◌≡◌, Bool, true, cond, ◌&&◌, List, ℕ, ◌+◌, ◌*◌, ◌/◌, ◌%◌, ◌≤◌, eqb, leb, ℤ, get_or, length, take}
+use Rattle.std.specs.Prelude.{◌≡◌, Bool, cond, ◌&&◌, List, ℕ, ◌+◌, ◌*◌, ◌/◌, ◌%◌, ◌≤◌, eqb, leb, ℤ, get_or, length, take, Option, Some, None, IfSome}
 use Rattle.std.specs.Int.{w32}
 use Rattle.std.proofs.Common.{to_z}
 use Rattle.prelude.specs.Numbers.{word}
@@ -21,8 +21,8 @@ value_in bytes i = value_at bytes (4 * i)
 abbrev pub is_right : ℕ → List ℕ → Bool
 is_right room bytes = eqb (length bytes % 4) 0 && leb (length bytes / 4) room
 
--- The n values of a file have been read. A wrong length is answered by all the room that there was.
-pub record ValuesRead (bytes : List ℕ) (room : ℕ) (values : List ℤ) (n : ℕ) : Type 0 where
-  pub within : n ≤ length values
-  pub count : n ≡ cond (is_right room bytes) (length bytes / 4) room
-  pub read : is_right room bytes ≡ true → take n values ≡ table (value_in bytes) n
+-- All values of a file have been read, n of them; none of a wrong length.
+pub record ValuesRead (bytes : List ℕ) (room : ℕ) (values : List ℤ) (n : Option ℕ) : Type 0 where
+  pub count : n ≡ cond (is_right room bytes) (Some (length bytes / 4)) None
+  pub within : IfSome n (λ k. k ≤ length values)
+  pub read : IfSome n (λ k. take k values ≡ table (value_in bytes) k)

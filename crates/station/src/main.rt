@@ -3,8 +3,6 @@
 
 mod file_values; // file_values.rt: the values that a file holds
 
-ghost use Rattle.std.specs.Prelude.{◌≤◌, length, IfOk};
-
 use layout::Script;
 use std::fs::File;
 use std::io;
@@ -15,29 +13,28 @@ use std::rt::Files;
 const SIZE: usize = 65536;
 
 // The first bytes of a file, as many as there is room for; none of a file that cannot be opened.
-fn load<R: Files>(rt: &R, path: &str, buffer: &mut [u8; SIZE]) -> io::Result<usize>
-    ensures { IfOk result (λ n. n ≤ length buffer.new) }
-{
-    match File::open(rt, path) {
-        Ok(mut file) => text::input::read_full(&mut file, buffer),
-        Err(_) => Ok(0),
-    }
+fn load<'a, R: Files>(rt: &R, path: &str, room: &'a mut [u8; SIZE]) -> io::Result<&'a [u8]> {
+    let n = match File::open(rt, path) {
+        Ok(mut file) => text::input::read_full(&mut file, room)?,
+        Err(_) => 0,
+    };
+    Ok(&room[..n])
 }
 
 // Runs a script from the values of a file, for 1000 steps. No signal is listed.
 fn show<W: Write>(out: &mut W, book: &[u8], script: &[u8], bytes: &[u8]) -> io::Result<()> {
     let mut values = [0i32; Script::MAX_NAMES + 1];
-    let n = file_values::read_values(bytes, &mut values);
-    let list = [0u32; 0];
-    display::show_run(out, book, script, &mut values[0..n], 1000, &list)
+    // No script has as many names as there is room for: all of it is a wrong length.
+    let n = file_values::read_values(bytes, &mut values).unwrap_or(values.len());
+    display::show_run(out, book, script, &mut values[..n], 1000, &[])
 }
 
 fn main(rt: HostRuntime) -> io::Result<()> {
     let mut book = [0u8; SIZE];
     let mut script = [0u8; SIZE];
     let mut values = [0u8; SIZE];
-    let b = load(&rt, "levels.lvl", &mut book)?;
-    let s = load(&rt, "script.scr", &mut script)?;
-    let v = load(&rt, "values.val", &mut values)?;
-    show(&mut rt.stdout(), &book[..b], &script[..s], &values[..v])
+    let book = load(&rt, "levels.lvl", &mut book)?;
+    let script = load(&rt, "script.scr", &mut script)?;
+    let values = load(&rt, "values.val", &mut values)?;
+    show(&mut rt.stdout(), book, script, values)
 }

@@ -1,5 +1,5 @@
 -- Lines of text that give bytes by two digits each, 0 to 9 and A to F. A remark goes from # to the end of its line.
-use Rattle.std.specs.Prelude.{◌≡◌, Bool, cond, ◌&&◌, List, [], ◌∷◌, ℕ, suc, ◌+◌, ◌-◌, ◌*◌, ◌≤◌, ◌<◌, eqb, leb, drop, get_or, length}
+use Rattle.std.specs.Prelude.{◌≡◌, Bool, cond, ◌&&◌, List, [], ◌∷◌, ℕ, suc, ◌+◌, ◌-◌, ◌*◌, ◌≤◌, ◌<◌, eqb, leb, get_or, length, Option, Some, None}
 use Rattle.std.proofs.lemmas.List.Edits.{sets}
 use Rattle.prelude.specs.Search.{first_from, lesser}
 
@@ -21,21 +21,19 @@ pub record LineEnds (text : List ℕ) (at r : ℕ) : Type 0 where
 abbrev pub is_from : ℕ → ℕ → ℕ → Bool
 is_from a b c = leb a c && leb c b
 
--- what a digit stands for, of '0' to '9', 48 to 57, and 'A' to 'F', 65 to 70; 16 of any other character
-unfoldable pub digit : ℕ → ℕ
-digit c = cond (is_from 48 57 c) (c - 48) (cond (is_from 65 70 c) (c - 55) 16)
+-- what a digit stands for, of '0' to '9', 48 to 57, and 'A' to 'F', 65 to 70
+unfoldable pub digit : ℕ → Option ℕ
+digit c = cond (is_from 48 57 c) (Some (c - 48)) (cond (is_from 65 70 c) (Some (c - 55)) None)
+
+-- a digit, if there is one, before others
+abbrev pub before : Option ℕ → List ℕ → List ℕ
+before (Some d) more = d ∷ more
+before None more = more
 
 -- the digits of a line up to its remark, at '#', 35, one after the other; all else between them is passed over
 unfoldable pub digits : List ℕ → List ℕ
 digits [] = []
-digits (c ∷ line) = cond (eqb (digit c) 16) (cond (eqb c 35) [] (digits line)) (digit c ∷ digits line)
-
--- from index `from` on, r is the index of the first digit, or the length of a line that has none left
-pub record NextDigit (line : List ℕ) (from r : ℕ) : Type 0 where
-  pub after : from ≤ r
-  pub within : r ≤ length line
-  pub passed : digits (drop from line) ≡ digits (drop r line)
-  pub is : r < length line → digit (get_or line r 0) < 16
+digits (c ∷ line) = cond (eqb c 35) [] (before (digit c) (digits line))
 
 -- two digits make a byte, the high one first; a last one alone makes none
 unfoldable pub bytes_of : List ℕ → List ℕ

@@ -1,15 +1,13 @@
--- `say_lines`: the words before index i have been printed, and the log has room for the others.
-use Rattle.std.proofs.Common.{length, ◌-◌, ◌≤◌}
+-- `say_lines`: the lines before this one have been printed.
+use Rattle.std.proofs.Common.{◌≡◌, ◌*◌, length, drop, take}
 use Rattle.std.specs.Io.KnownBytes.{Appends}
+use Rattle.std.specs.Slice.Iter.{chunks_exact_rest, chunks_exact_size}
 use Rattle.display.specs.Shown.{words_text}
 use Rattle.display.proofs.say_lines.Given as goal
 
-abbrev pub invariant-loop-i : goal.invariant-loop-i
-invariant-loop-i g l = record {
-  within : l.i ≤ l.n;
-  room : l.n ≤ length l.log;
-  printed : Appends (g.W.Write.contents l.initial.out) (g.W.Write.contents l.out) (words_text l.log l.i);
+abbrev pub invariant-loop-line : goal.invariant-loop-line
+invariant-loop-line g l = record {
+  size : chunks_exact_size l.line-iterator ≡ 4;
+  rest : chunks_exact_rest l.line-iterator ≡ drop (4 * length l.yielded) (take l.n l.log);
+  printed : Appends (g.W.Write.contents l.initial.out) (g.W.Write.contents l.out) (words_text l.log (4 * length l.yielded));
 }
-
-abbrev pub decreases-loop-i : goal.decreases-loop-i
-decreases-loop-i g l = l.n - l.i

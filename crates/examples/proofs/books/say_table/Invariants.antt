@@ -1,9 +1,0 @@
--- `say_table`: i stays at most n.
-use Rattle.std.proofs.Common.{◌-◌, ◌≤◌}
-use Rattle.examples.proofs.books.say_table.Given as goal
-
-abbrev pub invariant-loop-i : goal.invariant-loop-i
-invariant-loop-i g l = l.i ≤ l.n
-
-abbrev pub decreases-loop-i : goal.decreases-loop-i
-decreases-loop-i g l = l.n - l.i
