@@ -2,11 +2,10 @@
 // leaves.
 ghost use Rattle.std.specs.Prelude.{◌<◌, ◌≤◌};
 ghost use Rattle.book.specs.LevelBook.{most_levels};
-ghost use Rattle.order.specs.Rows.{InOrder};
 
 use book::Book;
-use pairs::table;
-use pairs::table::PairTable;
+use order::OrderedBook;
+use pairs::table::{PairTable, Tables};
 use std::io;
 use std::io::Write;
 
@@ -18,7 +17,7 @@ fn say_row<W: Write>(out: &mut W, t: &PairTable, n: usize, i: usize) -> io::Resu
     requires { (i < n) × (n ≤ most_levels) }
 {
     for j in 0..n {
-        write!(out, " {}", table::level_at(t, i, j))?;
+        write!(out, " {}", t.level_at(i, j))?;
     }
     writeln!(out)
 }
@@ -33,57 +32,49 @@ fn say_table<W: Write>(out: &mut W, title: &str, t: &PairTable, n: usize) -> io:
     Ok(())
 }
 
-fn say_tables<W: Write>(out: &mut W, join: PairTable, meet: PairTable, n: usize) -> io::Result<()>
+fn say_tables<W: Write>(out: &mut W, tables: &Tables, n: usize) -> io::Result<()>
     requires { n ≤ most_levels }
 {
     writeln!(out)?;
-    say_table(out, "joins", &join, n)?;
-    say_table(out, "meets", &meet, n)
+    say_table(out, "joins", &tables.join, n)?;
+    say_table(out, "meets", &tables.meet, n)
 }
 
-fn say_book<W: Write>(out: &mut W, b: Book, join: PairTable, meet: PairTable) -> io::Result<()>
+fn say_book<W: Write>(out: &mut W, b: Book, tables: &Tables) -> io::Result<()>
     requires { b.count ≤ most_levels }
 {
     let bottom = lattice::bottom_of(b);
     let top = lattice::top_of(b);
     write!(out, "levels {} bottom {bottom} top {top}", b.count)?;
-    say_tables(out, join, meet, b.count)
+    say_tables(out, tables, b.count)
 }
 
-// All of a book in order, or refusal 3.
-fn show_all<W: Write>(out: &mut W, b: Book) -> io::Result<()>
-    requires { InOrder b.rows b.count }
-{
-    let mut join = table::new_table();
-    let mut meet = table::new_table();
-    let swept = pairs::sweep(b, Book::PLACES, &mut join, &mut meet);
-    let lack = pairs::lack_refusal(swept.place);
-    if 0 < lack.number {
-        return text::say_refusal(out, lack.number, lack.place);
+// All of a level book.
+pub fn show_all<W: Write>(out: &mut W, file: &[u8]) -> io::Result<()> {
+    match lattice::load(file) {
+        Ok(checked) => say_book(out, checked.book, &checked.tables),
+        Err(refusal) => text::say_refusal(out, refusal.number, refusal.place),
     }
-    say_book(out, b, join, meet)
 }
 
-// What a sweep over the first `most` pairs of a book in order gives, and what it leaves in tables of marks.
-fn show_first<W: Write>(out: &mut W, b: Book, most: usize) -> io::Result<()>
-    requires { InOrder b.rows b.count }
-{
-    let mut join = [[MARK; Book::MAX_LEVELS]; Book::MAX_LEVELS];
-    let mut meet = [[MARK; Book::MAX_LEVELS]; Book::MAX_LEVELS];
-    let swept = pairs::sweep(b, most, &mut join, &mut meet);
-    write!(out, "taken {} place {}", swept.taken, swept.place)?;
-    say_tables(out, join, meet, b.count)
+// What a sweep over the first `most` pairs of a book in order gives, and what it leaves in tables of marks. Where no pair lacks
+// a level, the place behind all of them is printed.
+fn say_first<W: Write>(out: &mut W, levels: &OrderedBook, most: usize) -> io::Result<()> {
+    let marks = PairTable::filled(MARK);
+    let mut tables = Tables {
+        join: marks,
+        meet: marks,
+    };
+    let swept = pairs::sweep(levels, most, &mut tables);
+    let place = swept.place.map_or(Book::PLACES, |place| place as usize);
+    write!(out, "taken {} place {place}", swept.taken)?;
+    say_tables(out, &tables, levels.book.count)
 }
 
-// A level book: all of it, or its first `most` pairs alone.
-pub fn show<W: Write>(out: &mut W, file: &[u8], all: bool, most: usize) -> io::Result<()> {
-    let read = order::load(file);
-    if 0 < read.refusal.number {
-        return text::say_refusal(out, read.refusal.number, read.refusal.place);
-    }
-    if all {
-        show_all(out, read.book)
-    } else {
-        show_first(out, read.book, most)
+// The first `most` pairs of a level book alone.
+pub fn show_first<W: Write>(out: &mut W, file: &[u8], most: usize) -> io::Result<()> {
+    match order::load(file) {
+        Ok(book) => say_first(out, &OrderedBook { book }, most),
+        Err(refusal) => text::say_refusal(out, refusal.number, refusal.place),
     }
 }

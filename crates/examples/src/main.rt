@@ -17,7 +17,7 @@ const TEXT: usize = 4096;
 // The number of pairs, and a level book.
 fn show_first<W: Write>(out: &mut W, bytes: &[u8]) -> io::Result<()> {
     if let Some((most, file)) = bytes.split_first() {
-        books::show(out, file, false, usize::from(*most))?;
+        books::show_first(out, file, usize::from(*most))?;
     }
     Ok(())
 }
@@ -30,7 +30,7 @@ fn take_line<W: Write>(out: &mut W, line: &[u8]) -> io::Result<()>
     let n = hex::read(line, &mut bytes, 0);
     let file = &bytes[0..n];
     match line[0] {
-        b'b' => books::show(out, file, true, 0),
+        b'b' => books::show_all(out, file),
         b'f' => show_first(out, file),
         b's' => scripts::show(out, file),
         _ => Ok(()),
