@@ -15,13 +15,12 @@ use Rattle.book.proofs.Sizes.{few_read}
 use Rattle.lattice.specs.Lattice.{book_lattice}
 use Rattle.lattice.proofs.Passing.{passing}
 use Rattle.lattice.proofs.Theorems.{order_at}
-use Rattle.language.specs.Calls.{starts, readable, most_steps}
+use Rattle.language.specs.Calls.{starts, readable, most_steps, ending_number}
 use Rattle.language.specs.Paths.{IsRun}
 use Rattle.language.proofs.Theorems.{runs_agree}
 use Rattle.language.proofs.Naming.{run_alike}
 use Rattle.language.proofs.Stopping.{run_few}
-use Rattle.layout.specs.declared.Script.{Script}
-use Rattle.layout.specs.Layout.{layout_of, name_count}
+use Rattle.layout.specs.Layout.{name_count}
 use Rattle.layout.specs.Entries.{name_of}
 use Rattle.script.specs.Checked.{Checked, Levelled}
 use Rattle.script.proofs.Theorems.{accepted_exactly}
@@ -29,6 +28,7 @@ use Rattle.inputs.specs.Lists.{listed}
 use Rattle.tree.specs.Tree.{names_of, tree}
 use Rattle.runner.specs.declared.Ran.{Ran}
 use Rattle.plan.specs.Plan.{sees_in}
+use Rattle.runner.specs.Promises.{meant}
 use Rattle.runner.proofs.Outcomes.{written_is}
 use Rattle.checker.specs.Refusals.{check_refusal}
 use Rattle.arguments.specs.Refusals.{call_refusal, run_refusal}
@@ -46,7 +46,7 @@ pub record Leaves
   pub instants : r.at.instants ≤ most_steps
   pub lines : r.at.lines ≤ most_steps
   pub result :
-      result_by r.ending r.at.steps r.at.instants r.at.lines ≡ (left b s reader values limit list log).result
+      result_by (ending_number (meant r.ending)) r.at.steps r.at.instants r.at.lines ≡ (left b s reader values limit list log).result
   pub final : values' ≡ (left b s reader values limit list log).values
   pub logged : log' ≡ (left b s reader values limit list log).log
 
@@ -84,13 +84,11 @@ module _ (b s : List ℕ) (reader : ℕ) (values : List ℤ) (limit : ℕ) (list
 
     module _ {bk : Book} (e : bk ≡ book_of b) where
       -- it can be run
-      pub can_start : {c : Script} → c ≡ layout_of s → CanStart s c bk reader values limit list
-      can_start l =
+      pub can_start : CanStart s bk reader values limit list
+      can_start =
           record {
             plan =
                 record {
-                  laid = rw l file.0.laid;
-                  checked = file.0;
                   levelled = rw e file.1;
                   levels = few_read b (passing _ (run_accepted b s reader values limit list p).0.book).size bk e;
                   reader = rw e bounds.0;
@@ -140,7 +138,7 @@ module _ (b s : List ℕ) (reader : ℕ) (values : List ℤ) (limit : ℕ) (list
                   record {
                     number = 0;
                     place = 0;
-                    ending = given.ending i;
+                    ending = ending_number (given.ending i);
                     steps = given.steps i;
                     instants = given.instants i;
                     lines = given.lines i;

@@ -2,3 +2,4 @@
 pub mod Leaving
 pub mod Asking
 pub mod Starting
+pub mod Passing

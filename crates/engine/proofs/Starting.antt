@@ -8,7 +8,7 @@ use native.Mathlib.Omega.{arith}
 use lib.IntN.{ℤ}
 use lib.ListN.{length, replicate}
 use Rattle.language.specs.Syntax.{Proc}
-use Rattle.language.specs.Calls.{Stop, starts, given_back, reach, run, ending_number}
+use Rattle.language.specs.Calls.{Stop, starts, given_back, reach, run}
 use Rattle.language.proofs.Naming.{run_alike}
 use Rattle.layout.specs.Layout.{layout_of, name_count, node_count}
 use Rattle.layout.proofs.Layouts.{few_bounds}
@@ -80,7 +80,7 @@ module _ (s : List ℕ) (ok : Checked s) {sees : ℕ → Bool} {words : List ℕ
         (run_alike (program.names_of words) (names_of s) (listed list) (program.seen_by words) sees (name_count s)
         (λ x l. (made.named x l).signal) (λ x l. (made.named x l).session) made.seen limit room _ e (tree_writes s ok))
         (record {
-          ending = h.ending ∙ ap (λ (o : Outcome ℕ). ending_number o.ending) outcome_is;
+          ending = h.ending ∙ ap (λ (o : Outcome ℕ). o.ending) outcome_is;
           steps = ap (λ (x : Running ℕ). x.steps) left_so;
           instants = ap (λ (x : Running ℕ). x.instants) left_so;
           within = h.again.counted.instants;

@@ -1,8 +1,7 @@
 -- What a run of a checked file asks, and what it returns and leaves.
 use Rattle.std.specs.Prelude.{◌≡◌, List, ℕ, ◌/◌, ◌≤◌, ℤ, length}
 use Rattle.book.specs.declared.Book.{Book}
-use Rattle.language.specs.Calls.{Run, starts, run, most_steps, ending_number}
-use Rattle.layout.specs.declared.Script.{Script}
+use Rattle.language.specs.Calls.{Run, starts, run, most_steps}
 use Rattle.inputs.specs.Lists.{listed}
 use Rattle.layout.specs.Layout.{name_count}
 use Rattle.tree.specs.Tree.{names_of, tree}
@@ -10,10 +9,10 @@ use Rattle.plan.specs.Plan.{CanPlan, sees_in}
 use Rattle.arguments.specs.Promises.{ListRight}
 use Rattle.runner.specs.declared.Ran.{Ran}
 use Rattle.runner.specs.Outcome.{written}
+use Rattle.runner.specs.Promises.{meant}
 
-pub record CanStart
-    (s : List ℕ) (c : Script) (b : Book) (reader : ℕ) (values : List ℤ) (limit : ℕ) (list : List ℕ) : Type 0 where
-  pub plan : CanPlan s c b reader
+pub record CanStart (s : List ℕ) (b : Book) (reader : ℕ) (values : List ℤ) (limit : ℕ) (list : List ℕ) : Type 0 where
+  pub plan : CanPlan s b reader
   pub named : length values ≡ name_count s
   pub most : limit ≤ most_steps
   pub right : ListRight s list
@@ -25,7 +24,7 @@ run_for b s reader values limit list log =
 
 -- of a run that began with this log
 pub record Returns (o : Run) (began : List ℕ) (r : Ran) (values : List ℤ) (log : List ℕ) : Type 0 where
-  pub ending : r.ending ≡ ending_number o.ending
+  pub ending : meant r.ending ≡ o.ending
   pub steps : r.at.steps ≡ o.steps
   pub instants : r.at.instants ≡ o.instants
   pub within : r.at.instants ≤ r.at.steps

@@ -4,14 +4,20 @@
 pub mod interface; // interface.rt: the calls for C
 
 ghost use Rattle.std.specs.Prelude.{◌≡◌};
+ghost use Rattle.prelude.specs.Promises.{Answers};
+ghost use Rattle.checker.specs.Promises.{Prepares};
+ghost use Rattle.arguments.specs.Refusals.{run_refusal};
 ghost use Rattle.engine.specs.Answers.{verdict, flows_found, left};
 ghost use Rattle.engine.specs.Promises.{CanStart, run_for, Returns};
 
 use book::Book;
+use checker::Prepared;
 use layout::Script;
 use moves::counts::Counts;
+use prelude::Refusal;
 use results::{Flows, RunResult, Verdict, result_of};
 use runner::Ran;
+use script::CheckedFile;
 
 // Checks a script under a book. Of an accepted script, also finds how many moves it can make.
 pub fn check(book: &[u8], script: &[u8]) -> Verdict
@@ -105,7 +111,15 @@ pub fn run(
 {
     match admit(book, script, reader, values, limit, list) {
         Ok(p) => {
-            let ran = run_checked(&p.checked, &p.book, reader as usize, values, limit, list, log);
+            let ran = run_checked(
+                &p.checked,
+                &p.book,
+                reader as usize,
+                values,
+                limit,
+                list,
+                log,
+            );
             let at = ran.at;
             result_of(
                 u32::from(ran.ending),
