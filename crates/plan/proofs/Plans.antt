@@ -1,29 +1,36 @@
 -- The words of a plan: what was packed into one is what it tells.
-use mathlib.Core.Path.{◌≡◌, refl, sym, ap, ◌∙◌}
-use mathlib.Core.Bool.{Bool, cond}
+use mathlib.Core.Path.{◌≡◌, refl, sym, ap, ◌∙◌, subst}
+use mathlib.Core.Bool.{Bool}
 use mathlib.Core.List.{List}
-use Prim.Native.Nat.{ℕ, ◌+◌, ◌*◌, ◌%◌, ◌^◌, ◌≤◌, ◌<◌}
+use Prim.Native.Nat.{ℕ, ◌+◌, ◌*◌, ◌^◌, ◌≤◌, ◌<◌}
 use native.Mathlib.Decide.{ℕ_discrete}
 use native.Mathlib.Omega.{arith}
-use lib.Dec.{eqb, leb, ltb}
+use lib.Dec.{eqb, ltb}
 use lib.ListN.{get_or, set, length, length-set}
 use lib.Seq.{get_or-set_same, get_or-set_other}
-use borrow.Author.Tests.{eqb-true, ltb-true, le-leb, lt-leb}
+use borrow.Author.Tests.{eqb-true, ltb-true}
 use Rattle.prelude.specs.Search.{all, any, first_from}
 use Rattle.prelude.specs.Search as search-for
 use Rattle.prelude.proofs.Searches.{all_elim}
 use Rattle.layout.specs.declared.parts.Name.{Name}
 use Rattle.layout.specs.declared.parts.Part.{Part}
 use Rattle.layout.specs.Entries.{name_of, session, part_of, node}
-use Rattle.fields.specs.Children.{first_child, second_child}
+use Rattle.layout.specs.Layout.{node_count}
+use Rattle.fields.specs.declared.children.Children.{Children}
+use Rattle.fields.specs.declared.children.Children.TheVariants.{None, One, Two}
+use Rattle.fields.specs.Children.{child_count, first_child, second_child, AreChildren}
+use Rattle.script.specs.Checked.{Checked}
 use Rattle.language.specs.NodeCounts.{size}
 use Rattle.language.specs.Shapes.{watches}
+use Rattle.tree.specs.Promises.{KeepsSizes}
 use Rattle.tree.specs.Tree.{process_of}
+use Rattle.tree.proofs.NodeSizes.{size_within}
 use Rattle.program.specs.Program.{most_names, most_expressions, most_nodes, name_start, expression_start, node_start}
 use Rattle.program.specs.Forms.{form_of, forms_of}
-use Rattle.packing.specs.Packing.{form_in, packed_fields, marked, packed_node, packed_expression, packed_name}
+use Rattle.packing.specs.Packing.{form_in, packed_fields, marked, packed_node, packed_name}
 use Rattle.packing.proofs.Words.{low, a_told, b_told, first_told, size_told, kind_told, mark_told, level_told, signal_told, session_told, seen_told}
-use Rattle.plan.specs.Plan.{NamePacked, ExpressionPacked, NodePacked, Keeps}
+use Rattle.plan.specs.Plan.{NamePacked, ExpressionPacked, fields_by, NodePacked, Keeps}
+use Rattle.plan.proofs.Watching.{EachBefore}
 
 pub forms_fit : (kind : ℕ) → kind < 11 → forms_of kind < 65536
 unfolding all any search-for.first first_from
@@ -42,9 +49,14 @@ module _ (s : List ℕ) (k : ℕ) where
   abbrev entry : Part
   entry = part_of s (node s k)
 
-  module _ (n : entry.kind < 11) (few : k ≤ 256) (one two count : ℕ) (w : Bool) (a : one ≡ first_child entry % 256)
-      (b : two ≡ cond (leb entry.kind 2) entry.b (second_child entry))
-      (sized : first_child entry < k → (count ≡ size (process_of s (first_child entry))) × (count < 1024))
+  -- how many children it has
+  abbrev children : ℕ
+  children = child_count entry.kind
+
+  module _ (n : entry.kind < 11) (one two count : ℕ) (w : Bool) (b : children < 2 → two ≡ entry.b)
+      (second : children ≡ 2 → (two ≡ second_child entry) × (two < 1024))
+      (first : 0 < children → (one ≡ first_child entry) × (one < 1024))
+      (sized : 0 < children → (count ≡ size (process_of s (first_child entry))) × (count < 1024))
       (marks : w ≡ watches (process_of s k)) where
     abbrev forms : ℕ
     forms = forms_of entry.kind
@@ -61,12 +73,6 @@ module _ (s : List ℕ) (k : ℕ) where
     known : entry.kind < 128
     known = omega (arith, n)
 
-    b_is : entry.kind ≤ 2 → two ≡ entry.b
-    b_is l = b ∙ ap (λ t. cond t entry.b (second_child entry)) (le-leb entry.kind 2 l)
-
-    second_is : 2 < entry.kind → two ≡ second_child entry
-    second_is l = b ∙ ap (λ t. cond t entry.b (second_child entry)) (lt-leb entry.kind 2 l)
-
     pub node_packed : NodePacked s k (packed_node forms fields kind)
     node_packed =
         record {
@@ -74,31 +80,46 @@ module _ (s : List ℕ) (k : ℕ) where
           kind = kind_told forms entry.a two one count entry.kind fit known w;
           watches = mark_told forms entry.a two one count entry.kind fit known w ∙ marks;
           a = λ h. omega (arith, h, a_told forms kind entry.a two one count fit);
-          b = λ l h. omega (arith, h, b_is l, b_told forms kind entry.a two one count fit);
-          second = λ l h. omega (arith, h, few, second_is l, b_told forms kind entry.a two one count fit);
-          first = λ h. omega (arith, h, few, a, first_told forms kind entry.a two one count fit);
-          size = λ h. omega (arith, (sized h).0, (sized h).1, size_told forms kind entry.a two one count fit);
+          b = λ l h. omega (arith, h, b l, b_told forms kind entry.a two one count fit);
+          second = λ h. omega (arith, second h, b_told forms kind entry.a two one count fit);
+          first = λ h. omega (arith, first h, first_told forms kind entry.a two one count fit);
+          size = λ h. omega (arith, sized h, size_told forms kind entry.a two one count fit);
         }
 
--- the word that is packed for expression e, whose entry is p
-module _ (s : List ℕ) (e : ℕ) (p : Part) (q : p ≡ part_of s e) (b : p.b < 65536) where
-  pub constant_packed : p.kind ≡ 0 → p.c < 65536 → ExpressionPacked s e (packed_expression 0 p.b p.c)
-  constant_packed z c =
-      record {
-        kind = omega (arith, b, c, z, ap (λ (r : Part). r.kind) q);
-        constant = λ _. omega (arith, b, c, ap (λ (r : Part). r.b) q, ap (λ (r : Part). r.c) q);
-        operand = λ n. absurd (n (sym (ap (λ (r : Part). r.kind) q) ∙ z));
-        later = omega (arith, b, c, ap (λ (r : Part). r.b) q);
-      }
+  -- by its children, which come before it, and the sizes of the nodes before
+  module _
+      (ok : Checked s) (h : k < node_count s) (n : entry.kind < 11) (few : k ≤ most_nodes) (w : Bool)
+      (marks : w ≡ watches (process_of s k)) (sizes : List ℕ) (keeps : KeepsSizes s k sizes) where
+    sized : (i : ℕ) → i < k → i ≡ first_child entry → (get_or sizes i 0 ≡ size (process_of s (first_child entry))) × (get_or sizes i 0 < 1024)
+    sized i l e =
+        let is : get_or sizes i 0 ≡ size (process_of s i) = keeps i l in
+        (is ∙ ap (λ i. size (process_of s i)) e, omega (arith, is, l, few, size_within s ok i (omega arith)))
 
-  pub operands_packed : (p.kind ≡ 0 → ⊥) → p.a < 65536 → ExpressionPacked s e (packed_expression p.kind p.b p.a)
-  operands_packed n a =
-      record {
-        kind = omega (arith, b, a, ap (λ (r : Part). r.kind) q);
-        constant = λ z. absurd (n (ap (λ (r : Part). r.kind) q ∙ z));
-        operand = λ _. omega (arith, b, a, ap (λ (r : Part). r.a) q);
-        later = omega (arith, b, a, ap (λ (r : Part). r.b) q);
-      }
+    packed_by :
+        (r : Children) → AreChildren entry r → EachBefore k r →
+        NodePacked s k (packed_node (forms_of entry.kind) (fields_by sizes entry r) (marked entry.kind w))
+    packed_by None a l =
+        node_packed n 0 entry.b 0 w (λ _. refl) (λ q. absurd (omega (arith, a, q))) (λ q. absurd (omega (arith, a, q)))
+        (λ q. absurd (omega (arith, a, q)))
+        marks
+    packed_by (One i) a l =
+        node_packed n i entry.b (get_or sizes i 0) w (λ _. refl) (λ q. absurd (omega (arith, a.0, q)))
+        (λ _. (a.1, omega (arith, l, few)))
+        (λ _. sized i l a.1)
+        marks
+    packed_by (Two i j) a l =
+        node_packed n i j (get_or sizes i 0) w (λ q. absurd (omega (arith, a.0, q))) (λ _. (a.1.1, omega (arith, l.1, few)))
+        (λ _. (a.1.0, omega (arith, l.0, few)))
+        (λ _. sized i l.0 a.1.0)
+        marks
+
+    -- the same of the part that was read
+    pub packed_at :
+        {p : Part} → p ≡ entry → (r : Children) → AreChildren p r → EachBefore k r →
+        NodePacked s k (packed_node (forms_of p.kind) (fields_by sizes p r) (marked p.kind w))
+    packed_at e r a l =
+        subst (λ (p : Part). NodePacked s k (packed_node (forms_of p.kind) (fields_by sizes p r) (marked p.kind w))) (sym e)
+        (packed_by r (subst (λ p. AreChildren p r) e a) l)
 
 -- the word that is packed for name x, whose entry is n
 module _ (s : List ℕ) (sees : ℕ → Bool) (x : ℕ) (n : Name) (q : n ≡ name_of s x) (h : n.level < 256) (k : n.kind < 2) where

@@ -1,96 +1,80 @@
 -- A watching stands in a node that is one, and in a node with a child in which one stands: so the words of the nodes before
 -- a node tell it.
 use mathlib.Core.Path.{◌≡◌, refl, sym, ap, ap₂, ◌∙◌}
-use mathlib.Core.Bool.{Bool, false, ◌&&◌, ◌||◌, and-false, or-false}
-use mathlib.Core.List.{List}
+use mathlib.Core.Bool.{Bool, false, ◌||◌}
+use mathlib.Core.List.{List, [], ◌∷◌}
 use Prim.Native.Nat.{ℕ, ◌<◌}
 use native.Mathlib.Omega.{arith}
-use lib.Dec.{eqb, ltb}
-use borrow.Author.Tests.{eqb-true, ltb-true, lt-ltb}
-use Rattle.prelude.proofs.Bools.{and_same}
+use lib.Dec.{eqb}
+use Rattle.std.specs.Prelude.{⊤}
+use Rattle.language.specs.Syntax.{Proc, nil, assign, let_in, if_then_else, while, sequence, emit, local, watching, when, parallel}
+use Rattle.language.specs.KindGroups.{kind_of, children_of}
 use Rattle.language.specs.Shapes.{watches}
+use Rattle.language.specs.declared.process_kinds.ProcessKind.{ProcessKind}
+use Rattle.language.specs.KindNumbers.{process_number}
 use Rattle.layout.specs.declared.parts.Part.{Part}
-use Rattle.layout.specs.Layout.{node_count}
-use Rattle.layout.specs.Entries.{part_of, node}
-use Rattle.fields.specs.declared.roles.Role.TheVariants.{Unused}
-use Rattle.fields.specs.Roles.{node_rows, role_in}
-use Rattle.fields.specs.Fields.{field_count, field_of}
-use Rattle.fields.specs.Children.{first_child, second_child}
-use Rattle.entries.proofs.Holding.{right_field, holds_unused}
-use Rattle.script.specs.Checked.{Checked}
+use Rattle.layout.specs.Layout.{most_nodes}
+use Rattle.layout.proofs.Layouts.{few_bounds}
+use Rattle.fields.specs.declared.children.Children.{Children}
+use Rattle.fields.specs.declared.children.Children.TheVariants.{None, One, Two}
+use Rattle.fields.specs.Children.{AreChildren}
+use Rattle.script.specs.declared.CheckedFile.{CheckedFile}
+use Rattle.tree.specs.Promises.{IsNodeAt}
 use Rattle.tree.specs.Tree.{process_of}
-use Rattle.tree.proofs.Views.{NodeView, a_nil, an_assign, a_let, an_if, a_while, a_sequence, an_emit, a_local, a_watching, a_when, a_parallel, node_view, role}
-use Rattle.plan.specs.Plan.{watches_before, watches_by, KeepsNodes}
+use Rattle.tree.proofs.NodeChildren.{kind_of_node, Before, one_before, first_before, second_before, no_children, one_child, two_children}
+use Rattle.plan.specs.Plan.{Below, child_watches, watches_by, KeepsNodes}
 
-module _ (s : List ℕ) (ok : Checked s) where
-  -- 'child nodes have smaller numbers than their parent': node 0 has none
-  first_view : NodeView s 0 → watches (process_of s 0) ≡ false
-  unfolding watches
-  first_view (a_nil e q) = rw q
-  first_view (an_assign e q x y) = rw q
-  first_view (a_let e q x y p) = absurd (omega (arith, p.before))
-  first_view (an_if e q y p r) = absurd (omega (arith, p.before))
-  first_view (a_while e q y p) = absurd (omega (arith, p.before))
-  first_view (a_sequence e q p r) = absurd (omega (arith, p.before))
-  first_view (an_emit e q x) = rw q
-  first_view (a_local e q x p) = absurd (omega (arith, p.before))
-  first_view (a_watching e q x p) = absurd (omega (arith, p.before))
-  first_view (a_when e q x p) = absurd (omega (arith, p.before))
-  first_view (a_parallel e q p r) = absurd (omega (arith, p.before))
+-- one stands in a child
+abbrev any_watches : List (Proc ℕ) → Bool
+any_watches [] = false
+any_watches (p ∷ []) = watches p
+any_watches (p ∷ (q ∷ r)) = watches p || watches q
 
-  module _ (k : ℕ) (h : k < node_count s) where
-    abbrev entry : Part
-    entry = part_of s (node s k)
+watches_by_kind : (p : Proc ℕ) → (eqb (kind_of p) 8 || any_watches (children_of p)) ≡ watches p
+unfolding kind_of children_of watches
+watches_by_kind nil = refl
+watches_by_kind (assign x e) = refl
+watches_by_kind (let_in x δ e p) = refl
+watches_by_kind (if_then_else e p q) = refl
+watches_by_kind (while e p) = refl
+watches_by_kind (sequence p q) = refl
+watches_by_kind (emit a) = refl
+watches_by_kind (local a δ p) = refl
+watches_by_kind (watching a p) = refl
+watches_by_kind (when a p) = refl
+watches_by_kind (parallel p q) = refl
 
-    -- what node j tells
-    abbrev told : ℕ → Bool
-    told j = ltb j k && watches (process_of s j)
+-- these children are nodes before k
+abbrev pub EachBefore : ℕ → Children → Type 0
+EachBefore k None = ⊤
+EachBefore k (One i) = i < k
+EachBefore k (Two i j) = (i < k) × (j < k)
 
-    child : {j : ℕ} → j < k → told j ≡ watches (process_of s j)
-    child {j} l = ap (λ b. b && watches (process_of s j)) (lt-ltb j k l)
+module _ (f : CheckedFile) {k : ℕ} {kind : ProcessKind} {p : Part} (at : IsNodeAt f.file.bytes.now kind p k) where
+  abbrev s : List ℕ
+  s = f.file.bytes.now
 
-    -- nothing where the field is unused
-    none : {j : ℕ} → j ≡ 0 → told j ≡ false
-    none e = ap told e ∙ ap (λ b. ltb 0 k && b) (first_view (node_view s ok 0 (omega arith))) ∙ and-false (ltb 0 k)
+  below : {i : ℕ} → Before f at i → i < most_nodes
+  below b = omega (arith, b.1, few_bounds f.file.layout f.file.laid.few)
 
-    empty : (n f : ℕ) → f < field_count → entry.kind ≡ n → role_in node_rows n f ≡ Unused → (field_of s (node s k) f).value ≡ 0
-    empty n f l e u =
-        eqb-true _ _
-        (sym (holds_unused s (node s k) (field_of s (node s k) f) (role s ok k h n e f ∙ u))
-        ∙ right_field s ok.joined.sound (node s k) f (omega arith) l)
+  pub each_before : (r : Children) → AreChildren p r → EachBefore k r
+  each_before None a = tt
+  each_before (One i) a = (one_before f at a).0
+  each_before (Two i j) a = ((first_before f at a).0, (second_before f at a).0)
 
-    -- a first child alone, and two
-    alone : {i j : ℕ} → i < k → j ≡ 0 → (told i || told j) ≡ watches (process_of s i)
-    alone {i} l e = ap₂ (λ a b. a || b) (child l) (none e) ∙ or-false (watches (process_of s i))
+  pub each_below : (r : Children) → AreChildren p r → Below r
+  each_below None a = tt
+  each_below (One i) a = below (one_before f at a)
+  each_below (Two i j) a = (below (first_before f at a), below (second_before f at a))
 
-    both : {i j : ℕ} → i < k → j < k → (told i || told j) ≡ (watches (process_of s i) || watches (process_of s j))
-    both l m = ap₂ (λ a b. a || b) (child l) (child m)
+  module _ (words : List ℕ) (keeps : KeepsNodes s k words) where
+    told : (r : Children) → AreChildren p r → child_watches words r ≡ any_watches (children_of (process_of s k))
+    told None a = sym (ap any_watches (no_children f at a))
+    told (One i) a = (keeps i (one_before f at a).0).watches ∙ sym (ap any_watches (one_child f at a))
+    told (Two i j) a =
+        ap₂ (λ a b. a || b) (keeps i (first_before f at a).0).watches (keeps j (second_before f at a).0).watches
+        ∙ sym (ap any_watches (two_children f at a))
 
-    neither : {i j : ℕ} → i ≡ 0 → j ≡ 0 → (told i || told j) ≡ false
-    neither d e = ap₂ (λ a b. a || b) (none d) (none e)
-
-    view :
-        NodeView s k →
-        (eqb entry.kind 8 || (told (first_child entry) || told (second_child entry))) ≡ watches (process_of s k)
-    unfolding watches first_child second_child
-    view (a_nil e q) = rw (q, e) (neither (empty 0 2 (omega arith) e refl) refl)
-    view (an_assign e q x y) = rw (q, e) (neither (empty 1 2 (omega arith) e refl) refl)
-    view (a_let e q x y p) = rw (q, e) (alone p.before refl)
-    view (an_if e q y p r) = rw (q, e) (both p.before r.before)
-    view (a_while e q y p) = rw (q, e) (alone p.before (empty 4 2 (omega arith) e refl))
-    view (a_sequence e q p r) = rw (q, e) (both p.before r.before)
-    view (an_emit e q x) = rw (q, e) (neither (empty 6 2 (omega arith) e refl) refl)
-    view (a_local e q x p) = rw (q, e) (alone p.before (empty 7 2 (omega arith) e refl))
-    view (a_watching e q x p) = rw (q, e)
-    view (a_when e q x p) = rw (q, e) (alone p.before (empty 9 2 (omega arith) e refl))
-    view (a_parallel e q p r) = rw (q, e) (both p.before r.before)
-
-    module _ (words : List ℕ) (keeps : KeepsNodes s k words) where
-      word_tells : (j : ℕ) → watches_before words k j ≡ told j
-      word_tells j = and_same (ltb j k) _ _ (λ t. (keeps j (ltb-true j k t)).watches)
-
-      pub watches_told :
-          watches_by words k entry.kind (first_child entry) (second_child entry) ≡ watches (process_of s k)
-      watches_told =
-          ap₂ (λ a b. eqb entry.kind 8 || (a || b)) (word_tells (first_child entry)) (word_tells (second_child entry))
-          ∙ view (node_view s ok k h)
+    pub watches_told : (r : Children) → AreChildren p r → watches_by words (process_number kind) r ≡ watches (process_of s k)
+    watches_told r a =
+        ap₂ (λ n b. eqb n 8 || b) (kind_of_node f at) (told r a) ∙ watches_by_kind (process_of s k)

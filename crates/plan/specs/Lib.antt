@@ -1,2 +1,3 @@
 -- The program of a checked file.
 pub mod Plan
+pub mod Readings

@@ -1,23 +1,24 @@
 -- The program of a checked file, for a reader: what its words hold, and what that makes of it.
-use Rattle.std.specs.Prelude.{◌≡◌, Bool, ◌&&◌, ◌||◌, List, ℕ, ◌+◌, ◌*◌, ◌^◌, ◌≤◌, ◌<◌, eqb, ltb, length}
+use Rattle.std.specs.Prelude.{◌≡◌, ⊤, Bool, false, ◌||◌, List, ℕ, ◌+◌, ◌*◌, ◌^◌, ◌≤◌, ◌<◌, eqb, get_or, length}
 use Rattle.book.specs.declared.Book.{Book}
 use Rattle.book.specs.LevelBook.{most_levels, at_or_below}
-use Rattle.packing.specs.Packing.{kind_in, constant_in, operand_in, later_in, form_in, a_in, b_in, first_in, size_in, node_kind_in, watches_in, level_in, signal_in, session_in, seen_in}
+use Rattle.packing.specs.Packing.{kind_in, constant_in, operand_in, later_in, form_in, a_in, b_in, first_in, size_in, node_kind_in, watches_in, level_in, signal_in, session_in, seen_in, packed_fields}
 use Rattle.language.specs.NodeCounts.{size}
 use Rattle.language.specs.Shapes.{watches}
-use Rattle.layout.specs.declared.Script.{Script}
-use Rattle.layout.specs.Layout.{name_count, expression_count, node_count}
+use Rattle.layout.specs.declared.parts.Part.{Part}
+use Rattle.layout.specs.Layout.{most_nodes, name_count, expression_count, node_count}
 use Rattle.layout.specs.Entries.{name_of, is_session, part_of, node}
-use Rattle.fields.specs.Children.{first_child, second_child}
+use Rattle.fields.specs.declared.children.Children.{Children}
+use Rattle.fields.specs.declared.children.Children.TheVariants.{None, One, Two}
+use Rattle.fields.specs.Children.{child_count, first_child, second_child}
 use Rattle.script.specs.Checked.{Levelled}
 use Rattle.tree.specs.Tree.{expression_of, process_of}
-use Rattle.tree.specs.Promises.{KeepsSizes}
 use Rattle.program.specs.Program.{name_word, seen_by, expression_word, node_word, word_count}
 use Rattle.program.specs.Program as program
 use Rattle.program.specs.Forms.{form_of}
 use Rattle.program.specs.Runnable.{Runnable}
 
--- a book that has the level of each name of a file, and a level of the book: the reader's
+-- a book that has the level of each name, and a level of the book: the reader's
 pub record CanPlan (s : List ℕ) (b : Book) (level : ℕ) : Type 0 where
   pub levelled : Levelled s b.count
   pub levels : b.count ≤ most_levels
@@ -26,13 +27,6 @@ pub record CanPlan (s : List ℕ) (b : Book) (level : ℕ) : Type 0 where
 -- a reader sees the names at or below its level
 abbrev pub sees_in : Book → List ℕ → ℕ → ℕ → Bool
 sees_in b s reader x = at_or_below b.rows (name_of s x).level reader
-
--- name x of a file lies in it, is a register or a signal, and has a level that a book may have, as the reader has
-pub record CanPackName (s : List ℕ) (level x : ℕ) : Type 0 where
-  pub within : 4 * x + 4 ≤ length s
-  pub kind : (name_of s x).kind < 2
-  pub named : (name_of s x).level < most_levels
-  pub reader : level < most_levels
 
 -- the word of name x
 pub record NamePacked (s : List ℕ) (sees : ℕ → Bool) (x w : ℕ) : Type 0 where
@@ -54,11 +48,12 @@ pub record NodePacked (s : List ℕ) (k w : ℕ) : Type 0 where
   pub kind : node_kind_in w ≡ (part_of s (node s k)).kind
   pub watches : watches_in w ≡ watches (process_of s k)
   pub a : (part_of s (node s k)).a < 1024 → a_in w ≡ (part_of s (node s k)).a
-  pub b : (part_of s (node s k)).kind ≤ 2 → (part_of s (node s k)).b < 1024 → b_in w ≡ (part_of s (node s k)).b
-  pub second :
-      2 < (part_of s (node s k)).kind → second_child (part_of s (node s k)) < k → b_in w ≡ second_child (part_of s (node s k))
-  pub first : first_child (part_of s (node s k)) < k → first_in w ≡ first_child (part_of s (node s k))
-  pub size : first_child (part_of s (node s k)) < k → size_in w ≡ size (process_of s (first_child (part_of s (node s k))))
+  pub b :
+      child_count (part_of s (node s k)).kind < 2 → (part_of s (node s k)).b < 1024 → b_in w ≡ (part_of s (node s k)).b
+  pub second : child_count (part_of s (node s k)).kind ≡ 2 → b_in w ≡ second_child (part_of s (node s k))
+  pub first : 0 < child_count (part_of s (node s k)).kind → first_in w ≡ first_child (part_of s (node s k))
+  pub size :
+      0 < child_count (part_of s (node s k)).kind → size_in w ≡ size (process_of s (first_child (part_of s (node s k))))
 
 -- the words of the first n nodes stand in a table
 abbrev pub KeepsNodes : List ℕ → ℕ → List ℕ → Type 0
@@ -71,20 +66,27 @@ pub record Keeps (s : List ℕ) (sees : ℕ → Bool) (names expressions nodes :
   pub expression : (e : ℕ) → e < expressions → ExpressionPacked s e (expression_word words e)
   pub node : KeepsNodes s nodes words
 
--- what the word of node k is made of: the sizes of the nodes of a checked file, and the words of the nodes before k
-pub record CanPack (s : List ℕ) (c : Script) (sizes words : List ℕ) (k : ℕ) : Type 0 where
-  pub sized : KeepsSizes s c.nodes sizes
-  pub before : KeepsNodes s k words
-  pub known : k < c.nodes
+-- these children are among the nodes that a file can have
+abbrev pub Below : Children → Type 0
+Below None = ⊤
+Below (One i) = i < most_nodes
+Below (Two i j) = (i < most_nodes) × (j < most_nodes)
 
--- What the words of the nodes before k tell: j is one of them, and a watching stands in it; and of node k, of this kind
--- and with these children: it is a watching, or one stands in a child.
-abbrev pub watches_before : List ℕ → ℕ → ℕ → Bool
-watches_before words k j = ltb j k && watches_in (node_word words j)
+-- What the words of the nodes before a node tell of one of this kind with these children: it is a watching, or one stands
+-- in a child.
+abbrev pub child_watches : List ℕ → Children → Bool
+child_watches words None = false
+child_watches words (One i) = watches_in (node_word words i)
+child_watches words (Two i j) = watches_in (node_word words i) || watches_in (node_word words j)
 
-abbrev pub watches_by : List ℕ → ℕ → ℕ → ℕ → ℕ → Bool
-watches_by words k kind first second =
-    eqb kind 8 || (watches_before words k first || watches_before words k second)
+abbrev pub watches_by : List ℕ → ℕ → Children → Bool
+watches_by words kind children = eqb kind 8 || child_watches words children
+
+-- the fields of a word: field a; field b, or the second child; the first child and its size
+abbrev pub fields_by : List ℕ → Part → Children → ℕ
+fields_by sizes p None = packed_fields p.a p.b 0 0
+fields_by sizes p (One i) = packed_fields p.a p.b i (get_or sizes i 0)
+fields_by sizes p (Two i j) = packed_fields p.a j i (get_or sizes i 0)
 
 -- The program of a file, for a reader who sees these names: it can be run, and what it holds is what the file holds.
 pub record ProgramOf (s : List ℕ) (sees : ℕ → Bool) (words : List ℕ) : Type 0 where

@@ -1,11 +1,11 @@
 -- The children of a node of a checked file, where its part has been read: they come before it, and are those of its process.
 use mathlib.Core.Path.{◌≡◌, sym, ap, ap₂, ◌∙◌}
 use mathlib.Core.List.{List, [], ◌∷◌}
-use Prim.Native.Nat.{ℕ, ◌<◌}
+use Prim.Native.Nat.{ℕ, ◌+◌, ◌<◌}
 use native.Mathlib.Omega.{arith}
 use Rattle.layout.specs.declared.parts.Part.{Part}
 use Rattle.layout.specs.Entries.{part_of, node}
-use Rattle.layout.proofs.Layouts.{nodes_are}
+use Rattle.layout.proofs.Layouts.{expressions_are, nodes_are}
 use Rattle.fields.specs.Children.{AreChildren, first_child, second_child, child_count}
 use Rattle.fields.specs.declared.children.Children.TheVariants.{None, One, Two}
 use Rattle.language.specs.Syntax.{Proc}
@@ -17,6 +17,18 @@ use Rattle.tree.specs.Promises.{IsNodeAt}
 use Rattle.tree.specs.Tree.{process_of}
 use Rattle.tree.proofs.Shapes as shapes
 use Rattle.tree.proofs.Shapes.{Children, none, one, two, children, kind_is}
+
+-- the part after the expressions and k nodes is that of node k
+pub node_read :
+    (f : CheckedFile) {k : ℕ} {kind : ProcessKind} {p : Part} → k < f.file.layout.nodes →
+    p ≡ part_of f.file.bytes.now (f.file.layout.expressions + k) → process_number kind ≡ p.kind →
+    IsNodeAt f.file.bytes.now kind p k
+node_read f {k} known same kinded =
+    record {
+      known = omega (arith, known, nodes_are f.file.laid);
+      same = same ∙ ap (λ e. part_of f.file.bytes.now (e + k)) (expressions_are f.file.laid);
+      kinded = kinded;
+    }
 
 module _ (f : CheckedFile) {k : ℕ} {kind : ProcessKind} {p : Part} (at : IsNodeAt f.file.bytes.now kind p k) where
   abbrev s : List ℕ
