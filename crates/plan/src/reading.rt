@@ -5,7 +5,6 @@ ghost use Rattle.script.specs.Checked.{Levelled};
 
 use book::Book;
 use language::expression_kinds::ExpressionKind;
-use layout::parts::SESSION;
 use program::WORDS;
 use script::CheckedFile;
 
@@ -32,7 +31,7 @@ impl Reading<'_> {
     {
         let n = self.checked.file.name(x);
         let seen = self.book.at_or_below(n.level, self.reader);
-        packing::pack_name(n.level, n.kind, n.owner == SESSION, seen)
+        packing::pack_name(n.level, n.kind, n.is_session(), seen)
     }
 
     // The words of the names.

@@ -16,6 +16,6 @@ returns c =
     let e = c.name-n.ensures.name in
     let level : c.name-n.result.level < most_levels = omega (arith, ap (λ n. n.level) e, f.levelled c.args.x known, f.levels) in
     let kind : c.name-n.result.kind < 2 = omega (arith, ap (λ n. n.kind) e, f.checked.checked.kinds c.args.x known) in
-    rw c.pack_name.ensures
+    rw (c.pack_name.ensures, c.is_session.ensures)
     (name_packed s _ c.args.x _ e (omega (arith, level)) kind _
     (c.at_or_below-seen.ensures ∙ ap (λ m. at_or_below f.book.rows m.level f.reader) e))
