@@ -66,10 +66,10 @@ pub fn sweep(levels: &OrderedBook, most: usize, tables: &mut Tables) -> Swept
         taken: 0,
         place: None,
     };
-    for i in 0..levels.book.count {
+    'pairs: for i in 0..levels.book.count {
         swept = sweep_level(&both, i, most, swept.taken, tables);
         if swept.place.is_some() {
-            break;
+            break 'pairs;
         }
     }
     swept

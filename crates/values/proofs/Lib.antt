@@ -1,6 +1,5 @@
 -- Laws that the proofs of several functions use.
 pub mod Signed
 pub mod Bits
-pub mod Clamping
 pub mod Rounding
 pub mod Nearest

@@ -1,25 +1,33 @@
-// Operators on signed 32-bit values: the exact result, clamped to what is nearest to it in 32 bits.
+// Operators on signed 32-bit values: worked in 64 bits, where every result is exact, then clamped.
 ghost use Rattle.std.specs.Prelude.{◌≡◌, false, nat_abs};
-ghost use Rattle.values.specs.Values.{sum, difference, product, is_zero, rounded, quotient};
+ghost use Rattle.values.specs.Values.{clamped, sum, difference, product, is_zero, rounded, quotient};
 
 use std::cmp::Ordering;
+
+// The nearest of the values of 32 bits.
+#[tactic(auto, unfolding(crate::specs::Values::clamped))]
+fn clamp(x: i64) -> i32
+    ensures { result ≡ clamped x }
+{
+    x.clamp(i64::from(i32::MIN), i64::from(i32::MAX)) as i32
+}
 
 pub fn add(a: i32, b: i32) -> i32
     ensures { result ≡ sum a b }
 {
-    a.saturating_add(b)
+    clamp(i64::from(a) + i64::from(b))
 }
 
 pub fn subtract(a: i32, b: i32) -> i32
     ensures { result ≡ difference a b }
 {
-    a.saturating_sub(b)
+    clamp(i64::from(a) - i64::from(b))
 }
 
 pub fn multiply(a: i32, b: i32) -> i32
     ensures { result ≡ product a b }
 {
-    a.saturating_mul(b)
+    clamp(i64::from(a) * i64::from(b))
 }
 
 // How far a / b is from 0, to the nearest whole number, a tie to the even one: the one place that knows how a quotient is
@@ -41,16 +49,16 @@ fn round(a: i32, b: i32) -> u32
 }
 
 // Division by zero gives 0.
-#[tactic(auto, using(crate::proofs::Clamping::clamped_lem), unfolding(crate::specs::Values::quotient))]
+#[tactic(auto, unfolding(crate::specs::Values::quotient))]
 pub fn divide(a: i32, b: i32) -> i32
     ensures { result ≡ quotient a b }
 {
     if b == 0 {
         return 0;
     }
-    let size = round(a, b);
+    let size = i64::from(round(a, b));
     if (a < 0) == (b < 0) {
-        return 0i32.saturating_add_unsigned(size);
+        return clamp(size);
     }
-    0i32.saturating_sub_unsigned(size)
+    clamp(0 - size)
 }

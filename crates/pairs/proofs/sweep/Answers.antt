@@ -9,26 +9,26 @@ use Rattle.pairs.proofs.Numbers.{first_number, last_row, before_both}
 use Rattle.pairs.proofs.Sweeps.{start, ends, stopped}
 use Rattle.pairs.proofs.sweep.Goals as goal
 
-pub loop-i-init : goal.loop-i-init
-loop-i-init c =
+pub pairs-init : goal.pairs-init
+pairs-init c =
     let b = c.of-both.result.up.book in
     (refl, (sym (ap (lesser c.args.most) (first_number b.count) ∙ lesser_right c.args.most 0 (omega arith)), start (at_or_below b.rows) b.count c.args.tables.now))
 
-pub returns-after-loop-i : goal.returns-after-loop-i
-returns-after-loop-i c =
+pub returns-after-pairs : goal.returns-after-pairs
+returns-after-pairs c =
     let b = c.of-both.result.up.book in
-    let inv = c.loop-i.invariant in
-    let last : c.loop-i.i ≡ b.count = omega (arith, ap (λ x. x.count) c.of-both.ensures) in
-    let all : c.loop-i.swept.taken ≡ lesser c.args.most (level_pairs b.count) =
+    let inv = c.pairs.invariant in
+    let last : c.pairs.i ≡ b.count = omega (arith, ap (λ x. x.count) c.of-both.ensures) in
+    let all : c.pairs.swept.taken ≡ lesser c.args.most (level_pairs b.count) =
     inv.1.0 ∙ ap (λ i. lesser c.args.most (pair_number b.count i (i + 1))) last ∙ ap (lesser c.args.most) (last_row b.count)
     in
     let h = before_both _ _ _ all in
-    subst (λ (x : Book). Sweeps (at_or_below x.rows) x.count c.args.most c.args.tables.now c.loop-i.tables c.loop-i.swept) c.of-both.ensures
+    subst (λ (x : Book). Sweeps (at_or_below x.rows) x.count c.args.most c.args.tables.now c.pairs.tables c.pairs.swept) c.of-both.ensures
     (ends _ _ c.of-both.result.up.in_order.few _ _ _ inv.1.1 _ h.0 h.1.0 h.1.1 _ refl inv.0)
 
 pub returns-then-is_some : goal.returns-then-is_some
 returns-then-is_some c =
-    let w = c.sweep_level-swept.ensures c.args.tables.now c.loop-i.invariant.1.1 in
+    let w = c.sweep_level-swept.ensures c.args.tables.now c.pairs.invariant.1.1 in
     subst (λ (x : Book). Sweeps (at_or_below x.rows) x.count c.args.most c.args.tables.now c.sweep_level-swept.new.tables c.sweep_level-swept.result)
     c.of-both.ensures
-    (stopped c.loop-i.i c.sweep_level-swept.result (sym c.is_some.ensures ∙ c.if-is_some.true) w)
+    (stopped c.pairs.i c.sweep_level-swept.result (sym c.is_some.ensures ∙ c.if-is_some.true) w)

@@ -4,8 +4,8 @@ use Rattle.book.specs.LevelBook.{at_or_below}
 use Rattle.pairs.specs.Promises.{taken_before, Upto}
 use Rattle.pairs.proofs.sweep.Given as goal
 
-abbrev pub invariant-loop-i : goal.invariant-loop-i
-invariant-loop-i l =
+abbrev pub invariant-pairs : goal.invariant-pairs
+invariant-pairs l =
     let b = l.both.up.book in
     (l.swept.place ≡ None)
     × ((l.swept.taken ≡ taken_before b.count l.most l.i (l.i + 1))
