@@ -26,6 +26,7 @@ impl Book {
         requires { (i < most_levels) × (j < most_levels) }
         ensures { result ≡ at_or_below self.now.rows i j }
     {
-        prelude::set::has(u64::from(self.rows[i]), j)
+        // By `prelude::set::has`, of 64 bits, a sweep over the pairs is slower.
+        (self.rows[i] >> j) % 2 == 1
     }
 }

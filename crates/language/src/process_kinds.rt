@@ -1,5 +1,5 @@
 // The kinds of processes, in the order of their numbers in files and programs.
-ghost use Rattle.std.specs.Prelude.{◌≡◌, ◌<◌};
+ghost use Rattle.std.specs.Prelude.{◌≡◌, ◌||◌, eqb, ◌<◌};
 ghost use Rattle.language.specs.KindGroups.{has_signal, has_test, has_write};
 ghost use Rattle.language.specs.KindNumbers.{process_kinds, process_number};
 
@@ -25,11 +25,31 @@ pub const WHEN: usize = 9;
 
 pub const PARALLEL: usize = 10;
 
+pub fn is_either(kind: usize, one: usize, other: usize) -> bool
+    ensures { result ≡ (eqb kind one || eqb kind other) }
+{
+    kind == one || kind == other
+}
+
 // An assignment or an emission: its move calls for a line.
 pub fn is_writer(kind: usize) -> bool
     ensures { result ≡ has_write kind }
 {
     kind == ASSIGN || kind == EMIT
+}
+
+// A process of this kind has a signal.
+pub fn has_signal(kind: usize) -> bool
+    ensures { result ≡ has_signal kind }
+{
+    is_either(kind, EMIT, LOCAL) || is_either(kind, WATCHING, WHEN)
+}
+
+// A process of this kind tests its expression or its signal.
+pub fn has_test(kind: usize) -> bool
+    ensures { result ≡ has_test kind }
+{
+    is_either(kind, IF, WHILE) || is_either(kind, WATCHING, WHEN)
 }
 
 #[derive(Clone, Copy, PartialEq, Eq)]

@@ -35,6 +35,7 @@ impl OrderedBook {
 }
 
 // Checks the size and the order of a level book of any bytes.
+#[tactic(auto, using(crate::proofs::Loads::unread, crate::proofs::Loads::faulty, crate::proofs::Loads::faultless))]
 pub fn load(s: &[u8]) -> Result<Book, Refusal>
     ensures checked { result ≡ outcome (refusal s.now) (book_of s.now) }
     ensures in_order { IfOk result (λ b. InOrder b.rows b.count) }
