@@ -9,6 +9,7 @@ ghost use Rattle.layout.specs.Promises.{IsPart, Laid, SmallFields};
 
 use crate::Script;
 use crate::parts::{Name, Part, name_at, part_at};
+use crate::places::place_of_part;
 use crate::tail::tail_is_right;
 use prelude::Refusal;
 
@@ -63,12 +64,6 @@ impl File<'_> {
         requires { IsPart self.now.layout q }
         ensures { result ≡ refused_by number (place_of_part (expression_count self.now.bytes.now) q) }
     {
-        if q < self.layout.expressions {
-            return Refusal::at(number, q);
-        }
-        Refusal::at(
-            number,
-            Script::MAX_EXPRESSIONS + (q - self.layout.expressions),
-        )
+        Refusal::at(number, place_of_part(self.layout.expressions, q))
     }
 }

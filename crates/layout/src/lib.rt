@@ -2,7 +2,8 @@
 #![tactic(auto)]
 
 pub mod parts; // parts.rt: names, and the parts: expressions and nodes
-mod tail; // tail.rt: the tail, refusal 4
+pub mod tail; // tail.rt: the tail, refusal 4
+pub mod places; // places.rt: the places of parts
 pub mod file; // file.rt: a file with its layout
 
 ghost use Rattle.std.specs.Prelude.{◌≡◌, true};
@@ -29,7 +30,7 @@ impl Script {
     pub const MAX_PARTS: usize = Script::MAX_EXPRESSIONS + Script::MAX_NODES;
 
     // The layout that a right tail gives.
-    fn layout_of(s: &[u8]) -> Script
+    pub fn layout_of(s: &[u8]) -> Script
         requires { tail_is_right s.now ≡ true }
         ensures { result ≡ layout_of s.now }
     {
@@ -45,7 +46,7 @@ impl Script {
     }
 
     // Refusal 5.
-    fn counts_are_right(self) -> bool
+    pub fn counts_are_right(self) -> bool
         ensures { result ≡ counts_are_right self }
     {
         self.names <= Script::MAX_NAMES

@@ -7,11 +7,11 @@ use Rattle.entries.specs.Faults.{fault_refusal}
 use Rattle.uses.specs.Uses.{use_refusal}
 use Rattle.scope.specs.Reach.{reach_refusal}
 
--- rows 6 to 8, 9 and 10; before them rows 4 and 5
+-- rows 6 to 8, 9 and 10
 unfoldable pub entry_refusal : List ℕ → ℕ → Refusal
 entry_refusal s levels = or_else (fault_refusal s levels) (or_else (use_refusal s) (reach_refusal s))
 
--- 'The lowest number that applies is given.'
+-- rows 4 and 5 before them: 'The lowest number that applies is given.'
 unfoldable pub refusal : List ℕ → ℕ → Refusal
 refusal s levels = or_else (layout_refusal s) (entry_refusal s levels)
 
