@@ -2,5 +2,6 @@
 pub mod Joining
 pub mod Reaching
 pub mod Sets
+pub mod Finding
 pub mod ReachTables
 pub mod Refusing

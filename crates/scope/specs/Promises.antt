@@ -28,10 +28,6 @@ IsReach s q set = IsSet (name_count s) (λ x. in_reach s x q) set
 abbrev pub KeepsReachAt : List ℕ → ℕ → List ℕ → Type 0
 KeepsReachAt s q sets = IsReach s q (get_or sets q 0)
 
--- one that keeps them in every part
-abbrev pub KeepsReach : List ℕ → List ℕ → Type 0
-KeepsReach s sets = (q : ℕ) → q < part_count s → KeepsReachAt s q sets
-
 -- one that keeps them in the last part, and in the parts that the fields from field f of part p on use
 pub record KeepsReachFrom (s : List ℕ) (p f : ℕ) (sets : List ℕ) : Type 0 where
   pub long : length sets ≡ most_parts

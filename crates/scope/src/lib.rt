@@ -9,7 +9,7 @@ ghost use Rattle.layout.specs.Entries.{is_session};
 ghost use Rattle.layout.specs.Promises.{IsPart};
 ghost use Rattle.fields.specs.Fields.{field_count};
 ghost use Rattle.scope.specs.Reach.{misses_name, is_out_of_reach, reach_refusal};
-ghost use Rattle.scope.specs.Promises.{opens, IsReach, KeepsReach, KeepsReachFrom};
+ghost use Rattle.scope.specs.Promises.{opens, IsReach, KeepsReachFrom};
 ghost use Rattle.scope.specs.Joined.{Joined};
 
 use fields::field_at;
@@ -17,7 +17,7 @@ use fields::roles::Role;
 use layout::Script;
 use layout::file::File;
 use layout::parts::Part;
-use prelude::search::{any, first};
+use prelude::search::any;
 use prelude::{Refusal, set};
 use uses::used_at;
 
@@ -48,8 +48,11 @@ fn entered(joined: &JoinedFile<'_>, q: usize, f: usize, reach: u64) -> u64
     ensures { IsSet (name_count joined.now.file.bytes.now) (λ x. opens joined.now.file.bytes.now q f x || has reach x) result }
 {
     let field = field_at(&joined.file, q, f);
+    if field.role != Role::Child {
+        return reach;
+    }
     let declared = field_at(&joined.file, q, 0);
-    if field.role == Role::Child && declared.role.is_new() {
+    if declared.role.is_new() {
         return set::with(reach, declared.value);
     }
     reach
@@ -65,19 +68,6 @@ fn enter_fields(joined: &JoinedFile<'_>, q: usize, sets: &mut [u64; Script::MAX_
             sets[part] = entered(joined, q, f, sets[q]);
         }
     }
-}
-
-// For each part the names in reach in it. A part is used by a later one, so this goes from the last part to the first.
-fn find_reach(joined: &JoinedFile<'_>) -> [u64; Script::MAX_PARTS]
-    ensures { KeepsReach joined.now.file.bytes.now result }
-{
-    let mut sets = [0u64; Script::MAX_PARTS];
-    let n = joined.file.parts();
-    sets[n - 1] = session_names(&joined.file);
-    for q in (0..n).rev() {
-        enter_fields(joined, q, &mut sets);
-    }
-    sets
 }
 
 // Field f of part q uses a name that is not in reach.
@@ -99,19 +89,29 @@ fn is_out_of_reach(joined: &JoinedFile<'_>, reach: u64, q: usize) -> bool
     any(Part::FIELDS, |f| misses_name(joined, reach, q, f))
 }
 
-// The smallest part that uses a name out of reach.
-fn first_out_of_reach(joined: &JoinedFile<'_>, sets: &[u64; Script::MAX_PARTS]) -> Option<usize>
-    requires { KeepsReach joined.now.file.bytes.now sets.now }
+// The smallest part that uses a name out of reach. A part is used by a later one, so this goes from the last part to
+// the first, and finds for each part the names in reach.
+fn first_out_of_reach(joined: &JoinedFile<'_>) -> Option<usize>
     ensures { result ≡ found (is_out_of_reach joined.now.file.bytes.now) (part_count joined.now.file.bytes.now) }
 {
-    first(joined.file.parts(), |q| is_out_of_reach(joined, sets[q], q))
+    let mut sets = [0u64; Script::MAX_PARTS];
+    let n = joined.file.parts();
+    sets[n - 1] = session_names(&joined.file);
+    let mut outside = None;
+    for q in (0..n).rev() {
+        enter_fields(joined, q, &mut sets);
+        if is_out_of_reach(joined, sets[q], q) {
+            outside = Some(q);
+        }
+    }
+    outside
 }
 
 // Row 10.
 pub fn check(joined: &JoinedFile<'_>) -> Result<(), Refusal>
     ensures { result ≡ outcome (reach_refusal joined.now.file.bytes.now) tt }
 {
-    match first_out_of_reach(joined, &find_reach(joined)) {
+    match first_out_of_reach(joined) {
         Some(q) => Err(joined.file.refused_at(10, q)),
         None => Ok(()),
     }

@@ -2,7 +2,7 @@
 use mathlib.Core.Path.{sym, ap, ◌∙◌}
 use native.Mathlib.Omega.{arith}
 use borrow.Author.Rules.{rules}
-use denote.Enum.Bare.{same_true}
+use denote.Enum.Bare.{differs_false}
 use Rattle.layout.proofs.Layouts.{few_bounds, names_are, parts_are}
 use Rattle.fields.specs.declared.Field.{Field}
 use Rattle.fields.specs.contracts.roles.Role.{the_type}
@@ -23,7 +23,7 @@ with-requires c =
 pub returns-then-is_new : goal.returns-then-is_new
 returns-then-is_new c =
     let file = c.args.joined.now.file in
-    let role = same_true the_type (search rules) _ _ (sym c.if-eq.ensures) in
+    let role = differs_false the_type (search rules) _ _ (sym c.if-ne.ensures) in
     let child = ap (λ (z : Field). is_child z.role) (sym c.field_at-field.ensures.field) ∙ ap is_child {y = Child} role in
     let declared = c.field_at-declared.ensures.field in
     let new = ap (λ (z : Field). is_new z.role) (sym declared) ∙ sym c.if-is_new.ensures in
