@@ -7,9 +7,8 @@ use Rattle.prelude.specs.Sets.{has}
 use Rattle.prelude.proofs.Sets.{has_zero}
 use Rattle.language.specs.Syntax.{Proc}
 use Rattle.language.specs.RequiredFlows.{tests, writes}
-use Rattle.language.specs.KindGroups.{children_of}
+use Rattle.language.specs.KindGroups.{kind_of, children_of}
 use Rattle.language.specs.declared.process_kinds.ProcessKind.{ProcessKind}
-use Rattle.language.specs.KindNumbers.{process_number}
 use Rattle.layout.specs.declared.parts.Part.{Part}
 use Rattle.fields.specs.Children.{AreChildren}
 use Rattle.fields.specs.declared.children.Children.TheVariants.{None, One, Two}
@@ -32,6 +31,9 @@ module _
   abbrev s : List ℕ
   s = f.file.bytes.now
 
+  kind_is : p.kind ≡ kind_of (process_of s k)
+  kind_is = sym at.kinded ∙ kind_of_node f at
+
   -- what its children have together, where it has these
   module _ (ps : List (Proc ℕ)) (q : children_of (process_of s k) ≡ ps) where
     tests_of_lem : (i : ℕ) → tests_of (names_of s) ps i ≡ tests_of (names_of s) (children_of (process_of s k)) i
@@ -51,42 +53,41 @@ module _
 
   pub none_leaves :
       AreChildren p None → {before after : List ℕ} {r : Effects} →
-      PartLeaves (process_number kind) own (record { tested = 0; written = 0 }) before after r →
+      PartLeaves p.kind own (record { tested = 0; written = 0 }) before after r →
       FlowsAt s k before after r
   none_leaves a h =
       let q = no_children f at a in
-      process_leaves (kind_of_node f at) (brings k at) (λ i l. has_zero i ∙ tests_of_lem [] q i)
+      process_leaves kind_is (brings k at) (λ i l. has_zero i ∙ tests_of_lem [] q i)
       (λ j l. has_zero j ∙ writes_of_lem [] q j)
-      (λ i j hi hj. pair_of_lem [] q (process_number kind) i j)
+      (λ i j hi hj. pair_of_lem [] q p.kind i j)
       (must_of_lem [] q adds_none)
       h
 
   pub one_leaves :
       {i : ℕ} → AreChildren p (One i) → {before middle after : List ℕ} {first r : Effects} →
-      FlowsAt s i before middle first → PartLeaves (process_number kind) own first middle after r →
+      FlowsAt s i before middle first → PartLeaves p.kind own first middle after r →
       FlowsAt s k before after r
   one_leaves a first h =
       let q = one_child f at a in
-      process_leaves (kind_of_node f at) (brings k at) (λ i l. first.tested i l ∙ tests_of_lem _ q i)
+      process_leaves kind_is (brings k at) (λ i l. first.tested i l ∙ tests_of_lem _ q i)
       (λ j l. first.written j l ∙ writes_of_lem _ q j)
-      (λ i j hi hj. pair_of_lem _ q (process_number kind) i j)
+      (λ i j hi hj. pair_of_lem _ q p.kind i j)
       (must_of_lem _ q first.flows)
       h
 
   pub two_leaves :
       {i j : ℕ} → AreChildren p (Two i j) → {before middle later after : List ℕ} {first second r : Effects} →
       FlowsAt s i before middle first → FlowsAt s j middle later second →
-      PairLeaves (process_number kind) own first second later after r → FlowsAt s k before after r
+      PairLeaves p.kind own first second later after r → FlowsAt s k before after r
   two_leaves {i = x} {j = y} children {first = first} {second} a b h =
       let q = two_children f at children in
-      let n = process_number kind in
-      process_leaves (kind_of_node f at) (brings k at) {pair = pair_flows n first second}
+      process_leaves kind_is (brings k at) {pair = pair_flows p.kind first second}
       (λ i l. ap₂ ◌||◌ (a.tested i l) (b.tested i l) ∙ tests_of_lem _ q i)
       (λ j l. ap₂ ◌||◌ (a.written j l) (b.written j l) ∙ writes_of_lem _ q j)
       (λ i j hi hj.
-      ap₂ (λ t w. pair_by n t w (has second.tested i) (has second.written j)) (a.tested i hi) (a.written j hj)
-      ∙ ap₂ (pair_by n (tests (names_of s) (process_of s x) i) (writes (names_of s) (process_of s x) j)) (b.tested i hi)
+      ap₂ (λ t w. pair_by p.kind t w (has second.tested i) (has second.written j)) (a.tested i hi) (a.written j hj)
+      ∙ ap₂ (pair_by p.kind (tests (names_of s) (process_of s x) i) (writes (names_of s) (process_of s x) j)) (b.tested i hi)
       (b.written j hj)
-      ∙ pair_of_lem _ q n i j)
+      ∙ pair_of_lem _ q p.kind i j)
       (must_of_lem _ q (adds_more a.flows b.flows))
       h

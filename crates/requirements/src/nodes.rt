@@ -1,13 +1,12 @@
 // What a node has, from what it brings itself and what its children have: 02's list of the flows.
 ghost use Rattle.prelude.specs.Sets.{has, IsSet};
 ghost use Rattle.book.specs.LevelBook.{most_levels};
-ghost use Rattle.language.specs.KindNumbers.{process_number};
 ghost use Rattle.requirements.specs.Nodes.{tested_by, written_by, source_by, target_by};
 ghost use Rattle.requirements.specs.Promises.{Adds, PartLeaves, pair_flows, PairLeaves};
 
 use crate::table::FlowTable;
 use book::sets;
-use language::process_kinds::ProcessKind;
+use language::process_kinds;
 
 // What a node brings itself: the levels of the registers of its expression, or that of the signal that it tests; and
 // that of the name to which a value or an emission goes. What it has not is the empty set.
@@ -25,10 +24,10 @@ pub struct Effects {
 }
 
 // The tests of a node: those of its children, and what it reads, if it tests that.
-fn tested_of(kind: ProcessKind, own: Own, parts: Effects) -> u16
-    ensures { IsSet most_levels (λ i. tested_by (process_number kind) (has own.read i) (has parts.tested i)) result }
+fn tested_of(kind: usize, own: Own, parts: Effects) -> u16
+    ensures { IsSet most_levels (λ i. tested_by kind (has own.read i) (has parts.tested i)) result }
 {
-    if kind.has_test() {
+    if process_kinds::has_test(kind) {
         sets::union(own.read, parts.tested)
     } else {
         parts.tested
@@ -36,10 +35,10 @@ fn tested_of(kind: ProcessKind, own: Own, parts: Effects) -> u16
 }
 
 // The writes of a node: its name, if it assigns or emits; else those of its children.
-fn written_of(kind: ProcessKind, own: Own, parts: Effects) -> u16
-    ensures { IsSet most_levels (λ j. written_by (process_number kind) (has own.name j) (has parts.written j)) result }
+fn written_of(kind: usize, own: Own, parts: Effects) -> u16
+    ensures { IsSet most_levels (λ j. written_by kind (has own.name j) (has parts.written j)) result }
 {
-    if kind.is_writer() {
+    if process_kinds::is_writer(kind) {
         own.name
     } else {
         parts.written
@@ -47,28 +46,28 @@ fn written_of(kind: ProcessKind, own: Own, parts: Effects) -> u16
 }
 
 // The levels from which a node needs flows: those that it reads, and of a while all that its body tests.
-fn source_of(kind: ProcessKind, own: Own, parts: Effects) -> u16
-    ensures { IsSet most_levels (λ i. source_by (process_number kind) (has own.read i) (has parts.tested i)) result }
+fn source_of(kind: usize, own: Own, parts: Effects) -> u16
+    ensures { IsSet most_levels (λ i. source_by kind (has own.read i) (has parts.tested i)) result }
 {
     match kind {
-        ProcessKind::While => sets::union(own.read, parts.tested),
+        process_kinds::WHILE => sets::union(own.read, parts.tested),
         _ => own.read,
     }
 }
 
 // The levels to which it needs them: its name, if a value goes into that; else the writes of its children.
-fn target_of(kind: ProcessKind, own: Own, parts: Effects) -> u16
-    ensures { IsSet most_levels (λ j. target_by (process_number kind) (has own.name j) (has parts.written j)) result }
+fn target_of(kind: usize, own: Own, parts: Effects) -> u16
+    ensures { IsSet most_levels (λ j. target_by kind (has own.name j) (has parts.written j)) result }
 {
     match kind {
-        ProcessKind::Assign | ProcessKind::Let => own.name,
+        process_kinds::ASSIGN | process_kinds::LET => own.name,
         _ => parts.written,
     }
 }
 
 // A node of this kind, where `parts` has what its children have together.
-pub fn node_flows(flows: &mut FlowTable, kind: ProcessKind, own: Own, parts: Effects) -> Effects
-    ensures { PartLeaves (process_number kind) own parts flows.old.sets flows.new.sets result }
+pub fn node_flows(flows: &mut FlowTable, kind: usize, own: Own, parts: Effects) -> Effects
+    ensures { PartLeaves kind own parts flows.old.sets flows.new.sets result }
 {
     flows.add(source_of(kind, own, parts), target_of(kind, own, parts));
     Effects {
@@ -78,12 +77,12 @@ pub fn node_flows(flows: &mut FlowTable, kind: ProcessKind, own: Own, parts: Eff
 }
 
 // Adds the flows that a node of this kind needs between its two children.
-fn add_pair(flows: &mut FlowTable, kind: ProcessKind, first: Effects, second: Effects)
-    ensures { Adds flows.old.sets (pair_flows (process_number kind) first second) flows.new.sets }
+fn add_pair(flows: &mut FlowTable, kind: usize, first: Effects, second: Effects)
+    ensures { Adds flows.old.sets (pair_flows kind first second) flows.new.sets }
 {
     match kind {
-        ProcessKind::If => {}
-        ProcessKind::Sequence => flows.add(first.tested, second.written),
+        process_kinds::IF => {}
+        process_kinds::SEQUENCE => flows.add(first.tested, second.written),
         _ => {
             flows.add(first.tested, second.written);
             flows.add(second.tested, first.written);
@@ -94,12 +93,12 @@ fn add_pair(flows: &mut FlowTable, kind: ProcessKind, first: Effects, second: Ef
 // A node of this kind with two children.
 pub fn pair_flows(
     flows: &mut FlowTable,
-    kind: ProcessKind,
+    kind: usize,
     own: Own,
     first: Effects,
     second: Effects,
 ) -> Effects
-    ensures { PairLeaves (process_number kind) own first second flows.old.sets flows.new.sets result }
+    ensures { PairLeaves kind own first second flows.old.sets flows.new.sets result }
 {
     add_pair(flows, kind, first, second);
     let parts = Effects {

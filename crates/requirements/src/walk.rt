@@ -24,16 +24,16 @@ impl LevelledScript<'_> {
                     tested: 0,
                     written: 0,
                 };
-                node_flows(flows, kind, own, none)
+                node_flows(flows, p.kind, own, none)
             }
             Children::One(i) => {
                 let part = self.flows_at(flows, i);
-                node_flows(flows, kind, own, part)
+                node_flows(flows, p.kind, own, part)
             }
             Children::Two(i, j) => {
                 let first = self.flows_at(flows, i);
                 let second = self.flows_at(flows, j);
-                pair_flows(flows, kind, own, first, second)
+                pair_flows(flows, p.kind, own, first, second)
             }
         }
     }
