@@ -20,7 +20,7 @@ use Rattle.layout.specs.Layout.{layout_of, name_count, expression_count, node_co
 use Rattle.layout.specs.Promises.{Laid}
 use Rattle.layout.specs.Entries.{name_of, part_of, node}
 use Rattle.layout.proofs.Layouts.{few_bounds, names_are, expressions_are, nodes_are}
-use Rattle.fields.specs.Children.{child_count, first_child, second_child}
+use Rattle.fields.specs.Children.{first_child, second_child}
 use Rattle.script.specs.Checked.{Checked}
 use Rattle.tree.specs.Tree.{expressions_from, no_expression, expression_of, processes_from, process_of}
 use Rattle.tree.proofs.Views.{code, code_range, ExpressionView, a_constant, a_register, a_binary, a_negated, expression-view, UsesName, NodeView, a_nil, an_assign, a_let, an_if, a_while, a_sequence, an_emit, a_local, a_watching, a_when, a_parallel, node_view}
@@ -144,25 +144,25 @@ module _ (s : List ℕ) (sees : ℕ → Bool) (words : List ℕ) (ok : Checked s
     tested_is : p.a < expression_count s → a_in w ≡ p.a
     tested_is l = x.a (omega (arith, l, few_expressions_lem))
 
-    stored_is : child_count p.kind < 2 → p.b < expression_count s → b_in w ≡ p.b
+    stored_is : p.kind ≤ 2 → p.b < expression_count s → b_in w ≡ p.b
     stored_is q l = x.b q (omega (arith, l, few_expressions_lem))
 
     -- the expressions that it has, and the level of its name
     tested : p.a < expression_count s → program.expression_of words (a_in w) ≡ expression_of s p.a
     tested l = ap (program.expression_of words) (tested_is l) ∙ expression_same p.a l
 
-    stored : child_count p.kind < 2 → p.b < expression_count s → program.expression_of words (b_in w) ≡ expression_of s p.b
+    stored : p.kind ≤ 2 → p.b < expression_count s → program.expression_of words (b_in w) ≡ expression_of s p.b
     stored q l = ap (program.expression_of words) (stored_is q l) ∙ expression_same p.b l
 
     level : p.a < name_count s → level_in (name_word words (a_in w)) ≡ (name_of s p.a).level
     level l = ap (λ y. level_in (name_word words y)) (name_is l) ∙ (made.keeps.name p.a l).level
 
     -- its children
-    first_is : (j : ℕ) → first_child p ≡ j → 0 < child_count p.kind → first_in w ≡ j
-    first_is j e l = x.first l ∙ e
+    first_is : (j : ℕ) → first_child p ≡ j → j < k → first_in w ≡ j
+    first_is j e l = x.first (omega (arith, e, l)) ∙ e
 
-    second_is : (j : ℕ) → second_child p ≡ j → child_count p.kind ≡ 2 → b_in w ≡ j
-    second_is j e q = x.second q ∙ e
+    second_is : (j : ℕ) → second_child p ≡ j → 2 < p.kind → j < k → b_in w ≡ j
+    second_is j e q l = x.second q (omega (arith, e, l)) ∙ e
 
     process_made :
         (l : List (Proc ℕ)) →
@@ -180,38 +180,34 @@ module _ (s : List ℕ) (sees : ℕ → Bool) (words : List ℕ) (ok : Checked s
         by_kind : (n : ℕ) → p.kind ≡ n → ours n ≡ theirs n → ours (node_kind_in w) ≡ theirs p.kind
         by_kind n e q = ap ours (x.kind ∙ e) ∙ q ∙ ap theirs (sym e)
 
-        first_part :
-            (n : ℕ) → p.kind ≡ n → 0 < child_count n → (j : ℕ) → first_child p ≡ j →
-            get_or l (first_in w) nil ≡ get_or l j nil
-        first_part n q some j e = ap (λ i. get_or l i nil) (first_is j e (omega (arith, some, ap child_count q)))
+        first_part : (j : ℕ) → first_child p ≡ j → j < k → get_or l (first_in w) nil ≡ get_or l j nil
+        first_part j e b = ap (λ i. get_or l i nil) (first_is j e b)
 
-        second_part :
-            (n : ℕ) → p.kind ≡ n → child_count n ≡ 2 → (j : ℕ) → second_child p ≡ j →
-            get_or l (b_in w) nil ≡ get_or l j nil
-        second_part n q two j e = ap (λ i. get_or l i nil) (second_is j e (ap child_count q ∙ two))
+        second_part : (j : ℕ) → second_child p ≡ j → 2 < p.kind → j < k → get_or l (b_in w) nil ≡ get_or l j nil
+        second_part j e q b = ap (λ i. get_or l i nil) (second_is j e q b)
 
         view : NodeView s k → ours (node_kind_in w) ≡ theirs p.kind
         view (a_nil e q) = by_kind 0 e refl
-        view (an_assign e q y z) = by_kind 1 e (ap₂ assign (name_is y.known) (stored (omega (arith, ap child_count e)) z.known))
+        view (an_assign e q y z) = by_kind 1 e (ap₂ assign (name_is y.known) (stored (omega (arith, e)) z.known))
         view (a_let e q y z r) =
             by_kind 2 e
-            (rw (level y.known, stored (omega (arith, ap child_count e)) z.known, first_part 2 e (omega arith) p.c (rw e), name_is y.known))
+            (rw (level y.known, stored (omega (arith, e)) z.known, first_part p.c (rw e) r.before, name_is y.known))
         view (an_if e q z r t) =
             by_kind 3 e
-            (rw (tested z.known, first_part 3 e (omega arith) p.b (rw e), second_part 3 e refl p.c (rw e)))
-        view (a_while e q z r) = by_kind 4 e (ap₂ while (tested z.known) (first_part 4 e (omega arith) p.b (rw e)))
+            (rw (tested z.known, first_part p.b (rw e) r.before, second_part p.c (rw e) (omega (arith, e)) t.before))
+        view (a_while e q z r) = by_kind 4 e (ap₂ while (tested z.known) (first_part p.b (rw e) r.before))
         view (a_sequence e q r t) =
             by_kind 5 e
-            (ap₂ sequence (first_part 5 e (omega arith) p.a (rw e)) (second_part 5 e refl p.b (rw e)))
+            (ap₂ sequence (first_part p.a (rw e) r.before) (second_part p.b (rw e) (omega (arith, e)) t.before))
         view (an_emit e q y) = by_kind 6 e (ap emit (name_is y.known))
         view (a_local e q y r) =
-            by_kind 7 e (rw (level y.known, first_part 7 e (omega arith) p.b (rw e), name_is y.known))
+            by_kind 7 e (rw (level y.known, first_part p.b (rw e) r.before, name_is y.known))
         view (a_watching e q y r) =
-            by_kind 8 e (ap₂ watching (name_is y.known) (first_part 8 e (omega arith) p.b (rw e)))
-        view (a_when e q y r) = by_kind 9 e (ap₂ when (name_is y.known) (first_part 9 e (omega arith) p.b (rw e)))
+            by_kind 8 e (ap₂ watching (name_is y.known) (first_part p.b (rw e) r.before))
+        view (a_when e q y r) = by_kind 9 e (ap₂ when (name_is y.known) (first_part p.b (rw e) r.before))
         view (a_parallel e q r t) =
             by_kind 10 e
-            (ap₂ parallel (first_part 10 e (omega arith) p.a (rw e)) (second_part 10 e refl p.b (rw e)))
+            (ap₂ parallel (first_part p.a (rw e) r.before) (second_part p.b (rw e) (omega (arith, e)) t.before))
 
   process_same : (k : ℕ) → k < node_count s → program.process_of words k ≡ process_of s k
   unfolding program.process_of process_of
@@ -232,14 +228,13 @@ module _ (s : List ℕ) (sees : ℕ → Bool) (words : List ℕ) (ok : Checked s
       x : NodePacked s k w
       x = made.keeps.node k h
 
-      leads : (n : ℕ) → entry.kind ≡ n → 0 < child_count n → (j : ℕ) → first_child entry ≡ j → j < k → FirstPart words k
-      leads n q some j e l =
-          let has : 0 < child_count entry.kind = omega (arith, some, ap child_count q) in
-          let i = first_is k w x h j e has in
+      leads : (j : ℕ) → first_child entry ≡ j → j < k → FirstPart words k
+      leads j e l =
+          let i = first_is k w x h j e l in
           record {
             before = omega (arith, i, l);
             sized =
-                x.size has
+                x.size (omega (arith, e, l))
                 ∙ ap (λ j. size (process_of s j)) e
                 ∙ ap size (sym (process_same j (omega (arith, l, h))))
                 ∙ ap (λ j. size (program.process_of words j)) (sym i);
@@ -286,44 +281,44 @@ module _ (s : List ℕ) (sees : ℕ → Bool) (words : List ℕ) (ok : Checked s
       tests : entry.a < expression_count s → a_in w < program.expression_count words
       tests l = omega (arith, tested_is k w x h l, l, made.expressions)
 
-      stores : child_count entry.kind < 2 → entry.b < expression_count s → b_in w < program.expression_count words
+      stores : entry.kind ≤ 2 → entry.b < expression_count s → b_in w < program.expression_count words
       stores q l = omega (arith, stored_is k w x h q l, l, made.expressions)
 
-      follows : (n : ℕ) → entry.kind ≡ n → child_count n ≡ 2 → (j : ℕ) → second_child entry ≡ j → j < k → b_in w < k
-      follows n q two j e l = omega (arith, second_is k w x h j e (ap child_count q ∙ two), l)
+      follows : (j : ℕ) → second_child entry ≡ j → 2 < entry.kind → j < k → b_in w < k
+      follows j e q l = omega (arith, second_is k w x h j e q l, l)
 
       alone :
-          UsesName s (node s k) entry.a 1 → entry.kind ≡ 9 → (j : ℕ) → first_child entry ≡ j → j < k →
+          UsesName s (node s k) entry.a 1 → (j : ℕ) → first_child entry ≡ j → j < k →
           leaves_alone (a_in w) (program.process_of words (first_in w)) ≡ true
-      alone u q j e l =
-          rw (name_is k w x h u.known, first_is k w x h j e (omega (arith, ap child_count q)), process_same j (omega (arith, l, h)))
+      alone u j e l =
+          rw (name_is k w x h u.known, first_is k w x h j e l, process_same j (omega (arith, l, h)))
           (alone_below s ok entry.a k u h j l)
 
       view : NodeView s k → NodeRuns words k
       view (a_nil e q) = plain 0 e refl (omega arith) tt tt tt
       view (an_assign e q y z) =
-          plain 1 e refl (omega arith) (named y.known) (stores (omega (arith, ap child_count e)) z.known) tt
+          plain 1 e refl (omega arith) (named y.known) (stores (omega (arith, e)) z.known) tt
       view (a_let e q y z r) =
-          plain 2 e refl (omega arith) (named y.known) (stores (omega (arith, ap child_count e)) z.known) (leads 2 e (omega arith) entry.c (rw e) r.before)
+          plain 2 e refl (omega arith) (named y.known) (stores (omega (arith, e)) z.known) (leads entry.c (rw e) r.before)
       view (an_if e q z r t) =
-          plain 3 e refl (omega arith) (tests z.known) (follows 3 e refl entry.c (rw e) t.before)
-          (leads 3 e (omega arith) entry.b (rw e) r.before)
+          plain 3 e refl (omega arith) (tests z.known) (follows entry.c (rw e) (omega (arith, e)) t.before)
+          (leads entry.b (rw e) r.before)
       view (a_while e q z r) =
-          plain 4 e refl (omega arith) (tests z.known) tt (leads 4 e (omega arith) entry.b (rw e) r.before)
+          plain 4 e refl (omega arith) (tests z.known) tt (leads entry.b (rw e) r.before)
       view (a_sequence e q r t) =
-          plain 5 e refl (omega arith) tt (follows 5 e refl entry.b (rw e) t.before)
-          (leads 5 e (omega arith) entry.a (rw e) r.before)
+          plain 5 e refl (omega arith) tt (follows entry.b (rw e) (omega (arith, e)) t.before)
+          (leads entry.a (rw e) r.before)
       view (an_emit e q y) = plain 6 e refl (omega arith) (named y.known) tt tt
       view (a_local e q y r) =
-          plain 7 e refl (omega arith) (named y.known) tt (leads 7 e (omega arith) entry.b (rw e) r.before)
+          plain 7 e refl (omega arith) (named y.known) tt (leads entry.b (rw e) r.before)
       view (a_watching e q y r) =
-          runs 8 e (omega arith) (named y.known) tt (leads 8 e (omega arith) entry.b (rw e) r.before) (λ _. signal y) (λ z. absurd (omega (arith, z)))
+          runs 8 e (omega arith) (named y.known) tt (leads entry.b (rw e) r.before) (λ _. signal y) (λ z. absurd (omega (arith, z)))
       view (a_when e q y r) =
-          runs 9 e (omega arith) (named y.known) tt (leads 9 e (omega arith) entry.b (rw e) r.before)
-          (λ z. absurd (omega (arith, z))) (λ _. alone y e entry.b (rw e) r.before)
+          runs 9 e (omega arith) (named y.known) tt (leads entry.b (rw e) r.before)
+          (λ z. absurd (omega (arith, z))) (λ _. alone y entry.b (rw e) r.before)
       view (a_parallel e q r t) =
-          plain 10 e refl (omega arith) tt (follows 10 e refl entry.b (rw e) t.before)
-          (leads 10 e (omega arith) entry.a (rw e) r.before)
+          plain 10 e refl (omega arith) tt (follows entry.b (rw e) (omega (arith, e)) t.before)
+          (leads entry.a (rw e) r.before)
 
   pub program_of : ProgramOf s sees words
   program_of =

@@ -1,6 +1,6 @@
 -- The words of a plan: what was packed into one is what it tells.
 use mathlib.Core.Path.{◌≡◌, refl, sym, ap, ◌∙◌, subst}
-use mathlib.Core.Bool.{Bool}
+use mathlib.Core.Bool.{Bool, cond}
 use mathlib.Core.List.{List}
 use Prim.Native.Nat.{ℕ, ◌+◌, ◌*◌, ◌^◌, ◌≤◌, ◌<◌}
 use native.Mathlib.Decide.{ℕ_discrete}
@@ -8,7 +8,7 @@ use native.Mathlib.Omega.{arith}
 use lib.Dec.{eqb, ltb}
 use lib.ListN.{get_or, set, length, length-set}
 use lib.Seq.{get_or-set_same, get_or-set_other}
-use borrow.Author.Tests.{eqb-true, ltb-true}
+use borrow.Author.Tests.{eqb-true, ltb-true, le-leb, lt-leb}
 use Rattle.prelude.specs.Search.{all, any, first_from}
 use Rattle.prelude.specs.Search as search-for
 use Rattle.prelude.proofs.Searches.{all_elim}
@@ -18,7 +18,7 @@ use Rattle.layout.specs.Entries.{name_of, session, part_of, node}
 use Rattle.layout.specs.Layout.{node_count}
 use Rattle.fields.specs.declared.children.Children.{Children}
 use Rattle.fields.specs.declared.children.Children.TheVariants.{None, One, Two}
-use Rattle.fields.specs.Children.{child_count, first_child, second_child, AreChildren}
+use Rattle.fields.specs.Children.{first_child, second_child, AreChildren}
 use Rattle.script.specs.Checked.{Checked}
 use Rattle.language.specs.NodeCounts.{size}
 use Rattle.language.specs.Shapes.{watches}
@@ -29,8 +29,8 @@ use Rattle.program.specs.Program.{most_names, most_expressions, most_nodes, name
 use Rattle.program.specs.Forms.{form_of, forms_of}
 use Rattle.packing.specs.Packing.{form_in, packed_fields, marked, packed_node, packed_name}
 use Rattle.packing.proofs.Words.{low, a_told, b_told, first_told, size_told, kind_told, mark_told, level_told, signal_told, session_told, seen_told}
-use Rattle.plan.specs.Plan.{NamePacked, ExpressionPacked, fields_by, NodePacked, Keeps}
-use Rattle.plan.proofs.Watching.{EachBefore}
+use Rattle.plan.specs.Plan.{NamePacked, ExpressionPacked, field_b, fields_by, NodePacked, Keeps}
+use Rattle.plan.proofs.Missing.{no_first, no_second}
 
 pub forms_fit : (kind : ℕ) → kind < 11 → forms_of kind < 65536
 unfolding all any search-for.first first_from
@@ -49,20 +49,18 @@ module _ (s : List ℕ) (k : ℕ) where
   abbrev entry : Part
   entry = part_of s (node s k)
 
-  -- how many children it has
-  abbrev children : ℕ
-  children = child_count entry.kind
-
-  module _ (n : entry.kind < 11) (one two count : ℕ) (w : Bool) (b : children < 2 → two ≡ entry.b)
-      (second : children ≡ 2 → (two ≡ second_child entry) × (two < 1024))
-      (first : 0 < children → (one ≡ first_child entry) × (one < 1024))
-      (sized : 0 < children → (count ≡ size (process_of s (first_child entry))) × (count < 1024))
+  module _ (n : entry.kind < 11) (few : k ≤ 256) (one two count : ℕ) (w : Bool) (a : one ≡ first_child entry)
+      (b : two ≡ second_child entry)
+      (sized : first_child entry < k → (count ≡ size (process_of s (first_child entry))) × (count < 1024))
       (marks : w ≡ watches (process_of s k)) where
     abbrev forms : ℕ
     forms = forms_of entry.kind
 
+    abbrev later : ℕ
+    later = field_b entry two
+
     abbrev fields : ℕ
-    fields = packed_fields entry.a two one count
+    fields = packed_fields entry.a later one count
 
     abbrev kind : ℕ
     kind = marked entry.kind w
@@ -73,53 +71,55 @@ module _ (s : List ℕ) (k : ℕ) where
     known : entry.kind < 128
     known = omega (arith, n)
 
+    b_is : entry.kind ≤ 2 → later ≡ entry.b
+    b_is l = ap (λ t. cond t entry.b two) (le-leb entry.kind 2 l)
+
+    second_is : 2 < entry.kind → later ≡ second_child entry
+    second_is l = ap (λ t. cond t entry.b two) (lt-leb entry.kind 2 l) ∙ b
+
     pub node_packed : NodePacked s k (packed_node forms fields kind)
     node_packed =
         record {
           forms = λ tag l. low forms (fields + 2 ^ 40 * kind) tag l ∙ forms_tell entry.kind tag n l;
-          kind = kind_told forms entry.a two one count entry.kind fit known w;
-          watches = mark_told forms entry.a two one count entry.kind fit known w ∙ marks;
-          a = λ h. omega (arith, h, a_told forms kind entry.a two one count fit);
-          b = λ l h. omega (arith, h, b l, b_told forms kind entry.a two one count fit);
-          second = λ h. omega (arith, second h, b_told forms kind entry.a two one count fit);
-          first = λ h. omega (arith, first h, first_told forms kind entry.a two one count fit);
-          size = λ h. omega (arith, sized h, size_told forms kind entry.a two one count fit);
+          kind = kind_told forms entry.a later one count entry.kind fit known w;
+          watches = mark_told forms entry.a later one count entry.kind fit known w ∙ marks;
+          a = λ h. omega (arith, h, a_told forms kind entry.a later one count fit);
+          b = λ l h. omega (arith, h, b_is l, b_told forms kind entry.a later one count fit);
+          second = λ l h. omega (arith, h, few, second_is l, b_told forms kind entry.a later one count fit);
+          first = λ h. omega (arith, h, few, a, first_told forms kind entry.a later one count fit);
+          size = λ h. omega (arith, (sized h).0, (sized h).1, size_told forms kind entry.a later one count fit);
         }
 
-  -- by its children, which come before it, and the sizes of the nodes before
+  -- by its children and the sizes of the nodes before
   module _
       (ok : Checked s) (h : k < node_count s) (n : entry.kind < 11) (few : k ≤ most_nodes) (w : Bool)
       (marks : w ≡ watches (process_of s k)) (sizes : List ℕ) (keeps : KeepsSizes s k sizes) where
-    sized : (i : ℕ) → i < k → i ≡ first_child entry → (get_or sizes i 0 ≡ size (process_of s (first_child entry))) × (get_or sizes i 0 < 1024)
-    sized i l e =
-        let is : get_or sizes i 0 ≡ size (process_of s i) = keeps i l in
-        (is ∙ ap (λ i. size (process_of s i)) e, omega (arith, is, l, few, size_within s ok i (omega arith)))
+    sized :
+        (i : ℕ) → i ≡ first_child entry → first_child entry < k →
+        (get_or sizes i 0 ≡ size (process_of s (first_child entry))) × (get_or sizes i 0 < 1024)
+    sized i e l =
+        let is : get_or sizes i 0 ≡ size (process_of s i) = keeps i (omega (arith, e, l)) in
+        (is ∙ ap (λ i. size (process_of s i)) e, omega (arith, is, e, l, few, size_within s ok i (omega (arith, e, l, h))))
+
+    made :
+        (i j : ℕ) → i ≡ first_child entry → j ≡ second_child entry →
+        NodePacked s k (packed_node (forms_of entry.kind) (packed_fields entry.a (field_b entry j) i (get_or sizes i 0)) (marked entry.kind w))
+    made i j a b = node_packed n few i j (get_or sizes i 0) w a b (sized i a) marks
 
     packed_by :
-        (r : Children) → AreChildren entry r → EachBefore k r →
+        (r : Children) → AreChildren entry r →
         NodePacked s k (packed_node (forms_of entry.kind) (fields_by sizes entry r) (marked entry.kind w))
-    packed_by None a l =
-        node_packed n 0 entry.b 0 w (λ _. refl) (λ q. absurd (omega (arith, a, q))) (λ q. absurd (omega (arith, a, q)))
-        (λ q. absurd (omega (arith, a, q)))
-        marks
-    packed_by (One i) a l =
-        node_packed n i entry.b (get_or sizes i 0) w (λ _. refl) (λ q. absurd (omega (arith, a.0, q)))
-        (λ _. (a.1, omega (arith, l, few)))
-        (λ _. sized i l a.1)
-        marks
-    packed_by (Two i j) a l =
-        node_packed n i j (get_or sizes i 0) w (λ q. absurd (omega (arith, a.0, q))) (λ _. (a.1.1, omega (arith, l.1, few)))
-        (λ _. (a.1.0, omega (arith, l.0, few)))
-        (λ _. sized i l.0 a.1.0)
-        marks
+    packed_by None a = made 0 0 (no_first s ok k h a) (no_second s ok k h (omega (arith, a)))
+    packed_by (One i) a = made i 0 a.1 (no_second s ok k h (omega (arith, a.0)))
+    packed_by (Two i j) a = made i j a.1.0 a.1.1
 
     -- the same of the part that was read
     pub packed_at :
-        {p : Part} → p ≡ entry → (r : Children) → AreChildren p r → EachBefore k r →
+        {p : Part} → p ≡ entry → (r : Children) → AreChildren p r →
         NodePacked s k (packed_node (forms_of p.kind) (fields_by sizes p r) (marked p.kind w))
-    packed_at e r a l =
+    packed_at e r a =
         subst (λ (p : Part). NodePacked s k (packed_node (forms_of p.kind) (fields_by sizes p r) (marked p.kind w))) (sym e)
-        (packed_by r (subst (λ p. AreChildren p r) e a) l)
+        (packed_by r (subst (λ p. AreChildren p r) e a))
 
 -- the word that is packed for name x, whose entry is n
 module _ (s : List ℕ) (sees : ℕ → Bool) (x : ℕ) (n : Name) (q : n ≡ name_of s x) (h : n.level < 256) (k : n.kind < 2) where

@@ -6,7 +6,6 @@ use mathlib.Core.List.{List, [], ◌∷◌}
 use Prim.Native.Nat.{ℕ, ◌<◌}
 use native.Mathlib.Omega.{arith}
 use lib.Dec.{eqb}
-use Rattle.std.specs.Prelude.{⊤}
 use Rattle.language.specs.Syntax.{Proc, nil, assign, let_in, if_then_else, while, sequence, emit, local, watching, when, parallel}
 use Rattle.language.specs.KindGroups.{kind_of, children_of}
 use Rattle.language.specs.Shapes.{watches}
@@ -44,23 +43,12 @@ watches_by_kind (watching a p) = refl
 watches_by_kind (when a p) = refl
 watches_by_kind (parallel p q) = refl
 
--- these children are nodes before k
-abbrev pub EachBefore : ℕ → Children → Type 0
-EachBefore k None = ⊤
-EachBefore k (One i) = i < k
-EachBefore k (Two i j) = (i < k) × (j < k)
-
 module _ (f : CheckedFile) {k : ℕ} {kind : ProcessKind} {p : Part} (at : IsNodeAt f.file.bytes.now kind p k) where
   abbrev s : List ℕ
   s = f.file.bytes.now
 
   below : {i : ℕ} → Before f at i → i < most_nodes
   below b = omega (arith, b.1, few_bounds f.file.layout f.file.laid.few)
-
-  pub each_before : (r : Children) → AreChildren p r → EachBefore k r
-  each_before None a = tt
-  each_before (One i) a = (one_before f at a).0
-  each_before (Two i j) a = ((first_before f at a).0, (second_before f at a).0)
 
   pub each_below : (r : Children) → AreChildren p r → Below r
   each_below None a = tt

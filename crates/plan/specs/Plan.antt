@@ -1,5 +1,5 @@
 -- The program of a checked file, for a reader: what its words hold, and what that makes of it.
-use Rattle.std.specs.Prelude.{◌≡◌, ⊤, Bool, false, ◌||◌, List, ℕ, ◌+◌, ◌*◌, ◌^◌, ◌≤◌, ◌<◌, eqb, get_or, length}
+use Rattle.std.specs.Prelude.{◌≡◌, ⊤, Bool, false, ◌||◌, cond, List, ℕ, ◌+◌, ◌*◌, ◌^◌, ◌≤◌, ◌<◌, eqb, leb, get_or, length}
 use Rattle.book.specs.declared.Book.{Book}
 use Rattle.book.specs.LevelBook.{most_levels, at_or_below}
 use Rattle.packing.specs.Packing.{kind_in, constant_in, operand_in, later_in, form_in, a_in, b_in, first_in, size_in, node_kind_in, watches_in, level_in, signal_in, session_in, seen_in, packed_fields}
@@ -10,7 +10,7 @@ use Rattle.layout.specs.Layout.{most_nodes, name_count, expression_count, node_c
 use Rattle.layout.specs.Entries.{name_of, is_session, part_of, node}
 use Rattle.fields.specs.declared.children.Children.{Children}
 use Rattle.fields.specs.declared.children.Children.TheVariants.{None, One, Two}
-use Rattle.fields.specs.Children.{child_count, first_child, second_child}
+use Rattle.fields.specs.Children.{first_child, second_child}
 use Rattle.script.specs.Checked.{Levelled}
 use Rattle.tree.specs.Tree.{expression_of, process_of}
 use Rattle.program.specs.Program.{name_word, seen_by, expression_word, node_word, word_count}
@@ -48,12 +48,11 @@ pub record NodePacked (s : List ℕ) (k w : ℕ) : Type 0 where
   pub kind : node_kind_in w ≡ (part_of s (node s k)).kind
   pub watches : watches_in w ≡ watches (process_of s k)
   pub a : (part_of s (node s k)).a < 1024 → a_in w ≡ (part_of s (node s k)).a
-  pub b :
-      child_count (part_of s (node s k)).kind < 2 → (part_of s (node s k)).b < 1024 → b_in w ≡ (part_of s (node s k)).b
-  pub second : child_count (part_of s (node s k)).kind ≡ 2 → b_in w ≡ second_child (part_of s (node s k))
-  pub first : 0 < child_count (part_of s (node s k)).kind → first_in w ≡ first_child (part_of s (node s k))
-  pub size :
-      0 < child_count (part_of s (node s k)).kind → size_in w ≡ size (process_of s (first_child (part_of s (node s k))))
+  pub b : (part_of s (node s k)).kind ≤ 2 → (part_of s (node s k)).b < 1024 → b_in w ≡ (part_of s (node s k)).b
+  pub second :
+      2 < (part_of s (node s k)).kind → second_child (part_of s (node s k)) < k → b_in w ≡ second_child (part_of s (node s k))
+  pub first : first_child (part_of s (node s k)) < k → first_in w ≡ first_child (part_of s (node s k))
+  pub size : first_child (part_of s (node s k)) < k → size_in w ≡ size (process_of s (first_child (part_of s (node s k))))
 
 -- the words of the first n nodes stand in a table
 abbrev pub KeepsNodes : List ℕ → ℕ → List ℕ → Type 0
@@ -82,11 +81,15 @@ child_watches words (Two i j) = watches_in (node_word words i) || watches_in (no
 abbrev pub watches_by : List ℕ → ℕ → Children → Bool
 watches_by words kind children = eqb kind 8 || child_watches words children
 
--- the fields of a word: field a; field b, or the second child; the first child and its size
+-- field b of a word: up to a let an expression, past it the second child
+abbrev pub field_b : Part → ℕ → ℕ
+field_b p second = cond (leb p.kind 2) p.b second
+
+-- the fields of a word: field a; field b; the first child and its size; a child that a node has not is 0
 abbrev pub fields_by : List ℕ → Part → Children → ℕ
-fields_by sizes p None = packed_fields p.a p.b 0 0
-fields_by sizes p (One i) = packed_fields p.a p.b i (get_or sizes i 0)
-fields_by sizes p (Two i j) = packed_fields p.a j i (get_or sizes i 0)
+fields_by sizes p None = packed_fields p.a (field_b p 0) 0 (get_or sizes 0 0)
+fields_by sizes p (One i) = packed_fields p.a (field_b p 0) i (get_or sizes i 0)
+fields_by sizes p (Two i j) = packed_fields p.a (field_b p j) i (get_or sizes i 0)
 
 -- The program of a file, for a reader who sees these names: it can be run, and what it holds is what the file holds.
 pub record ProgramOf (s : List ℕ) (sees : ℕ → Bool) (words : List ℕ) : Type 0 where

@@ -2,10 +2,11 @@
 ghost use Rattle.std.specs.Prelude.{◌≡◌, ◌<◌};
 ghost use Rattle.language.specs.KindNumbers.{process_number};
 ghost use Rattle.tree.specs.Promises.{KeepsSizes};
-ghost use Rattle.plan.specs.Plan.{Below, watches_by, fields_by, NodePacked, KeepsNodes};
+ghost use Rattle.plan.specs.Plan.{Below, watches_by, field_b, fields_by, NodePacked, KeepsNodes};
 
 use crate::reading::Reading;
 use fields::children::{Children, children_of};
+use language::process_kinds;
 use language::process_kinds::ProcessKind;
 use layout::Script;
 use layout::parts::Part;
@@ -26,15 +27,25 @@ fn has_watching(words: &[usize; WORDS], kind: ProcessKind, children: Children) -
     }
 }
 
-// Field a; field b, an expression, or the second child; the first child and its size.
+// Field b: up to a let an expression, past it the second child.
+fn field_b(p: Part, second: usize) -> usize
+    ensures { result ≡ field_b p second }
+{
+    if p.kind <= process_kinds::LET {
+        return p.b;
+    }
+    second
+}
+
+// Field a; field b; the first child and its size. A child that a node has not is no matter: it is 0.
 fn node_fields(sizes: &[u16; Script::MAX_NODES], p: Part, children: Children) -> usize
     requires { Below children }
     ensures { result ≡ fields_by sizes.now p children }
 {
     match children {
-        Children::None => packing::pack_fields(p.a, p.b, 0, 0),
-        Children::One(i) => packing::pack_fields(p.a, p.b, i, usize::from(sizes[i])),
-        Children::Two(i, j) => packing::pack_fields(p.a, j, i, usize::from(sizes[i])),
+        Children::None => packing::pack_fields(p.a, field_b(p, 0), 0, usize::from(sizes[0])),
+        Children::One(i) => packing::pack_fields(p.a, field_b(p, 0), i, usize::from(sizes[i])),
+        Children::Two(i, j) => packing::pack_fields(p.a, field_b(p, j), i, usize::from(sizes[i])),
     }
 }
 

@@ -7,7 +7,7 @@ use Rattle.layout.proofs.Layouts.{few_bounds}
 use Rattle.tree.specs.Promises.{IsNodeAt}
 use Rattle.tree.proofs.NodeChildren.{node_read}
 use Rattle.tree.proofs.Views.{kind_below}
-use Rattle.plan.proofs.Watching.{each_before, each_below, watches_told}
+use Rattle.plan.proofs.Watching.{each_below, watches_told}
 use Rattle.plan.proofs.Plans.{packed_at}
 use Rattle.plan.proofs.reading.Reading.node_word.Goals as goal
 use Rattle.plan.proofs.reading.Reading.node_word.Goals.{After-from_number}
@@ -39,5 +39,4 @@ returns c =
     (λ j l. c.requires.sized j (omega (arith, l, c.requires.known)))
     at.same
     r
-    c.children_of-children.ensures
-    (each_before f at r c.children_of-children.ensures))
+    c.children_of-children.ensures)
