@@ -8,7 +8,7 @@ ghost use Rattle.std.specs.Prelude.{◌≡◌, ◌+◌, ◌<◌};
 ghost use Rattle.layout.specs.Promises.{IsPart};
 ghost use Rattle.fields.specs.Fields.{field_count, role_of, field_of};
 
-use crate::roles::{Role, expression_roles, node_roles};
+use crate::roles::{Role, expression_role, node_role};
 use layout::file::File;
 use layout::parts::word_at;
 
@@ -24,9 +24,9 @@ fn role_of(expressions: usize, q: usize, kind: usize, f: usize) -> Role
     ensures { result ≡ role_of expressions q kind f }
 {
     if q < expressions {
-        return expression_roles(kind)[f];
+        return expression_role(kind, f);
     }
-    node_roles(kind)[f]
+    node_role(kind, f)
 }
 
 // Field f of part q.

@@ -1,6 +1,6 @@
 // What the fields of each kind of entry hold: no other place says it.
-ghost use Rattle.std.specs.Prelude.{◌≡◌};
-ghost use Rattle.fields.specs.Roles.{expression_rows, node_rows, row_of, is_use, is_new};
+ghost use Rattle.std.specs.Prelude.{◌≡◌, ◌<◌};
+ghost use Rattle.fields.specs.Roles.{expression_rows, node_rows, row_of, role_in, is_use, is_new};
 
 use layout::parts::Part;
 
@@ -90,5 +90,29 @@ pub fn node_roles(kind: usize) -> [Role; Part::FIELDS]
         NODE_ROWS[kind]
     } else {
         [Role::Unused; Part::FIELDS]
+    }
+}
+
+// The role of field f of an expression of this kind: one entry of the table, where a row by value is slower.
+pub fn expression_role(kind: usize, f: usize) -> Role
+    requires { f < 3 }
+    ensures { result ≡ role_in expression_rows kind f }
+{
+    if kind < EXPRESSION_KINDS {
+        EXPRESSION_ROWS[kind][f]
+    } else {
+        Role::Unused
+    }
+}
+
+// The role of field f of a node of this kind.
+pub fn node_role(kind: usize, f: usize) -> Role
+    requires { f < 3 }
+    ensures { result ≡ role_in node_rows kind f }
+{
+    if kind < NODE_KINDS {
+        NODE_ROWS[kind][f]
+    } else {
+        Role::Unused
     }
 }

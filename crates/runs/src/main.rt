@@ -29,8 +29,12 @@ fn call<W: Write>(
 ) -> io::Result<()>
     requires { (from ≤ end) × (end ≤ n) × (n ≤ 72) }
 {
-    let mut numbers = bytes.map(i32::from);
-    let words = bytes.map(u32::from);
+    let mut numbers = [0; CALL];
+    let mut words = [0; CALL];
+    for (i, byte) in bytes[..n].iter().enumerate() {
+        numbers[i] = i32::from(*byte);
+        words[i] = u32::from(*byte);
+    }
     let limit = u16::from_be_bytes([bytes[5], bytes[6]]);
     display::show_run(
         out,
