@@ -24,7 +24,7 @@ pub fn prepare<'a>(b: &[u8], s: &'a [u8]) -> Result<Prepared<'a>, Refusal>
 {
     let levels = lattice::load(b)?;
     let checked = script::load(s, levels.book.count)?;
-    let flow = flow::find_flow(&checked, &levels);
+    let flow = flow::find_flow(&checked, levels.book, levels.tables);
     if flow.failing < checked.file.layout.nodes {
         return Err(Refusal::at(11, flow.failing));
     }

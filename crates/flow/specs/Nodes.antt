@@ -1,13 +1,18 @@
 -- 01's list of W, T and the needs, by the number of a node's kind: what a node has, from what it brings itself and what
--- its children have.
+-- its children have. The operations are those of a lattice, or what is looked up in a book and in tables.
 -- proofs/ByKind.antt shows that this is `write_level`, `test_level` and `need`; no part of what is promised.
 use Rattle.std.specs.Prelude.{Bool, true, cond, ◌&&◌, ◌||◌, ℕ, ◌<◌, eqb}
 use Rattle.prelude.specs.Search.{lesser}
+use Rattle.book.specs.declared.Book.{Book}
+use Rattle.book.specs.LevelBook.{at_or_below}
+use Rattle.pairs.specs.declared.table.Tables.{Tables}
+use Rattle.pairs.specs.Table.{kept}
 use Rattle.lattice.specs.Lattice.{Lattice}
 use Rattle.language.specs.Syntax.{Names, Proc, nil, assign, let_in, if_then_else, while, sequence, emit, local, watching, when, parallel}
 use Rattle.language.specs.Levels.{exp_level}
 use Rattle.flow.specs.declared.nodes.Flow.{Flow}
 use Rattle.flow.specs.declared.nodes.Own.{Own}
+use Rattle.flow.specs.declared.nodes.Lookup.{Lookup}
 use Rattle.language.specs.Kinds as kind
 use Rattle.language.specs.KindGroups.{has_value, has_test, has_write}
 
@@ -38,6 +43,20 @@ pub record OwnWithin (n : ℕ) (own : Own) : Type 0 where
 pub record FlowWithin (n : ℕ) (f : Flow) : Type 0 where
   pub write : f.write < n
   pub test : f.test < n
+
+-- the operations that the rows of a book say and the tables keep; top and bottom, which nothing below reads, are 0
+abbrev pub operations : Book → Tables → Lattice ℕ
+operations b t =
+    record {
+      leq = at_or_below b.rows;
+      join = kept t.join;
+      meet = kept t.meet;
+      top = 0;
+      bottom = 0;
+    }
+
+abbrev pub looked_up : Lookup → Lattice ℕ
+looked_up l = operations l.book.now l.tables.now
 
 -- two children together: 'W meet, T join of both'
 abbrev pub both_from : Lattice ℕ → Flow → Flow → Flow
@@ -81,7 +100,12 @@ flow_from 𝓛 k n own parts pair =
       failing = cond (pair && own_need 𝓛 n own write test) parts.failing (lesser k parts.failing);
     }
 
--- and with two children
+-- a node with two children: what they have together indexes the tables, ..
+pub record PairWithin (n : ℕ) (𝓛 : Lattice ℕ) (k : ℕ) (own : Own) (first second : Flow) : Type 0 where
+  pub parts : FlowWithin n (both_from 𝓛 first second)
+  pub test : test_from 𝓛 k own (both_from 𝓛 first second) < n
+
+-- .. and what it has
 abbrev pub pair_from : Lattice ℕ → ℕ → ℕ → Own → Flow → Flow → Flow
 pair_from 𝓛 k n own first second =
     flow_from 𝓛 k n own (both_from 𝓛 first second) (pair_need 𝓛 n first second)

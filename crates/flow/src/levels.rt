@@ -20,14 +20,6 @@ pub struct LevelTables<'a> {
 }
 
 impl LevelTables<'_> {
-    // Level i is at or below level j.
-    pub fn at_or_below(&self, i: usize, j: usize) -> bool
-        requires { (i < self.now.book.count) × (j < self.now.book.count) }
-        ensures { result ≡ (lattice_by self.now.book).leq i j }
-    {
-        self.book.at_or_below(i, j)
-    }
-
     // The join of levels i and j.
     pub fn join(&self, i: usize, j: usize) -> usize
         requires { (i < self.now.book.count) × (j < self.now.book.count) }
@@ -35,14 +27,5 @@ impl LevelTables<'_> {
         ensures inside { result < self.now.book.count }
     {
         self.tables.join.level_at(i, j)
-    }
-
-    // Their meet.
-    pub fn meet(&self, i: usize, j: usize) -> usize
-        requires { (i < self.now.book.count) × (j < self.now.book.count) }
-        ensures same { result ≡ (lattice_by self.now.book).meet i j }
-        ensures inside { result < self.now.book.count }
-    {
-        self.tables.meet.level_at(i, j)
     }
 }

@@ -14,24 +14,25 @@ ghost use Rattle.flow.specs.Flow.{levels_of, Ordered, FlowOf};
 use crate::levelled::LevelledScript;
 use crate::levels::LevelTables;
 use crate::nodes::Flow;
-use lattice::CheckedBook;
+use book::Book;
+use pairs::table::Tables;
 use script::CheckedFile;
 
 // The write level and the test level of a checked script, whose levels the book has, and the smallest node whose need
 // fails, or the number of nodes if none does.
-pub fn find_flow(checked: &CheckedFile<'_>, levels: &CheckedBook) -> Flow
-    requires levelled { Levelled checked.now.file.bytes.now levels.now.book.count }
-    requires ordered { Ordered (levels_of levels.now.book) }
-    requires tables { KeepsAll levels.now.book levels.now.tables }
-    ensures { FlowOf (levels_of levels.now.book) checked.now.file.bytes.now result }
+pub fn find_flow(checked: &CheckedFile<'_>, book: Book, tables: Tables) -> Flow
+    requires levelled { Levelled checked.now.file.bytes.now book.count }
+    requires ordered { Ordered (levels_of book) }
+    requires tables { KeepsAll book tables }
+    ensures { FlowOf (levels_of book) checked.now.file.bytes.now result }
 {
     let script = LevelledScript {
         checked: *checked,
         levels: LevelTables {
-            book: levels.book,
-            tables: &levels.tables,
-            top: lattice::top_of(levels.book),
-            bottom: lattice::bottom_of(levels.book),
+            book,
+            tables: &tables,
+            top: lattice::top_of(book),
+            bottom: lattice::bottom_of(book),
         },
     };
     script.flow_at(checked.file.layout.nodes - 1)

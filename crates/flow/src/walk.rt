@@ -3,7 +3,7 @@ ghost use Rattle.std.specs.Prelude.{◌<◌};
 ghost use Rattle.flow.specs.Flow.{FlowAt};
 
 use crate::levelled::LevelledScript;
-use crate::nodes::{Flow, node_flow, pair_flow};
+use crate::nodes::{Flow, Lookup, node_flow, pair_flow};
 use fields::children::{Children, children_of};
 use language::process_kinds::ProcessKind;
 
@@ -13,7 +13,10 @@ impl LevelledScript<'_, '_> {
         requires { k < self.now.checked.file.layout.nodes }
         ensures { FlowAt self.now.levels.book self.now.checked.file.bytes.now k result }
     {
-        let levels = &self.levels;
+        let levels = Lookup {
+            book: &self.levels.book,
+            tables: self.levels.tables,
+        };
         let file = &self.checked.file;
         let p = file.part(file.layout.expressions + k);
         let kind = ProcessKind::from_number(p.kind);
@@ -21,20 +24,20 @@ impl LevelledScript<'_, '_> {
         match children_of(p) {
             Children::None => {
                 let none = Flow {
-                    write: levels.top,
-                    test: levels.bottom,
+                    write: self.levels.top,
+                    test: self.levels.bottom,
                     failing: file.layout.nodes,
                 };
-                node_flow(levels, k, kind, own, none, true)
+                node_flow(&levels, k, p.kind, own, none, true)
             }
             Children::One(i) => {
                 let part = self.flow_at(i);
-                node_flow(levels, k, kind, own, part, true)
+                node_flow(&levels, k, p.kind, own, part, true)
             }
             Children::Two(i, j) => {
                 let first = self.flow_at(i);
                 let second = self.flow_at(j);
-                pair_flow(levels, k, kind, own, first, second)
+                pair_flow(&levels, k, p.kind, own, first, second)
             }
         }
     }

@@ -1,4 +1,4 @@
--- `find_flow`: what the walk finds of the last node is what the whole script has.
+-- `find_flow`: the walk is handed the book's own top and bottom; what it finds of the last node is what the whole script has.
 use mathlib.Core.Path.{ap, subst}
 use mathlib.Core.List.{List}
 use Prim.Native.Nat.{ℕ, ◌-◌}
@@ -20,9 +20,18 @@ flow-of b s f ok a =
       failing = failing_first (lattice_by b) s ok f.failing a.failing;
     }
 
+pub invariant_of-script : goal.invariant_of-script
+invariant_of-script c =
+    record {
+      ordered = c.requires.ordered;
+      kept = c.requires.tables;
+      greatest = c.top_of.ensures;
+      least = c.bottom_of.ensures;
+    }
+
 pub returns : goal.returns
 returns c =
     let f = c.args.checked.now in
-    let b = c.args.levels.now.book in
+    let b = c.args.book in
     flow-of b f.file.bytes.now c.flow_at.result f.checked
     (subst (λ k. FlowAt b f.file.bytes.now k c.flow_at.result) (ap (λ n. n - 1) (nodes_are f.file.laid)) c.flow_at.ensures)
