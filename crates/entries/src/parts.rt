@@ -1,5 +1,5 @@
 // What is wrong with an expression or a node by itself: refusals 7 and 8.
-ghost use Rattle.std.specs.Prelude.{◌≡◌, not, ◌+◌, ◌<◌};
+ghost use Rattle.std.specs.Prelude.{◌≡◌, not, ◌+◌, ◌<◌, ◌≤◌};
 ghost use Rattle.prelude.specs.Search.{all};
 ghost use Rattle.prelude.specs.Promises.{found};
 ghost use Rattle.layout.specs.Layout.{expression_count, node_count};
@@ -44,13 +44,20 @@ fn field_is_right(file: &File<'_>, q: usize, f: usize) -> bool
     ensures { result ≡ field_is_right file.now.bytes.now q (field_of file.now.bytes.now q f) }
 {
     let field = field_at(file, q, f);
-    match field.role {
-        Role::Unused => field.value == 0,
-        Role::Half => true,
-        Role::Expression => field.value < file.layout.expressions && field.value < q,
-        Role::Child => file.layout.expressions + field.value < q,
-        _ => holds_name(file, q, field),
+    // One role after the other: a match over all of them is a jump, which is slower.
+    if field.role == Role::Unused {
+        return field.value == 0;
     }
+    if field.role == Role::Half {
+        return true;
+    }
+    if field.role == Role::Expression {
+        return field.value < file.layout.expressions && field.value < q;
+    }
+    if field.role == Role::Child {
+        return file.layout.expressions + field.value < q;
+    }
+    holds_name(file, q, field)
 }
 
 fn kinds_for(layout: Script, q: usize) -> usize
@@ -78,19 +85,24 @@ fn part_is_right(file: &File<'_>, q: usize) -> bool
     p.kind < kinds_for(file.layout, q) && p.zero == 0 && fields_are_right(file, q)
 }
 
+// Of the n parts from part `from` on, the smallest at fault by its number among them.
+pub fn first_wrong_part(file: &File<'_>, from: usize, n: usize) -> Option<usize>
+    requires { from + n ≤ file.now.layout.expressions + file.now.layout.nodes }
+    ensures { result ≡ found (λ k. not (part_is_right file.now.bytes.now (from + k))) n }
+{
+    first(n, |k| !part_is_right(file, from + k))
+}
+
 // The smallest expression at fault.
 pub fn first_wrong_expression(file: &File<'_>) -> Option<usize>
     ensures { result ≡ found (λ e. not (part_is_right file.now.bytes.now e)) (expression_count file.now.bytes.now) }
 {
-    first(file.layout.expressions, |e| !part_is_right(file, e))
+    first_wrong_part(file, 0, file.layout.expressions)
 }
 
 // The smallest node at fault.
 pub fn first_wrong_node(file: &File<'_>) -> Option<usize>
     ensures { result ≡ found (λ k. not (part_is_right file.now.bytes.now (node file.now.bytes.now k))) (node_count file.now.bytes.now) }
 {
-    first(
-        file.layout.nodes,
-        |k| !part_is_right(file, file.layout.expressions + k),
-    )
+    first_wrong_part(file, file.layout.expressions, file.layout.nodes)
 }
