@@ -11,7 +11,7 @@ use book::Book;
 use program::WORDS;
 use script::CheckedFile;
 
-// The whole program.
+// The whole program: the words of the names and of the expressions, then those of the nodes, then that of the counts.
 pub fn find_plan(checked: &CheckedFile<'_>, book: &Book, reader: usize) -> [usize; WORDS]
     requires { CanPlan checked.now.file.bytes.now book.now reader }
     ensures { ProgramOf checked.now.file.bytes.now (sees_in book.now checked.now.file.bytes.now reader) result }
@@ -22,7 +22,11 @@ pub fn find_plan(checked: &CheckedFile<'_>, book: &Book, reader: usize) -> [usiz
         book: *book,
         reader,
     };
-    let mut words = reading.nodes();
+    let sizes = tree::sizes::find_sizes(checked);
+    let mut words = reading.expressions();
+    for k in 0..layout.nodes {
+        words[program::NODES + k] = reading.node_word(&sizes, &words, k);
+    }
     words[0] = packing::pack_counts(layout.names, layout.expressions, layout.nodes);
     words
 }

@@ -50,10 +50,13 @@ fn node_fields(sizes: &[u16; Script::MAX_NODES], p: Part, children: Children) ->
 }
 
 impl Reading<'_> {
-    ghost use Rattle.plan.specs.Readings.{Filled};
-
     // The word of node k; the words of the nodes before it stand.
-    fn node_word(&self, sizes: &[u16; Script::MAX_NODES], words: &[usize; WORDS], k: usize) -> usize
+    pub fn node_word(
+        &self,
+        sizes: &[u16; Script::MAX_NODES],
+        words: &[usize; WORDS],
+        k: usize,
+    ) -> usize
         requires sized { KeepsSizes self.now.checked.file.bytes.now self.now.checked.file.layout.nodes sizes.now }
         requires before { KeepsNodes self.now.checked.file.bytes.now k words.now }
         requires known { k < self.now.checked.file.layout.nodes }
@@ -68,17 +71,5 @@ impl Reading<'_> {
             node_fields(sizes, p, children),
             packing::mark(p.kind, watches),
         )
-    }
-
-    // And those of the nodes.
-    pub fn nodes(&self) -> [usize; WORDS]
-        ensures { Filled self.now self.now.checked.file.layout.names self.now.checked.file.layout.expressions self.now.checked.file.layout.nodes result }
-    {
-        let sizes = tree::sizes::find_sizes(&self.checked);
-        let mut words = self.expressions();
-        for k in 0..self.checked.file.layout.nodes {
-            words[program::NODES + k] = self.node_word(&sizes, &words, k);
-        }
-        words
     }
 }
