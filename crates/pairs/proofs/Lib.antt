@@ -1,5 +1,6 @@
 -- Laws that the proofs of several functions use.
 pub mod Orders
+pub mod Squares
 pub mod Rows
 pub mod Lacks
 pub mod Numbers

@@ -57,6 +57,11 @@ module _ (n : ℕ) where
   unfolding pair_number
   last_row = omega (arith, all_pairs)
 
+  -- no level's pairs begin past the last pair
+  pub row_within : (i : ℕ) → i ≤ n → pair_number n i (i + 1) ≤ level_pairs n
+  unfolding pair_number
+  row_within i h = omega (arith, all_pairs, total_longer (row n) i n h)
+
   pub earlier_row : (a b i j : ℕ) → a < b → b < n → a < i → pair_number n a b < pair_number n i j
   unfolding pair_number
   earlier_row a b i j h l u = omega (arith, total_more (row n) a, total_longer (row n) (suc a) i u)

@@ -10,6 +10,7 @@ use native.Mathlib.Decide.{ℕ_discrete, dec_lt}
 use native.Mathlib.Omega.{arith}
 use lib.Dec.{ltb}
 use borrow.Author.Tests.{lt-ltb, ltb-true, ne_eqb, not-true}
+use Rattle.prelude.specs.Search.{lesser}
 use Rattle.prelude.proofs.Bools.{fails, and_intro, and_left, and_right, same_truth}
 use Rattle.prelude.proofs.Searches.{first_is, lesser_left, lesser_right}
 use Rattle.order.specs.Order.{Relation, converse, least_upper, greatest_lower}
@@ -22,7 +23,7 @@ use Rattle.pairs.specs.Promises.{BothLevels, is_taken, Upto, SweptLevel}
 use Rattle.pairs.specs.Sweeping.{level_pairs, pair_number, lacks_one, refused_number, is_refused, taken_up, place_within, is_found, Sweeps}
 use Rattle.pairs.proofs.Orders.{least_swap}
 use Rattle.pairs.proofs.Lacks.{quotient, remainder, Lacking, lacking_pair, refused_pair, lacks_at}
-use Rattle.pairs.proofs.Numbers.{earlier_row, earlier_here, number_within, one_number}
+use Rattle.pairs.proofs.Numbers.{earlier_row, earlier_here, number_within, one_number, before_both}
 use Rattle.pairs.proofs.Fills.{taken_order, taken_within, taken_number, is_taken_lem, none_taken, filled_none, filled_next}
 
 pub start : (R : Relation) (n : ℕ) (t : Tables) → Upto R n 0 t t
@@ -177,6 +178,10 @@ module _ (R : Relation) (n : ℕ) (few : n ≤ most_levels) where
               | yes z ↦ let o = one_number n a b i j u v h l (z ∙ e) in absurd (true≢false (sym lacks ∙ rw (o.0, o.1) at y))
               | no z ↦ omega arith
             ]))
+
+    -- the sweep has taken up the first k pairs, or all if there are fewer, and none of them lacks a level
+    pub ended : (k : ℕ) → m ≡ lesser k (level_pairs n) → (r : Swept) → r.taken ≡ m → r.place ≡ None → Sweeps R n k t t' r
+    ended k all = let h = before_both k (level_pairs n) m all in ends k h.0 h.1.0 h.1.1
 
 -- where the pairs of a level ended at one that lacks a level
 pub stopped :

@@ -1,8 +1,7 @@
 -- What the functions of a sweep answer and keep: no part of what is promised.
-use Rattle.std.specs.Prelude.{◌≡◌, Bool, true, false, cond, ◌&&◌, ◌||◌, List, ℕ, ◌+◌, ◌<◌, ltb, ⊤, Option, Some, None, Result, Ok, Err, MatchOption}
+use Rattle.std.specs.Prelude.{◌≡◌, Bool, true, false, cond, ◌&&◌, ◌||◌, List, ℕ, ◌+◌, ◌<◌, ltb, Option, Some, None, MatchOption}
 use Rattle.prelude.specs.Search.{lesser}
 use Rattle.prelude.specs.declared.Refusal.{Refusal}
-use Rattle.prelude.specs.Refusals.{refused_by}
 use Rattle.order.specs.Order.{Relation, least_upper, greatest_lower}
 use Rattle.order.specs.Rows.{order_of}
 use Rattle.book.specs.declared.Book.{Book}
@@ -71,8 +70,3 @@ pub record KeepsAll (b : Book) (t : Tables) : Type 0 where
 -- row 3, of a book
 abbrev pub pair_refusal : Book → Refusal
 pair_refusal b = lack_refusal (first_lacking (order_of b) b.count)
-
--- what is answered of the place of the first pair that lacks a level
-abbrev pub lack_outcome : Option ℕ → Result ⊤ Refusal
-lack_outcome (Some place) = Err (refused_by 3 place)
-lack_outcome None = Ok tt

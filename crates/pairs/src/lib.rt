@@ -5,9 +5,10 @@ pub mod table; // table.rt: a level for each pair of levels
 mod sides; // sides.rt: both levels of a pair
 
 ghost use Rattle.std.specs.Prelude.{◌≡◌, ◌+◌, ◌<◌};
-ghost use Rattle.prelude.specs.Promises.{Answers};
+ghost use Rattle.prelude.specs.Promises.{Answers, outcome};
 ghost use Rattle.order.specs.Rows.{order_of};
-ghost use Rattle.pairs.specs.Promises.{taken_before, lack_outcome, SweepsLevel, KeepsAll, pair_refusal};
+ghost use Rattle.pairs.specs.Promises.{taken_before, SweepsLevel, KeepsAll, pair_refusal};
+ghost use Rattle.pairs.specs.Refusals.{lack_refusal, place_or_end};
 ghost use Rattle.pairs.specs.Sweeping.{Sweeps};
 
 use crate::sides::Sides;
@@ -23,14 +24,14 @@ pub struct Swept {
     pub place: Option<u32>,
 }
 
-// Refusal 3, of the place of the first pair that lacks a level.
+// Refusal 3, of the place of the first pair that lacks a level: none from PLACES on, where no pair stands.
 pub fn lack_refusal(place: Option<u32>) -> Result<(), Refusal>
-    ensures { result ≡ lack_outcome place }
+    ensures { result ≡ outcome (lack_refusal (place_or_end place)) tt }
 {
-    if let Some(place) = place {
-        return Err(Refusal { number: 3, place });
+    match place {
+        Some(place) if (place as usize) < Book::PLACES => Err(Refusal { number: 3, place }),
+        _ => Ok(()),
     }
-    Ok(())
 }
 
 // Takes up the pairs of level i with the levels behind it, when `taken` of the first `most` pairs are taken up.
@@ -67,6 +68,9 @@ pub fn sweep(levels: &OrderedBook, most: usize, tables: &mut Tables) -> Swept
         place: None,
     };
     'pairs: for i in 0..levels.book.count {
+        if most <= swept.taken {
+            break 'pairs;
+        }
         swept = sweep_level(&both, i, most, swept.taken, tables);
         if swept.place.is_some() {
             break 'pairs;

@@ -50,6 +50,7 @@ impl Sides {
 
     // Of two levels in order the upper one is the join and the lower one the meet; only for two that stand side by side is there
     // a search.
+    #[tactic(auto, using(crate::proofs::Bounds::searched, crate::proofs::Bounds::no_upper, crate::proofs::Bounds::no_lower))]
     pub fn bounds(&self, i: usize, j: usize) -> Option<Bounds>
         requires { (i < self.now.up.book.count) × (j < self.now.up.book.count) }
         ensures { MatchOption result (LacksOne self.now.up.book i j) (λ b. HasBoth self.now.up.book i j b.upper b.lower) }

@@ -1,15 +1,15 @@
 // A table of the pairs of levels.
-ghost use Rattle.std.specs.Prelude.{◌≡◌, ◌<◌};
+ghost use Rattle.std.specs.Prelude.{◌≡◌, ◌<◌, length};
 ghost use Rattle.book.specs.LevelBook.{most_levels};
 ghost use Rattle.pairs.specs.Table.{kept, Keeps, new_level, stored, Stores};
 
 use book::Book;
 use std::marker::Model;
 
-// A level for each pair of levels.
+// A level for each pair of levels, at each of its two entries: any array.
 #[derive(Clone, Copy)]
 pub struct PairTable {
-    levels: [[u8; Book::MAX_LEVELS]; Book::MAX_LEVELS],
+    pub levels: [[u8; Book::MAX_LEVELS]; Book::MAX_LEVELS],
 }
 
 impl Model for PairTable {
@@ -27,6 +27,19 @@ impl Model for PairTable {
 }
 
 impl PairTable {
+    // The table that an array is. It is gone over by rows, since the length of a row is known where the row is handed on alone.
+    pub fn of(levels: [[u8; Book::MAX_LEVELS]; Book::MAX_LEVELS]) -> PairTable
+        ensures { result ≡ levels }
+    {
+        PairTable {
+            levels: levels.map(
+                |row|
+                    ensures { (result ≡ row) × (length row ≡ most_levels) }
+                { row },
+            ),
+        }
+    }
+
     // The same level for every pair.
     pub fn filled(level: u8) -> PairTable
         ensures { Keeps result most_levels (λ _ _. level) }

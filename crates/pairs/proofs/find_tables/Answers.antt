@@ -1,10 +1,11 @@
 -- `find_tables`: a sweep over all pairs (`Pairs`).
-use Rattle.std.proofs.Common.{sym, ◌∙◌}
+use Rattle.std.proofs.Common.{sym, ◌∙◌, arith}
+use Rattle.pairs.proofs.Numbers.{pairs_fit}
 use Rattle.pairs.proofs.Pairs.{keeps_all}
 use Rattle.pairs.proofs.find_tables.Goals as goal
 
 pub returns : goal.returns
 returns c =
     let l = c.args.levels.now in
-    keeps_all l.book l.in_order _ _ c.sweep-swept.result c.sweep-swept.ensures c.new-tables.ensures.joins c.new-tables.ensures.meets
-    (sym c.lack_refusal.ensures ∙ c.in_ok-lack_refusal.was)
+    keeps_all l.book _ l.in_order (omega (arith, pairs_fit l.book.count l.in_order.few)) _ _ c.sweep-swept.result c.new-tables.ensures.joins
+    c.new-tables.ensures.meets c.sweep-swept.ensures (sym c.lack_refusal.ensures ∙ c.in_ok-lack_refusal.was)
