@@ -3,6 +3,8 @@
 
 mod file_values; // file_values.rt: the values that a file holds
 
+ghost use Rattle.std.specs.Prelude.{◌≤◌, length, IfOk};
+
 use layout::Script;
 use std::fs::File;
 use std::io;
@@ -13,7 +15,9 @@ use std::rt::Files;
 const SIZE: usize = 65536;
 
 // The first bytes of a file, as many as there is room for; none of a file that cannot be opened.
-fn load<'a, R: Files>(rt: &R, path: &str, room: &'a mut [u8; SIZE]) -> io::Result<&'a [u8]> {
+fn load<'a, R: Files>(rt: &R, path: &str, room: &'a mut [u8; SIZE]) -> io::Result<&'a [u8]>
+    ensures { IfOk result (λ s. length s.now ≤ 65536) }
+{
     let n = match File::open(rt, path) {
         Ok(mut file) => text::input::read_full(&mut file, room)?,
         Err(_) => 0,
