@@ -85,7 +85,7 @@ fn part_is_right(file: &File<'_>, q: usize) -> bool
     p.kind < kinds_for(file.layout, q) && p.zero == 0 && fields_are_right(file, q)
 }
 
-// Of the n parts from part `from` on, the smallest at fault by its number among them.
+// Of the n parts from part `from` on, the smallest at fault, by its number among these n.
 pub fn first_wrong_part(file: &File<'_>, from: usize, n: usize) -> Option<usize>
     requires { from + n ≤ file.now.layout.expressions + file.now.layout.nodes }
     ensures { result ≡ found (λ k. not (part_is_right file.now.bytes.now (from + k))) n }

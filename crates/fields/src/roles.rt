@@ -111,7 +111,7 @@ pub fn node_roles(kind: usize) -> [Role; Part::FIELDS]
 }
 
 // Field f of a row: each by its own index, since one that varies would keep the row in memory.
-fn role_in(row: [Role; Part::FIELDS], f: usize) -> Role
+fn role_at(row: [Role; Part::FIELDS], f: usize) -> Role
     requires { f < 3 }
     ensures { result ≡ get_or row f Unused }
 {
@@ -127,7 +127,7 @@ pub fn expression_role(kind: usize, f: usize) -> Role
     requires { f < 3 }
     ensures { result ≡ role_in expression_rows kind f }
 {
-    role_in(expression_roles(kind), f)
+    role_at(expression_roles(kind), f)
 }
 
 // The role of field f of a node of this kind.
@@ -135,5 +135,5 @@ pub fn node_role(kind: usize, f: usize) -> Role
     requires { f < 3 }
     ensures { result ≡ role_in node_rows kind f }
 {
-    role_in(node_roles(kind), f)
+    role_at(node_roles(kind), f)
 }

@@ -7,7 +7,8 @@ use book::Book;
 use language::process_kinds;
 use pairs::table::Tables;
 
-// Where levels are looked up: the rows of a book, and tables of joins and of meets. They may be any, of no lattice.
+// Where levels are looked up: the rows of a book, and tables of joins and of meets. Any will do: they
+// need not be a lattice's.
 #[derive(Clone, Copy)]
 pub struct Lookup<'a> {
     pub book: &'a Book,

@@ -25,6 +25,7 @@ pub const WHEN: usize = 9;
 
 pub const PARALLEL: usize = 10;
 
+// The kind is one of these two.
 pub fn is_either(kind: usize, one: usize, other: usize) -> bool
     ensures { result ≡ (eqb kind one || eqb kind other) }
 {

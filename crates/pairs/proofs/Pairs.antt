@@ -20,8 +20,8 @@ use Rattle.order.proofs.Duals.{dual}
 use Rattle.book.specs.LevelBook.{most_levels, at_or_below}
 use Rattle.pairs.specs.declared.Swept.{Swept}
 use Rattle.pairs.specs.declared.table.Tables.{Tables}
-use Rattle.pairs.specs.Promises.{KeepsAll, pair_refusal}
-use Rattle.pairs.specs.Refusals.{first_lacking, lack_refusal, place_or_end}
+use Rattle.pairs.specs.Promises.{KeepsAll, pair_refusal, place_or_end}
+use Rattle.pairs.specs.Refusals.{first_lacking, lack_refusal}
 use Rattle.pairs.specs.Table.{kept, Keeps, new_level}
 use Rattle.pairs.specs.Sweeping.{level_pairs, pair_number, lacks_one, refused_number, taken_up, place_within, is_found, kept_after, Sweeps}
 use Rattle.pairs.proofs.Orders.{least_above}

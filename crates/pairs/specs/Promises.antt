@@ -1,10 +1,12 @@
 -- What the functions of a sweep answer and keep: no part of what is promised.
-use Rattle.std.specs.Prelude.{◌≡◌, Bool, true, false, cond, ◌&&◌, ◌||◌, List, ℕ, ◌+◌, ◌<◌, ltb, Option, Some, None, MatchOption}
+use Rattle.std.specs.Prelude.{◌≡◌, Bool, true, false, cond, ◌&&◌, ◌||◌, List, ℕ, ◌+◌, ◌*◌, ◌<◌, ltb, Option, Some, None, MatchOption}
+use Rattle.std.specs.Option.{unwrap_or}
 use Rattle.prelude.specs.Search.{lesser}
 use Rattle.prelude.specs.declared.Refusal.{Refusal}
 use Rattle.order.specs.Order.{Relation, least_upper, greatest_lower}
 use Rattle.order.specs.Rows.{order_of}
 use Rattle.book.specs.declared.Book.{Book}
+use Rattle.book.specs.LevelBook.{most_levels}
 use Rattle.pairs.specs.declared.Swept.{Swept}
 use Rattle.pairs.specs.declared.table.Tables.{Tables}
 use Rattle.pairs.specs.Refusals.{first_lacking, lack_refusal}
@@ -70,3 +72,7 @@ pub record KeepsAll (b : Book) (t : Tables) : Type 0 where
 -- row 3, of a book
 abbrev pub pair_refusal : Book → Refusal
 pair_refusal b = lack_refusal (first_lacking (order_of b) b.count)
+
+-- the place that a sweep gives, or 256 where it gives none
+abbrev pub place_or_end : Option ℕ → ℕ
+place_or_end place = unwrap_or place (most_levels * most_levels)

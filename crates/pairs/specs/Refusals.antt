@@ -1,6 +1,5 @@
 -- 01, the table of refusals, row 3.
-use Rattle.std.specs.Prelude.{Bool, cond, ◌&&◌, ◌||◌, ℕ, ◌*◌, ◌/◌, ◌%◌, eqb, ltb, Option}
-use Rattle.std.specs.Option.{unwrap_or}
+use Rattle.std.specs.Prelude.{Bool, cond, ◌&&◌, ◌||◌, ℕ, ◌*◌, ◌/◌, ◌%◌, eqb, ltb}
 use Rattle.prelude.specs.declared.Refusal.{Refusal}
 use Rattle.prelude.specs.Refusals.{refused_by, not_refused}
 use Rattle.prelude.specs.Search.{first}
@@ -22,7 +21,3 @@ first_lacking R n = first (λ p. lacks_upper R n p || lacks_upper (converse R) n
 -- row 3, of what is found at this place
 abbrev pub lack_refusal : ℕ → Refusal
 lack_refusal place = cond (ltb place (most_levels * most_levels)) (refused_by 3 place) not_refused
-
--- the place that a sweep gives, or 256 where it gives none
-abbrev pub place_or_end : Option ℕ → ℕ
-place_or_end place = unwrap_or place (most_levels * most_levels)

@@ -7,8 +7,8 @@ mod sides; // sides.rt: both levels of a pair
 ghost use Rattle.std.specs.Prelude.{◌≡◌, ◌+◌, ◌<◌};
 ghost use Rattle.prelude.specs.Promises.{Answers, outcome};
 ghost use Rattle.order.specs.Rows.{order_of};
-ghost use Rattle.pairs.specs.Promises.{taken_before, SweepsLevel, KeepsAll, pair_refusal};
-ghost use Rattle.pairs.specs.Refusals.{lack_refusal, place_or_end};
+ghost use Rattle.pairs.specs.Promises.{taken_before, SweepsLevel, KeepsAll, pair_refusal, place_or_end};
+ghost use Rattle.pairs.specs.Refusals.{lack_refusal};
 ghost use Rattle.pairs.specs.Sweeping.{Sweeps};
 
 use crate::sides::Sides;

@@ -27,7 +27,7 @@ impl Model for PairTable {
 }
 
 impl PairTable {
-    // The table that an array is. It is gone over by rows, since the length of a row is known where the row is handed on alone.
+    // The table of this array. It is gone over by rows, since the length of a row is known where the row is handed on alone.
     pub fn of(levels: [[u8; Book::MAX_LEVELS]; Book::MAX_LEVELS]) -> PairTable
         ensures { result ≡ levels }
     {

@@ -6,8 +6,7 @@ ghost use Rattle.plan.specs.Plan.{Below, watches_by, field_b, fields_by, NodePac
 
 use crate::reading::Reading;
 use fields::children::{Children, children_of};
-use language::process_kinds;
-use language::process_kinds::ProcessKind;
+use language::process_kinds::{self, ProcessKind};
 use layout::Script;
 use layout::parts::Part;
 use program::{WORDS, watches_at};
@@ -37,7 +36,7 @@ fn field_b(p: Part, second: usize) -> usize
     second
 }
 
-// Field a; field b; the first child and its size. A child that a node has not is no matter: it is 0.
+// Field a; field b; the first child and its size. A node without a first child has 0 there, and the size of node 0.
 fn node_fields(sizes: &[u16; Script::MAX_NODES], p: Part, children: Children) -> usize
     requires { Below children }
     ensures { result ≡ fields_by sizes.now p children }
