@@ -86,6 +86,9 @@ pub fn find_tables(levels: &OrderedBook) -> Result<Tables, Refusal>
     let mut tables = Tables::new();
     // All pairs: there are no more of them than places.
     let swept = sweep(levels, Book::PLACES, &mut tables);
-    lack_refusal(swept.place)?;
-    Ok(tables)
+    // By `?` the tables are moved once more.
+    match lack_refusal(swept.place) {
+        Ok(()) => Ok(tables),
+        Err(refusal) => Err(refusal),
+    }
 }
