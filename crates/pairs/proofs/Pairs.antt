@@ -2,7 +2,7 @@
 use mathlib.Core.Path.{◌≡◌, refl, sym, ap, ◌∙◌, subst}
 use mathlib.Core.Bool.{true, false, not, or-true, true≢false}
 use mathlib.Core.List.{List}
-use Rattle.std.proofs.Common.{Ok}
+use Rattle.std.proofs.Common.{None, Ok}
 use Rattle.std.specs.Prelude.{⊤}
 use Prim.Native.Nat.{ℕ, ◌+◌, ◌*◌, ◌≤◌, ◌<◌}
 use native.Mathlib.Decide.{dec_lt}
@@ -47,6 +47,10 @@ module _ (R : Relation) (n k : ℕ) (few : n ≤ most_levels) (enough : level_pa
             )
         | no l ↦ rw (le-ltb (first_lacking R n) (most_levels * most_levels) (omega arith)) (omega (arith, within_places R n))
       ]
+
+  -- where there is none, no pair lacks a level
+  pub none_lacks : place_within R n k ≡ None → first_lacking R n ≡ most_levels * most_levels
+  none_lacks e = sym any_place ∙ ap place_or_end e
 
   module _ (none : first_lacking R n ≡ most_levels * most_levels) where
     all_taken : taken_up R n k ≡ level_pairs n
