@@ -48,7 +48,7 @@ module _ (R : Relation) (n k : ℕ) (few : n ≤ most_levels) (enough : level_pa
         | no l ↦ rw (le-ltb (first_lacking R n) (most_levels * most_levels) (omega arith)) (omega (arith, within_places R n))
       ]
 
-  -- where there is none, no pair lacks a level
+  -- where a sweep of all pairs gives no place, no pair lacks a level
   pub none_lacks : place_within R n k ≡ None → first_lacking R n ≡ most_levels * most_levels
   none_lacks e = sym any_place ∙ ap place_or_end e
 

@@ -86,7 +86,7 @@ pub fn find_tables(levels: &OrderedBook) -> Result<Tables, Refusal>
     let mut tables = Tables::new();
     // All pairs: there are no more of them than places.
     let swept = sweep(levels, Book::PLACES, &mut tables);
-    // By `?` the tables are moved once more.
+    // Behind `?` each function that hands the tables on would move them in small parts.
     match lack_refusal(swept.place) {
         Ok(()) => Ok(tables),
         Err(refusal) => Err(refusal),
